@@ -1,0 +1,4 @@
+pub mod Ring
+pub mod Floor
+pub mod LaneLaws
+pub mod NameLaws

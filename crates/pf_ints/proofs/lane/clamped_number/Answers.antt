@@ -1,0 +1,7 @@
+use Rattle.std.proofs.Common.{rules}
+use Rattle.pf_ints.specs.Lanes.{clamped}
+use Rattle.pf_ints.proofs.lane.clamped_number.Goals as goal
+
+pub returns : goal.returns
+unfolding clamped
+returns c = search rules
