@@ -3,3 +3,4 @@ pub mod Lanes
 pub mod Names
 pub mod Images
 pub mod Targets
+pub mod Words

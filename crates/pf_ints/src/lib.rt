@@ -6,6 +6,7 @@ mod lane;
 mod name;
 mod sequence;
 mod target;
+mod word;
 
 pub use image::{Image, ImageSet, MOST_PIXELS, MOST_SIDE};
 pub use lane::{Bits, LaneType, sat, wrap};
@@ -16,3 +17,4 @@ pub use sequence::{
 /// Want of memory.
 pub use std::alloc::AllocError as Memory;
 pub use target::Target;
+pub use word::{is_call_word, is_digit, is_name, is_name_byte, is_pair_word, is_type_word};
