@@ -1,0 +1,16 @@
+//! Terms over the lanes of images: operators with their types, weights and values, and the texts of terms.
+#![tactic(auto)]
+
+mod fault;
+mod kernel;
+mod names;
+mod op;
+mod row;
+mod term;
+
+pub use fault::TermFault;
+pub use kernel::{Definition, Definitions, ImageDecl, ImageList};
+pub use names::{DefName, DefNames, ImageName, ImageNames, Names, Tap, TapList};
+pub use op::Op;
+pub use row::{Amounts, Gives, Operands};
+pub use term::{Env, Leaf, Term, Terms};
