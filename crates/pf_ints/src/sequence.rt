@@ -1,4 +1,4 @@
-ghost use Rattle.std.specs.Prelude.{◌≡◌, [], ◌∷◌, ◌++◌, ◌+◌, ◌<◌, ◌≤◌, length, take, drop, slice_get, slice_set, IfOk, OnOk, OnErr, OnSome, IsTrue, ◌↔◌};
+ghost use Rattle.std.specs.Prelude.{◌≡◌, [], ◌∷◌, ◌++◌, ◌+◌, ◌<◌, ◌≤◌, length, take, drop, slice_get, slice_set, slice_index_or, IfOk, OnOk, OnErr, OnSome, IsTrue, ◌↔◌};
 ghost use Rattle.std.specs.Option.{option_copied};
 
 use crate::name::Name;
@@ -118,6 +118,36 @@ impl<T: Copy> Sequence<T> {
         ensures { self.new ≡ take n self.old ++ (items.now ++ drop (n + length items.now) self.old) }
     {
         self.items.as_mut_slice()[n..n + items.len()].copy_from_slice(items);
+    }
+}
+
+impl<T: Copy> Sequence<Sequence<T>> {
+    /// Writes the items over the whole of list n, which has as many.
+    pub fn overwrite_item(&mut self, n: usize, items: &[T])
+        requires within { n < length self.old }
+        requires alike { length items.now ≡ length (slice_index_or self.old n []) }
+        ensures { self.new ≡ slice_set self.old n items.now }
+    {
+        let item = &mut self.items[n];
+        item.overwrite(0, items);
+    }
+}
+
+impl<T> Sequence<T> {
+    /// Item n.
+    pub fn at(&self, n: usize) -> &T
+        requires { n < length self.now }
+        ensures { slice_get self.now n ≡ Some result.now }
+    {
+        &self.items[n]
+    }
+
+    /// The items as a vector, in order.
+    pub fn into_vec(self) -> Vec<T>
+        ensures { result.items ≡ self }
+    {
+        let Sequence { items } = self;
+        items
     }
 }
 

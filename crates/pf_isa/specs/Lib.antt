@@ -1,0 +1,9 @@
+pub mod Bytes
+pub mod Files
+pub mod Lines
+pub mod Control
+pub mod Tables
+pub mod Memory
+pub mod Steps
+pub mod Heads
+pub mod Programs

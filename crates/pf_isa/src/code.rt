@@ -1,0 +1,24 @@
+use crate::control::Ctl;
+use crate::isa::Isa;
+use pf_ints::{Name, Sequence};
+
+/// An instruction of a program.
+#[derive(Drop)]
+pub enum Line<I: Isa> {
+    Vector(I::Op),
+    Control(Ctl),
+}
+
+/// The instructions of a program, in order.
+pub type Code<I> = Sequence<Line<I>>;
+
+/// A place in code that a jump may name.
+#[derive(Clone, Copy, Debug, PartialEq, Eq)]
+pub struct Label {
+    pub name: Name,
+    /// How many instructions stand before it.
+    pub before: u64,
+}
+
+/// The labels of a program, in the order of the text.
+pub type LabelList = Sequence<Label>;

@@ -1,0 +1,20 @@
+//! Instruction sets, control instructions, programs and their texts, and the machine that they mean.
+#![tactic(auto)]
+
+mod access;
+mod block;
+mod code;
+mod control;
+mod isa;
+mod memory;
+mod program;
+mod registers;
+
+pub use access::Access;
+pub use block::{Block, Item, ItemList};
+pub use code::{Code, Label, LabelList, Line};
+pub use control::{Control, Ctl, role};
+pub use isa::Isa;
+pub use memory::{Region, RegionList};
+pub use program::{Head, Program};
+pub use registers::{Reg, RegFile, RegList, VectorList};

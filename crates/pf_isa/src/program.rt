@@ -1,0 +1,73 @@
+ghost use Rattle.std.specs.Prelude.{◌≡◌};
+ghost use Rattle.pf_isa.specs.Programs.{IsProgram};
+
+use crate::code::{Code, LabelList};
+use crate::isa::Isa;
+use pf_ints::LaneType;
+use pf_terms::{Definitions, ImageList, TapList};
+use std::marker::Model;
+
+/// What a text says before its code.
+#[derive(Debug, Drop)]
+pub struct Head {
+    pub images: ImageList,
+    pub taps: TapList,
+    /// The type of the output's pixels.
+    pub out_ty: LaneType,
+    /// Bytes of scratch memory.
+    pub scratch: u32,
+    /// The lifted terms, of which the last is the output's and is named `out`.
+    pub lifted: Definitions,
+    /// The cost of the lifted terms.
+    pub cost: u64,
+}
+
+/// A program for the machine of a set of instructions.
+#[derive(Drop)]
+pub struct Program<I: Isa> {
+    head: Head,
+    code: Code<I>,
+    labels: LabelList,
+}
+
+impl<I: Isa> Model for Program<I> {
+    ghost use Rattle.pf_isa.specs.Programs.{Text, IsProgram};
+    ghost use Rattle.pf_terms.specs.contracts.term.Term as term;
+    ghost use Rattle.std.specs.Coded.{codes};
+
+    ghost Value = { Text I I.Op };
+
+    ghost coded = { Prim.hlevel (codes, term.the_row.coded) };
+
+    ghost view = { λ p. record { head = p.head; code = p.code; labels = p.labels } };
+
+    ghost invariant = { λ p. IsProgram I.table (record { head = p.head; code = p.code; labels = p.labels }) };
+}
+
+impl<I: Isa> Program<I> {
+    pub fn new(head: Head, code: Code<I>, labels: LabelList) -> Program<I>
+        requires { IsProgram I.table (record { head = head; code = code; labels = labels }) }
+        ensures { result ≡ record { head = head; code = code; labels = labels } }
+    {
+        Program { head, code, labels }
+    }
+
+    pub fn head(&self) -> &Head
+        ensures value { result.now ≡ self.now.head }
+        ensures kept { IsProgram I.table self.now }
+    {
+        &self.head
+    }
+
+    pub fn code(&self) -> &Code<I>
+        ensures { result.now ≡ self.now.code }
+    {
+        &self.code
+    }
+
+    pub fn labels(&self) -> &LabelList
+        ensures { result.now ≡ self.now.labels }
+    {
+        &self.labels
+    }
+}
