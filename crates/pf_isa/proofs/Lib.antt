@@ -1,0 +1,5 @@
+pub mod ByteLaws
+pub mod MemoryLaws
+pub mod StepLaws
+pub mod RowLaws
+pub mod TextLaws

@@ -7,3 +7,7 @@ pub mod Memory
 pub mod Steps
 pub mod Heads
 pub mod Programs
+pub mod Texts
+pub mod Blocks
+pub mod Runs
+pub mod Moved

@@ -1,0 +1,1 @@
+-- Numbers and lanes as bytes, there and back.
