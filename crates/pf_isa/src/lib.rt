@@ -9,6 +9,7 @@ mod isa;
 mod memory;
 mod program;
 mod registers;
+mod write;
 
 pub use access::Access;
 pub use block::{Block, Item, ItemList};
@@ -18,3 +19,4 @@ pub use isa::Isa;
 pub use memory::{Region, RegionList};
 pub use program::{Head, Program};
 pub use registers::{Reg, RegFile, RegList, VectorList};
+pub use write::push_number;
