@@ -1,6 +1,7 @@
 -- Numbers and lanes as bytes, there and back.
 use Rattle.std.proofs.Common.{◌≡◌, ℕ, zero, suc, ◌+◌, ◌*◌, ◌/◌, ◌%◌, ◌^◌, ◌<◌, List, [], ◌∷◌, ◌++◌, length, take, drop, get_or, min, All, refl, sym, ap, arith, length-append, length-drop, take-append-drop}
-use Rattle.std.proofs.Math.Nat.{pow-suc}
+use Rattle.std.proofs.Math.Nat.{pow-suc, mod-eq_of_lt, one-le-pow}
+use Rattle.std.proofs.Math.Arith.{mod-mul}
 use Rattle.std.proofs.Math.Seq.{take-add}
 use Rattle.std.proofs.lemmas.List.{take_at, drop_at, drop-drop, drop_more, length-take-le, nil_from_length, take_all, drop_all}
 use Rattle.std.proofs.lemmas.List.Concat.{flat_map-append}
@@ -42,6 +43,30 @@ bytes-number (suc count) (b ∷ bs) long small =
     rw (low, high, rest) refl
 bytes-number zero (b ∷ bs) long small = absurd (omega arith)
 bytes-number (suc count) [] long small = absurd (omega arith)
+
+-- what fits into fewer bytes is the number's rest
+pub number-bytes_rest : (count n : ℕ) → number (bytes count n) ≡ n % 256 ^ count
+number-bytes_rest zero n =
+    let none : n % 1 ≡ 0 = omega arith in
+    sym none
+number-bytes_rest (suc count) n =
+    let some : 0 < 256 ^ count = one-le-pow count 256 (omega arith) in
+    let split : n % (256 ^ count * 256) ≡ (n / 256 % 256 ^ count) * 256 + n % 256 = mod-mul n some (omega arith) in
+    let rest : number (bytes count (n / 256)) ≡ n / 256 % 256 ^ count = number-bytes_rest count (n / 256) in
+    rw (pow-suc, split, rest) (omega arith)
+
+-- the lowest bytes are those of the rest, and the first of more
+pub bytes-mod : (count n : ℕ) → bytes count (n % 256 ^ count) ≡ bytes count n
+bytes-mod count n = rw (← number-bytes_rest) (bytes-number count (bytes count n) (length-bytes count n) (bytes_below count n))
+
+pub take-bytes : (count more n : ℕ) → take count (bytes (count + more) n) ≡ bytes count n
+take-bytes zero more n = refl
+take-bytes (suc count) more n =
+    let size : suc count + more ≡ suc (count + more) = omega arith in
+    rw size (ap (λ bs. n % 256 ∷ bs) (take-bytes count more (n / 256)))
+
+pub bytes_one : (n : ℕ) → n < 256 → bytes 1 n ≡ n ∷ []
+bytes_one n below = rw (mod-eq_of_lt below) refl
 
 -- Lanes as bytes
 
