@@ -1,10 +1,17 @@
 -- From rows to images.
-use Rattle.std.proofs.Common.{◌≡◌, ℕ, zero, suc, ◌+◌, ◌-◌, ◌*◌, ◌<◌, ◌≤◌, List, [], ◌∷◌, ◌++◌, length, map, take, drop, get_or, refl, sym, ap, ◌∙◌, arith, append_assoc, length-append, length-take, length-drop, add-one}
+use Rattle.std.proofs.Common.{◌≡◌, ℕ, zero, suc, ◌+◌, ◌-◌, ◌*◌, ◌<◌, ◌≤◌, List, [], ◌∷◌, ◌++◌, length, map, take, drop, get_or, refl, sym, ap, ◌∙◌, arith, append_assoc, length-append, length-take, length-drop, append-nil}
 use Rattle.std.specs.List.{range_with_len, flat_map}
 use Rattle.std.proofs.lemmas.List.{take_at, take_all, length-take-le, get_or_append_left, get_or-append-add}
+use Rattle.std.proofs.Math.Nat.{mul_assoc}
+use Rattle.std.proofs.lemmas.Nat.{column_fits}
 use Rattle.std.proofs.lemmas.List.FromFn.{length-map-range_with_len, get_or-map-range_with_len}
 use Rattle.pf_isa.specs.Bytes.{packed}
-use Rattle.pf_isa.specs.RowEnds.{with_row, row_values, image_values}
+use Rattle.pf_ints.specs.Images.{Picture}
+use Rattle.pf_isa.specs.declared.program.Head.{Head}
+use Rattle.pf_isa.specs.Tables.{Table}
+use Rattle.pf_isa.specs.Programs.{Text}
+use Rattle.pf_isa.specs.Runs.{Places, pixel_bytes, pixels_in_memory, columns, rows, memory, row_entries, row_budget, output_size, rows_from, Finished, Runs, Leaves}
+use Rattle.pf_isa.specs.RowEnds.{row_size, with_row, RowDone, RowsDone, row_values, image_values, picture_of, row_in_memory}
 use Rattle.pf_isa.proofs.ByteLaws.{packed-append, length-packed}
 
 -- the rows up to one that is written, and that one
@@ -56,3 +63,44 @@ get_or-image_values value width height x y d column row =
 pub packed-rows : (w : ℕ) (f : ℕ → List ℕ) (ys : List ℕ) → packed w (flat_map f ys) ≡ flat_map (λ y. packed w (f y)) ys
 packed-rows w f [] = refl
 packed-rows w f (y ∷ ys) = packed-append w (f y) (flat_map f ys) ∙ ap (λ rest. packed w (f y) ++ rest) (packed-rows w f ys)
+
+pub output_in_rows : (h : Head) (pictures : List Picture) → output_size h pictures ≡ row_size h pictures * rows h pictures
+output_in_rows h pictures = sym (mul_assoc (pixel_bytes h.out_ty) (columns h pictures) (rows h pictures))
+
+module _ {I O : Type 0} (t : Table O) (p : Text I O) (pictures : List Picture) (at : Places) (row : ℕ → List ℕ) (done : RowsDone t p pictures at row) where
+  -- so many rows from row y on end, and leave this output
+  record RowsLeft (left y : ℕ) (table scratch output whole : List ℕ) : Type 0 where
+    table_left : List ℕ
+    kept : List ℕ
+    kept_size : length kept ≡ length scratch
+    ends : rows_from t p at.table (row_budget (length p.code) (length p.head.taps) (columns p.head pictures)) (λ y. row_entries p.head pictures at y) left y (memory pictures at table scratch output) ≡ Finished (memory pictures at table_left kept whole)
+
+  rows_left : (left y : ℕ) (table scratch output : List ℕ) → y + left ≡ rows p.head pictures → length scratch ≡ p.head.scratch → length output ≡ row_size p.head pictures * rows p.head pictures
+      → RowsLeft left y table scratch output (take (row_size p.head pictures * y) output ++ flat_map row (range_with_len y left))
+  rows_left zero y table scratch output count small long =
+      let size : length output ≡ row_size p.head pictures * y = long ∙ ap (λ n. row_size p.head pictures * n) (omega arith) in
+      let whole : take (row_size p.head pictures * y) output ++ [] ≡ output = append-nil _ ∙ take_all (row_size p.head pictures * y) output (omega arith) in
+      record {
+        table_left = table;
+        kept = scratch;
+        kept_size = refl;
+        ends = ap (λ o. Finished (memory pictures at table scratch o)) (sym whole);
+      }
+  rows_left (suc left) y table scratch output count small long =
+      let size = row_size p.head pictures in
+      let inside : y < rows p.head pictures = omega arith in
+      let here : RowDone t p pictures at y (row y) scratch output = done.each y inside scratch output small (long ∙ sym (output_in_rows p.head pictures)) in
+      let width : length (row y) ≡ size = done.size y inside in
+      let fits : size * y + size ≤ length output = rw long (column_fits size y size (rows p.head pictures) inside (omega arith)) in
+      let kept_small : length here.kept ≡ p.head.scratch = here.kept_size ∙ small in
+      let kept_long : length (with_row output size y (row y)) ≡ size * rows p.head pictures = length-with_row output (row y) size y fits width ∙ long in
+      let rest = rows_left left (suc y) (packed 8 (row_entries p.head pictures at y)) here.kept (with_row output size y (row y)) (omega arith) kept_small kept_long in
+      let next : y + 1 ≡ suc y = omega arith in
+      let whole : take (size * suc y) (with_row output size y (row y)) ++ flat_map row (range_with_len (suc y) left) ≡ take (size * y) output ++ (row y ++ flat_map row (range_with_len (y + 1) left)) =
+      rw (take-with_row output (row y) size y (omega arith) width, next) (append_assoc (take (size * y) output) (row y) (flat_map row (range_with_len (suc y) left))) in
+      record {
+        table_left = rest.table_left;
+        kept = rest.kept;
+        kept_size = rest.kept_size ∙ here.kept_size;
+        ends = rw (here.ends, here.regions) (rest.ends ∙ ap (λ o. Finished (memory pictures at rest.table_left rest.kept o)) whole);
+      }
