@@ -1,16 +1,19 @@
 -- From rows to images.
 use Rattle.std.proofs.Common.{◌≡◌, ℕ, zero, suc, ◌+◌, ◌-◌, ◌*◌, ◌<◌, ◌≤◌, List, [], ◌∷◌, ◌++◌, length, map, take, drop, get_or, refl, sym, ap, ◌∙◌, arith, append_assoc, length-append, length-take, length-drop, append-nil}
+use Rattle.std.specs.Prelude.{ℤ, pos, ◌≤ℤ◌, unsigned_abs, replicate}
 use Rattle.std.specs.List.{range_with_len, flat_map}
 use Rattle.std.proofs.lemmas.List.{take_at, take_all, length-take-le, get_or_append_left, get_or-append-add}
 use Rattle.std.proofs.Math.Nat.{mul_assoc}
+use Rattle.std.proofs.lemmas.Int.{ints}
 use Rattle.std.proofs.lemmas.Nat.{column_fits}
 use Rattle.std.proofs.lemmas.List.FromFn.{length-map-range_with_len, get_or-map-range_with_len}
 use Rattle.pf_isa.specs.Bytes.{packed}
 use Rattle.pf_ints.specs.Images.{Picture}
+use Rattle.pf_terms.specs.Kernels.{Source, Keeps, Out, out_value, out_width, out_height}
 use Rattle.pf_isa.specs.declared.program.Head.{Head}
 use Rattle.pf_isa.specs.Tables.{Table}
 use Rattle.pf_isa.specs.Programs.{Text}
-use Rattle.pf_isa.specs.Runs.{Places, pixel_bytes, pixels_in_memory, columns, rows, memory, row_entries, row_budget, output_size, rows_from, Finished, Runs, Leaves}
+use Rattle.pf_isa.specs.Runs.{Places, pixel_bytes, pixels_in_memory, columns, rows, memory, row_entries, row_budget, table_size, output_size, rows_from, Finished, Runs, Leaves}
 use Rattle.pf_isa.specs.RowEnds.{row_size, with_row, RowDone, RowsDone, row_values, image_values, picture_of, row_in_memory}
 use Rattle.pf_isa.proofs.ByteLaws.{packed-append, length-packed}
 
@@ -104,3 +107,54 @@ module _ {I O : Type 0} (t : Table O) (p : Text I O) (pictures : List Picture) (
         kept_size = rest.kept_size ∙ here.kept_size;
         ends = rw (here.ends, here.regions) (rest.ends ∙ ap (λ o. Finished (memory pictures at rest.table_left rest.kept o)) whole);
       }
+
+  -- All rows from the first on end, and leave their bytes one after another, whatever was in the scratch and the output.
+  pub rows_end : (scratch output : List ℕ) → length scratch ≡ p.head.scratch → length output ≡ output_size p.head pictures
+      → (table : List ℕ) × (kept : List ℕ) × (length kept ≡ length scratch) × (Runs t p pictures at scratch output ≡ Finished (memory pictures at table kept (flat_map row (range_with_len 0 (rows p.head pictures)))))
+  rows_end scratch output small long =
+      let size = row_size p.head pictures in
+      let all = rows_left (rows p.head pictures) 0 (replicate (table_size p.head) 0) scratch output (omega arith) small (long ∙ output_in_rows p.head pictures) in
+      let none : size * 0 ≡ 0 = omega arith in
+      (all.table_left, all.kept, all.kept_size, (rw none at all.ends))
+
+-- The image of the rows
+
+pub length-row_in_memory : (value : ℕ → ℕ → ℕ) (h : Head) (pictures : List Picture) (y : ℕ) → length (row_in_memory value h pictures y) ≡ row_size h pictures
+length-row_in_memory value h pictures y =
+    length-packed (pixel_bytes h.out_ty) (row_values value (columns h pictures) y) ∙ ap (λ n. pixel_bytes h.out_ty * n) (length-row_values value (columns h pictures) y)
+
+pub rows_in_memory : (value : ℕ → ℕ → ℕ) (h : Head) (pictures : List Picture) → flat_map (row_in_memory value h pictures) (range_with_len 0 (rows h pictures)) ≡ pixels_in_memory h.out_ty (picture_of value h pictures).pixels
+rows_in_memory value h pictures = sym (packed-rows (pixel_bytes h.out_ty) (λ y. row_values value (columns h pictures) y) (range_with_len 0 (rows h pictures)))
+
+-- where each row writes its numbers, the run leaves the picture of them
+pub picture_left : {I O : Type 0} (t : Table O) (p : Text I O) (pictures : List Picture) (at : Places) (value : ℕ → ℕ → ℕ)
+    → ((scratch output : List ℕ) → length scratch ≡ p.head.scratch → length output ≡ output_size p.head pictures → (y : ℕ) → y < rows p.head pictures → RowDone t p pictures at y (row_in_memory value p.head pictures y) scratch output)
+    → (scratch output : List ℕ) → length scratch ≡ p.head.scratch → length output ≡ output_size p.head pictures → Leaves t p pictures at scratch output (picture_of value p.head pictures)
+picture_left t p pictures at value each scratch output small long =
+    let done : RowsDone t p pictures at (row_in_memory value p.head pictures) = record {
+      size = λ y inside. length-row_in_memory value p.head pictures y;
+      each = λ y inside s o fits whole. each s o fits whole y inside;
+    } in
+    let all = rows_end t p pictures at (row_in_memory value p.head pictures) done scratch output small long in
+    record {
+      table = all.0;
+      kept = all.1;
+      kept_size = all.2;
+      ends = all.3 ∙ ap (λ o. Finished (memory pictures at all.0 all.1 o)) (rows_in_memory value p.head pictures);
+    }
+
+-- a size that is at least 1
+pub whole_size : (z : ℤ) → pos 1 ≤ℤ z → pos (unsigned_abs z) ≡ z
+whole_size z some = omega (arith, ints)
+
+-- where the numbers are the values of the kernel's output, the picture of them is the kernel's output
+pub picture_is_out : (s : Source) (h : Head) (pictures : List Picture) (value : ℕ → ℕ → ℕ) → s.taps ≡ h.taps → s.out_ty ≡ h.out_ty → Keeps s pictures
+    → ((x y : ℕ) → x < columns h pictures → y < rows h pictures → pos (value x y) ≡ out_value s pictures x y) → Out s pictures (picture_of value h pictures)
+picture_is_out s h pictures value taps ty keeps each =
+    record {
+      ty = sym ty;
+      width = ap (λ ts. pos (unsigned_abs (out_width ts pictures))) (sym taps) ∙ whole_size (out_width s.taps pictures) keeps.wide;
+      height = ap (λ ts. pos (unsigned_abs (out_height ts pictures))) (sym taps) ∙ whole_size (out_height s.taps pictures) keeps.high;
+      count = length-image_values value (columns h pictures) (rows h pictures);
+      each = λ x y column row. ap (λ n. pos n) (get_or-image_values value (columns h pictures) (rows h pictures) x y 0 column row) ∙ each x y column row;
+    }
