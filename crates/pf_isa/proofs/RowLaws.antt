@@ -1,19 +1,21 @@
 -- From rows to images.
-use Rattle.std.proofs.Common.{◌≡◌, ℕ, zero, suc, ◌+◌, ◌-◌, ◌*◌, ◌<◌, ◌≤◌, List, [], ◌∷◌, ◌++◌, length, map, take, drop, get_or, refl, sym, ap, ◌∙◌, arith, append_assoc, length-append, length-take, length-drop, append-nil}
+use Rattle.std.proofs.Common.{◌≡◌, ℕ, zero, suc, ◌+◌, ◌*◌, ◌<◌, ◌≤◌, List, [], ◌∷◌, ◌++◌, length, map, take, drop, get_or, refl, sym, ap, ◌∙◌, arith, append_assoc, length-append, length-take, length-drop, append-nil, ◌^◌, All, inl, inr, ⊎_elim, true}
 use Rattle.std.specs.Prelude.{ℤ, pos, ◌≤ℤ◌, unsigned_abs, replicate}
-use Rattle.std.specs.List.{range_with_len, flat_map}
-use Rattle.std.proofs.lemmas.List.{take_at, take_all, length-take-le, get_or_append_left, get_or-append-add}
+use Rattle.std.specs.List.{range_with_len, flat_map, AllPairs}
+use Rattle.std.proofs.lemmas.List.{take_at, take_all, length-take-le, get_or_append_left, get_or-append-add, get_or-map, length-map, length-replicate, map-append}
 use Rattle.std.proofs.Math.Nat.{mul_assoc}
 use Rattle.std.proofs.lemmas.Int.{ints}
 use Rattle.std.proofs.lemmas.Nat.{column_fits}
 use Rattle.std.proofs.lemmas.List.FromFn.{length-map-range_with_len, get_or-map-range_with_len}
 use Rattle.pf_isa.specs.Bytes.{packed}
+use Rattle.pf_isa.specs.Memory.{Apart}
+use Rattle.pf_isa.specs.declared.memory.Region.{Region}
 use Rattle.pf_ints.specs.Images.{Picture}
 use Rattle.pf_terms.specs.Kernels.{Source, Keeps, Out, out_value, out_width, out_height}
 use Rattle.pf_isa.specs.declared.program.Head.{Head}
 use Rattle.pf_isa.specs.Tables.{Table}
 use Rattle.pf_isa.specs.Programs.{Text}
-use Rattle.pf_isa.specs.Runs.{Places, pixel_bytes, pixels_in_memory, columns, rows, memory, row_entries, row_budget, table_size, output_size, rows_from, Finished, Runs, Leaves}
+use Rattle.pf_isa.specs.Runs.{Places, pixel_bytes, pixels_in_memory, columns, rows, region, image_regions, memory, row_entries, row_budget, table_size, output_size, IsPlaced, rows_from, Finished, Runs, Leaves}
 use Rattle.pf_isa.specs.RowEnds.{row_size, with_row, RowDone, RowsDone, row_values, image_values, picture_of, row_in_memory}
 use Rattle.pf_isa.proofs.ByteLaws.{packed-append, length-packed}
 
@@ -158,3 +160,108 @@ picture_is_out s h pictures value taps ty keeps each =
       count = length-image_values value (columns h pictures) (rows h pictures);
       each = λ x y column row. ap (λ n. pos n) (get_or-image_values value (columns h pictures) (rows h pictures) x y 0 column row) ∙ each x y column row;
     }
+
+-- The places of regions, whatever bytes they hold
+
+pub record IsShaped (r s : Region) : Type 0 where
+  pub start : r.start ≡ s.start
+  pub size : length r.bytes ≡ length s.bytes
+
+abbrev pub place_of_region : Region → ℕ × ℕ
+place_of_region r = (r.start, length r.bytes)
+
+shaped : (rs ss : List Region) → map place_of_region rs ≡ map place_of_region ss → (k : ℕ) (d : Region) → k < length rs → IsShaped (get_or rs k d) (get_or ss k d)
+shaped rs ss same k d inside =
+    let long : length rs ≡ length ss = sym (length-map rs place_of_region) ∙ ap length same ∙ length-map ss place_of_region in
+    let left : get_or (map place_of_region rs) k (place_of_region d) ≡ place_of_region (get_or rs k d) = get_or-map place_of_region rs k d (place_of_region d) inside in
+    let right : get_or (map place_of_region ss) k (place_of_region d) ≡ place_of_region (get_or ss k d) = get_or-map place_of_region ss k d (place_of_region d) (omega arith) in
+    let both : place_of_region (get_or rs k d) ≡ place_of_region (get_or ss k d) = sym left ∙ ap (λ l. get_or l k (place_of_region d)) same ∙ right in
+    record { start = ap (λ (q : ℕ × ℕ). q.0) both; size = ap (λ (q : ℕ × ℕ). q.1) both }
+
+same_length : (rs ss : List Region) → map place_of_region rs ≡ map place_of_region ss → length rs ≡ length ss
+same_length rs ss same = sym (length-map rs place_of_region) ∙ ap length same ∙ length-map ss place_of_region
+
+pub apart_kept : (rs ss : List Region) → map place_of_region rs ≡ map place_of_region ss → AllPairs Apart rs → AllPairs Apart ss
+apart_kept rs ss same apart i j d before inside =
+    let long : length rs ≡ length ss = same_length rs ss same in
+    let a : IsShaped (get_or rs i d) (get_or ss i d) = shaped rs ss same i d (omega arith) in
+    let b : IsShaped (get_or rs j d) (get_or ss j d) = shaped rs ss same j d (omega arith) in
+    let first = a.start in
+    let first_size = a.size in
+    let second = b.start in
+    let second_size = b.size in
+    ⊎_elim
+    (λ (p : (get_or rs i d).start + length (get_or rs i d).bytes ≤ (get_or rs j d).start). inl (omega arith))
+    (λ (p : (get_or rs j d).start + length (get_or rs j d).bytes ≤ (get_or rs i d).start). inr (omega arith))
+    (apart i j d before (omega arith))
+
+pub low_kept : (rs ss : List Region) → map place_of_region rs ≡ map place_of_region ss → All (λ r. r.start + length r.bytes < 2 ^ 31) rs → All (λ r. r.start + length r.bytes < 2 ^ 31) ss
+low_kept rs ss same low k d inside =
+    let long : length rs ≡ length ss = same_length rs ss same in
+    let a : IsShaped (get_or rs k d) (get_or ss k d) = shaped rs ss same k d (omega arith) in
+    let start = a.start in
+    let size = a.size in
+    let here : (get_or rs k d).start + length (get_or rs k d).bytes < 2 ^ 31 = low k d (omega arith) in
+    omega arith
+
+-- other bytes of the same sizes in the table, the scratch and the output
+pub memory_places : (pictures : List Picture) (at : Places) (table scratch output table' scratch' output' : List ℕ) → length table' ≡ length table → length scratch' ≡ length scratch → length output' ≡ length output
+    → map place_of_region (memory pictures at table scratch output) ≡ map place_of_region (memory pictures at table' scratch' output')
+memory_places pictures at table scratch output table' scratch' output' tables scratches outputs =
+    let joined = λ (o : List ℕ). map-append place_of_region (image_regions at.images pictures) (region at.output o true ∷ []) in
+    let front = λ (m n : ℕ) (l : List (ℕ × ℕ)). (at.table, m) ∷ (at.scratch, n) ∷ l in
+    let middle : front (length table) (length scratch) (map place_of_region (image_regions at.images pictures) ++ (at.output, length output) ∷ [])
+    ≡ front (length table') (length scratch') (map place_of_region (image_regions at.images pictures) ++ (at.output, length output') ∷ []) =
+    rw (tables, scratches, outputs) refl in
+    ap (λ l. front (length table) (length scratch) l) (joined output) ∙ middle ∙ sym (ap (λ l. front (length table') (length scratch') l) (joined output'))
+
+pub length-row_entries : (h : Head) (pictures : List Picture) (at : Places) (y : ℕ) → length (row_entries h pictures at y) ≡ length h.taps + 3
+length-row_entries h pictures at y = simp (length-append, length-map) (omega arith)
+
+pub length-row_table : (h : Head) (pictures : List Picture) (at : Places) (y : ℕ) → length (packed 8 (row_entries h pictures at y)) ≡ table_size h
+length-row_table h pictures at y = length-packed 8 (row_entries h pictures at y) ∙ ap (λ n. 8 * n) (length-row_entries h pictures at y)
+
+-- the memory in which a run begins
+abbrev pub first_memory : Head → List Picture → Places → (scratch output : List ℕ) → List Region
+first_memory h pictures at scratch output = memory pictures at (replicate (table_size h) 0) scratch output
+
+pub placed_kept : (h : Head) (pictures : List Picture) (at : Places) (scratch output scratch' output' : List ℕ) → IsPlaced h pictures at scratch output → length scratch' ≡ h.scratch → length output' ≡ output_size h pictures → IsPlaced h pictures at scratch' output'
+placed_kept h pictures at scratch output scratch' output' placed small long =
+    let before = first_memory h pictures at scratch output in
+    let after = first_memory h pictures at scratch' output' in
+    let same : map place_of_region before ≡ map place_of_region after =
+    memory_places pictures at (replicate (table_size h) 0) scratch output (replicate (table_size h) 0) scratch' output' refl (small ∙ sym placed.scratch_size) (long ∙ sym placed.output_bytes) in
+    record {
+      image_count = placed.image_count;
+      scratch_size = small;
+      output_bytes = long;
+      apart = apart_kept before after same placed.apart;
+      low = low_kept before after same placed.low;
+      aligned = placed.aligned;
+      aligned_output = placed.aligned_output;
+      aligned_table = placed.aligned_table;
+    }
+
+-- the memory of a row, with the table of the row
+pub row_places : (h : Head) (pictures : List Picture) (at : Places) (y : ℕ) (scratch output : List ℕ)
+    → map place_of_region (first_memory h pictures at scratch output) ≡ map place_of_region (memory pictures at (packed 8 (row_entries h pictures at y)) scratch output)
+row_places h pictures at y scratch output =
+    memory_places pictures at (replicate (table_size h) 0) scratch output (packed 8 (row_entries h pictures at y)) scratch output (length-row_table h pictures at y ∙ sym (length-replicate (table_size h) 0)) refl refl
+
+pub row_apart : (h : Head) (pictures : List Picture) (at : Places) (y : ℕ) (scratch output : List ℕ) → IsPlaced h pictures at scratch output → AllPairs Apart (memory pictures at (packed 8 (row_entries h pictures at y)) scratch output)
+row_apart h pictures at y scratch output placed = apart_kept (first_memory h pictures at scratch output) (memory pictures at (packed 8 (row_entries h pictures at y)) scratch output) (row_places h pictures at y scratch output) placed.apart
+
+pub row_low : (h : Head) (pictures : List Picture) (at : Places) (y : ℕ) (scratch output : List ℕ) → IsPlaced h pictures at scratch output → All (λ r. r.start + length r.bytes < 2 ^ 31) (memory pictures at (packed 8 (row_entries h pictures at y)) scratch output)
+row_low h pictures at y scratch output placed = low_kept (first_memory h pictures at scratch output) (memory pictures at (packed 8 (row_entries h pictures at y)) scratch output) (row_places h pictures at y scratch output) placed.low
+
+-- Where each row of a program writes the values of a kernel's output, under every placement, the program's runs leave the kernel's output.
+pub leaves : {I O : Type 0} (t : Table O) (p : Text I O) (pictures : List Picture) (s : Source) (value : ℕ → ℕ → ℕ) → s.taps ≡ p.head.taps → s.out_ty ≡ p.head.out_ty → Keeps s pictures
+    → ((x y : ℕ) → x < columns p.head pictures → y < rows p.head pictures → pos (value x y) ≡ out_value s pictures x y)
+    → ((at : Places) (scratch output : List ℕ) → IsPlaced p.head pictures at scratch output → (y : ℕ) → y < rows p.head pictures → RowDone t p pictures at y (row_in_memory value p.head pictures y) scratch output)
+    → (o : Picture) × Out s pictures o × ((at : Places) (scratch output : List ℕ) → IsPlaced p.head pictures at scratch output → Leaves t p pictures at scratch output o)
+leaves t p pictures s value taps ty keeps values each = (
+  picture_of value p.head pictures,
+  picture_is_out s p.head pictures value taps ty keeps values,
+  (λ at scratch output placed.
+      picture_left t p pictures at value (λ kept left small long y inside. each at kept left (placed_kept p.head pictures at scratch output kept left placed small long) y inside) scratch output placed.scratch_size placed.output_bytes),
+)
