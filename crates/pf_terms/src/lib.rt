@@ -12,5 +12,5 @@ pub use fault::TermFault;
 pub use kernel::{Definition, Definitions, ImageDecl, ImageList};
 pub use names::{DefName, DefNames, ImageName, ImageNames, Names, Tap, TapList};
 pub use op::Op;
-pub use row::{Amounts, Gives, Operands};
+pub use row::{Amounts, Gives, Operands, Spelling};
 pub use term::{Env, Leaf, Term, Terms};
