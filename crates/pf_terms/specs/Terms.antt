@@ -1,5 +1,6 @@
 -- What terms mean, and which are well-formed and well-typed.
 use Rattle.std.specs.Prelude.{nat_lt, not, IsTrue, option_map, ◌≡◌, ℕ, ℤ, pos, ◌+◌, ◌-◌, ◌*◌, max, Bool, true, false, ◌&&◌, ◌||◌, ◌==◌, nat_le, if◌then◌else◌, int_le, List, [], ◌∷◌, ◌++◌, length, map, sum, slice_index_or, Option, Some, None, Result, Ok, Err}
+use Rattle.std.specs.Option.{option_or}
 use Rattle.pf_ints.specs.declared.lane.LaneType.{LaneType}
 use Rattle.pf_ints.specs.declared.lane.Bits.{Bits}
 use Rattle.pf_ints.specs.declared.lane.Bits.TheVariants.{Eight, Sixteen, ThirtyTwo}
@@ -205,15 +206,10 @@ first_width (t ∷ _) = lane_width t
 abbrev pub is_amount : Amounts → ℕ → ℕ → Bool
 is_amount a w k = nat_le (least_amount a) k && nat_le k (greatest_amount a w)
 
--- the first of two that is there
-abbrev pub first_some : {A : Type 0} → Option A → Option A → Option A
-first_some None o = o
-first_some (Some x) o = Some x
-
 -- the operand's type, or else the stated type, that isn't the wanted one
 abbrev pub type_fault : Row → LaneType → List LaneType → Option (LaneType × LaneType)
 type_fault r ty types =
-    first_some (first_difference (wanted r.operands types) types) (first_difference (result_type r.gives ty types ∷ []) (ty ∷ []))
+    option_or (first_difference (wanted r.operands types) types) (first_difference (result_type r.gives ty types ∷ []) (ty ∷ []))
 
 abbrev pub node_type : Row → LaneType → ℕ → List LaneType → Result LaneType TermFault
 node_type r ty k types = unless_differs (type_fault r ty types) (is_amount r.amounts (first_width types) k) ty k

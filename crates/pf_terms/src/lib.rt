@@ -7,6 +7,8 @@ mod names;
 mod op;
 mod row;
 mod term;
+mod types;
+mod weights;
 
 pub use fault::TermFault;
 pub use kernel::{Definition, Definitions, ImageDecl, ImageList};
@@ -14,3 +16,5 @@ pub use names::{DefName, DefNames, ImageName, ImageNames, Names, Tap, TapList};
 pub use op::Op;
 pub use row::{Amounts, Gives, Operands, Spelling};
 pub use term::{Env, Leaf, Term, Terms};
+pub use types::type_of;
+pub use weights::weight;
