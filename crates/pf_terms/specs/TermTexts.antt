@@ -46,9 +46,11 @@ abbrev pub is_named_tap : List ImageName → TapOf → LaneType → Bool
 is_named_tap images t ty = nat_lt t.image (length images) && same_type (slice_index_or images t.image no_image).ty ty
 
 -- a tap's text: its image's name and its offsets, as a[-1,0]
+abbrev pub placed_text : List ℕ → TapOf → List ℕ
+placed_text name t = name ++ codes "[" ++ signed_decimal t.dx ++ codes "," ++ signed_decimal t.dy ++ codes "]"
+
 abbrev pub tap_text : List ImageName → TapOf → List ℕ
-tap_text images t =
-    (slice_index_or images t.image no_image).name ++ codes "[" ++ signed_decimal t.dx ++ codes "," ++ signed_decimal t.dy ++ codes "]"
+tap_text images t = placed_text (slice_index_or images t.image no_image).name t
 
 abbrev pub leaf_text : Names → LeafOf → LaneType → List ℕ
 leaf_text names (Tap n) ty = tap_text names.images (slice_index_or names.taps n no_tap)
