@@ -194,11 +194,13 @@ module _ (is_member : ℤ → Type 0) where
   greatest_of_four : (ll hl lh hh : ℤ) → is_member ll → is_member hl → is_member lh → is_member hh → is_member (int_max (int_max ll hl) (int_max lh hh))
   greatest_of_four ll hl lh hh p q r s = member_max _ _ (member_max ll hl p q) (member_max lh hh r s)
 
+-- a product lies between the least and the greatest of two ends
+pub holds_product : (a b : Range) (x y : ℤ) → Holds a x → Holds b y → Holds (product_range a b) (x *ℤ y)
+holds_product a b x y h k = among _ _ _ _ _ _ _ (between x b y k) (between_left b.lo a x h) (between_left b.hi a x h)
+
 pub least_product : (a b : Range) → IsRange a → IsRange b → IsLeast (IsJointImage (λ x y. x *ℤ y) a b) (product_range a b)
 least_product a b p q = record {
-  all = λ n m.
-      subst (Holds (product_range a b)) m.is
-      (among _ _ _ _ _ _ _ (between m.left b m.right m.in_right) (between_left b.lo a m.left m.in_left) (between_left b.hi a m.left m.in_left));
+  all = λ n m. subst (Holds (product_range a b)) m.is (holds_product a b m.left m.right m.in_left m.in_right);
   low_met = least_of_four is_product _ _ _ _ (corner _ _ (at_low a p) (at_low b q)) (corner _ _ (at_high a p) (at_low b q)) (corner _ _ (at_low a p) (at_high b q)) (corner _ _ (at_high a p) (at_high b q));
   high_met = greatest_of_four is_product _ _ _ _ (corner _ _ (at_low a p) (at_low b q)) (corner _ _ (at_high a p) (at_low b q)) (corner _ _ (at_low a p) (at_high b q)) (corner _ _ (at_high a p) (at_high b q));
 }

@@ -1,0 +1,2 @@
+mod AxiomPlaces
+pub mod BoundLaws

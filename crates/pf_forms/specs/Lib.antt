@@ -1,0 +1,5 @@
+pub mod Shapes
+pub mod Values
+pub mod Parts
+pub mod FormTexts
+pub mod Axioms
