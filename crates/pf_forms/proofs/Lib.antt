@@ -1,2 +1,3 @@
 mod AxiomPlaces
 pub mod BoundLaws
+pub mod EqualityLaws

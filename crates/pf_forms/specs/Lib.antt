@@ -1,4 +1,5 @@
 pub mod Shapes
+pub mod Equality
 pub mod Values
 pub mod Parts
 pub mod FormTexts
