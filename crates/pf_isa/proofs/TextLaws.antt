@@ -22,6 +22,10 @@ use Rattle.pf_isa.specs.Texts.{Said, Nothing, Named, Does, printed, line_text, l
 pub printed-append : (a b : List (List ℕ)) → printed (a ++ b) ≡ printed a ++ printed b
 printed-append a b = flat_map-append (λ l. l ++ 10 ∷ []) a b
 
+-- lines that are appended in front of the rest
+pub joined_lines : (t u v : List ℕ) (a rest : List (List ℕ)) → u ≡ t ++ printed a → v ≡ u ++ printed rest → v ≡ t ++ printed (a ++ rest)
+joined_lines t u v a rest one two = rw (two, one, printed-append a rest) (append_assoc t (printed a) (printed rest))
+
 -- what is left to write from instruction i on: the labels there, the instruction, and the rest
 pub code_lines-drop : {I O : Type 0} (t : Table O) (n i : ℕ) (code : List (Line I O)) (labels : List Label) (line : Line I O) → i < length code → line ≡ get_or code i line
     → code_lines t n (drop i code) labels ≡ label_lines (labels_at n labels) ++ line_text t line ∷ code_lines t (n + 1) (drop (i + 1) code) (labels_behind n labels)
