@@ -3,3 +3,5 @@ pub mod MemoryLaws
 pub mod StepLaws
 pub mod RowLaws
 pub mod TextLaws
+pub mod TermLaws
+pub mod WrittenLaws

@@ -19,4 +19,4 @@ pub use isa::Isa;
 pub use memory::{Region, RegionList};
 pub use program::{Head, Program};
 pub use registers::{Reg, RegFile, RegList, VectorList};
-pub use write::push_number;
+pub use write::{push_number, write_text};

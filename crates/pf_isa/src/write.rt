@@ -262,3 +262,32 @@ fn push_head(alloc: Global, text: &mut Vec<u8>, target: Target, head: &Head) -> 
     push_cost_line(text, head.cost)?;
     Ok(())
 }
+
+fn program_text<I: Isa>(
+    alloc: Global,
+    head: &Head,
+    code: &[Line<I>],
+    labels: &[Label],
+) -> Result<Vec<u8>, Memory>
+    requires { IsHead head.now }
+    ensures written { IfOk result (λ text. text.items ≡ printed (head_lines I.TARGET head.now ++ code_lines I.table 0 code.now labels.now)) }
+    ensures known { OnOk result (All (IsOpOf I.is_op) code.now) }
+{
+    let mut text = Vec::new(alloc);
+    push_head(alloc, &mut text, I::TARGET, head)?;
+    push_code::<I>(alloc, &mut text, code, labels)?;
+    Ok(text)
+}
+
+/// The text of a program: the lines of its head, and then those of its code, each label on a line of
+/// its own before the instruction that it stands before. It ends in LF.
+pub fn write_text<I: Isa>(alloc: Global, program: &Program<I>) -> Result<Vec<u8>, Memory>
+    ensures text { IfOk result (λ text. IsText I.table I.is_op text.items program.now) }
+    ensures written { IfOk result (λ text. text.items ≡ printed (head_lines I.TARGET program.now.head ++ code_lines I.table 0 program.now.code program.now.labels)) }
+{
+    let head = program.head();
+    let code = program.code().as_slice();
+    let labels = program.labels().as_slice();
+    let text = program_text::<I>(alloc, head, code, labels)?;
+    Ok(text)
+}
