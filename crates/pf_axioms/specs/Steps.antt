@@ -74,10 +74,10 @@ abbrev pub answer_of : Result Form StepFault → Answer
 answer_of (Ok g) = Ok (shape g)
 answer_of (Err e) = Err e
 
--- the new form has the value of the old one, for all variables inside their ranges, and keeps what a form must
+-- g has the value of f for all variables inside their ranges, and is a form over these ranges
 pub record Keeps (ranges : List Range) (f g : Shape) : Type 0 where
   pub same_value : (v : ℕ → ℤ) → AreIn ranges v → FVal v g ≡ FVal v f
-  pub form : (count : ℕ) → IsFormOver count f → IsFormOver count g
+  pub form : IsFormOver (length ranges) g
 
 -- ---- the function
 
