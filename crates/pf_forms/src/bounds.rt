@@ -17,8 +17,8 @@ pub fn form_bounds(form: &Form, ranges: &IntervalList) -> Option<Interval>
     bounds(form, ranges.as_slice())
 }
 
-/// 2 to the power of `e`.
-fn power(e: u8) -> i128
+/// 2 to the power of `e`, which is at most 119.
+pub fn power(e: u8) -> i128
     requires { e < 120 }
     ensures { result ≡ pos (2 ^ e) }
 {

@@ -13,7 +13,7 @@ mod tests;
 mod texts;
 
 pub use axioms::Axiom;
-pub use bounds::form_bounds;
+pub use bounds::{form_bounds, power};
 pub use copies::boxed;
 pub use equals::equal;
 pub use form::Form;
