@@ -9,6 +9,8 @@ mod isa;
 mod memory;
 mod program;
 mod registers;
+mod scan;
+mod tight;
 
 pub use access::Access;
 pub use block::{Block, Item, ItemList};
@@ -18,3 +20,5 @@ pub use isa::Isa;
 pub use memory::{Region, RegionList};
 pub use program::{Head, Program};
 pub use registers::{Reg, RegFile, RegList, VectorList};
+pub use scan::{behind, next_number, number_at};
+pub use tight::{ShortLine, tighten};
