@@ -1,5 +1,5 @@
 -- Which parts of a line are kept when blanks that don't count are left out, and that nothing is added.
-use Rattle.std.proofs.Common.{◌≡◌, ℕ, suc, ◌^◌, ◌<◌, ◌≤◌, List, [], ◌∷◌, ◌++◌, length, Bool, true, false, ◌==◌, if◌then◌else◌, refl, arith, ap, subst, ⊎_elim}
+use Rattle.std.proofs.Common.{◌≡◌, ℕ, suc, ◌^◌, ◌<◌, ◌≤◌, List, [], ◌∷◌, ◌++◌, length, Bool, true, false, not, ◌&&◌, nat_le, ◌==◌, if◌then◌else◌, Option, Some, refl, arith, ap, subst, ⊎_elim}
 use Rattle.std.specs.Fmt.{decimal}
 use Rattle.std.specs.List.{list_all}
 use Rattle.std.specs.Str.{all_ascii_digits}
@@ -7,9 +7,10 @@ use Rattle.std.proofs.lemmas.List.{append-nil}
 use Rattle.std.proofs.lemmas.Fmt.{decimal_nonempty}
 use Rattle.std.proofs.lemmas.Bool.{and_parts, cases_Bool}
 use Rattle.std.proofs.lemmas.Bool.Decides.{nat_tests}
-use Rattle.pf_ints.specs.Words.{is_digit, is_name_byte}
+use Rattle.pf_ints.specs.Words.{is_digit, is_letter, is_name_byte, is_spelled, is_reserved, is_name}
+use Rattle.pf_isa.specs.Scan.{next_number}
 use Rattle.pf_isa.specs.Lines.{is_blank, tight_on, tight_pending, tight}
-use Rattle.pf_isa.proofs.ScanLaws.{digits-decimal}
+use Rattle.pf_isa.proofs.ScanLaws.{NoDigit, digits-decimal, next_number-decimal, next_number-last}
 
 -- no blank and no comma is in the text
 abbrev pub IsSolid : List ℕ → Type 0
@@ -90,3 +91,28 @@ shorter (c ∷ xs) =
 pub length-tight : (xs : List ℕ) → length (tight xs) ≤ length xs
 unfolding tight
 length-tight xs = (shorter xs).free
+
+-- a number is read from a tight line
+pub next_tight : (free : Bool) (n : ℕ) (t : List ℕ) → n < 10 ^ 19 → NoDigit (tight_on false t) → next_number (tight_on free (decimal n ++ t)) ≡ Some (n, tight_on false t)
+next_tight free n t small h =
+    let fits : n < 2 ^ 64 = omega arith in
+    rw (tight_on-decimal free n t fits) (next_number-decimal n (tight_on false t) small h)
+
+pub next_tight_last : (free : Bool) (n : ℕ) → n < 10 ^ 19 → next_number (tight_on free (decimal n)) ≡ Some (n, [])
+next_tight_last free n small =
+    let fits : n < 2 ^ 64 = omega arith in
+    rw (tight_on-last free n fits) (next_number-last n small)
+
+-- the label of a jump is kept
+pub tight_pending-name : (label : List ℕ) → is_name label ≡ true → tight_pending label ≡ 32 ∷ label
+unfolding is_name
+tight_pending-name [] h = cc
+tight_pending-name (c ∷ cs) h =
+    let whole : (is_spelled (c ∷ cs) && nat_le (length (c ∷ cs)) 32 && not (is_reserved (c ∷ cs))) ≡ true = h in
+    let spelled : is_spelled (c ∷ cs) ≡ true = (and_parts (is_spelled (c ∷ cs)) (nat_le (length (c ∷ cs)) 32) (and_parts (is_spelled (c ∷ cs) && nat_le (length (c ∷ cs)) 32) (not (is_reserved (c ∷ cs))) whole).0).0 in
+    let parts : (is_letter c ≡ true) × (list_all is_name_byte cs ≡ true) = and_parts (is_letter c) (list_all is_name_byte cs) spelled in
+    let letter = parts.0 in
+    let blank : is_blank c ≡ false = grind (arith, nat_tests) in
+    let comma : (c == 44) ≡ false = grind (arith, nat_tests) in
+    let rest : tight_on false cs ≡ cs = subst (λ t. tight_on false t ≡ t) (append-nil cs) (tight_on-solid cs [] (solid_name cs parts.1)) in
+    rw (blank, comma, rest) refl

@@ -20,5 +20,5 @@ pub use isa::Isa;
 pub use memory::{Region, RegionList};
 pub use program::{Head, Program};
 pub use registers::{Reg, RegFile, RegList, VectorList};
-pub use scan::{behind, next_number, number_at};
+pub use scan::{behind, checked, next_number, number_at};
 pub use tight::{ShortLine, tighten};

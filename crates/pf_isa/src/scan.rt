@@ -1,8 +1,10 @@
-ghost use Rattle.std.specs.Prelude.{◌≡◌, ◌≤◌, length, MatchOption, None, Some, All, true, IsTrue, IfSome, IfNone};
+ghost use Rattle.std.specs.Prelude.{◌≡◌, ◌≤◌, length, MatchOption, None, Some, All, true, IsTrue, ◌↔◌, ◌<◌};
 ghost use Rattle.pf_ints.specs.Words.{is_digit};
+ghost use Rattle.pf_isa.specs.Control.{is_offset, IsControl};
 ghost use Rattle.pf_isa.specs.Scan.{behind, leading_digits, behind_digits, from_digit, number_on, number_at, next_number};
 
-use pf_ints::is_digit;
+use crate::control::{Control, Ctl};
+use pf_ints::{is_digit, is_name};
 
 /// What follows the word, or None where the text doesn't begin with it.
 pub fn behind<'a>(word: &[u8], text: &'a [u8]) -> Option<&'a [u8]>
@@ -75,4 +77,54 @@ pub fn next_number(text: &[u8]) -> Option<(u64, &[u8])>
     ensures { MatchOption result (next_number text.now ≡ None) (λ p. next_number text.now ≡ Some (p.0, p.1.now)) }
 {
     number_at(from_digit(text))
+}
+
+fn is_role(register: u8) -> bool
+    ensures { IsTrue result ↔ (register < 8) }
+{
+    register < 8
+}
+
+fn is_offset(down: bool, by: u32) -> bool
+    ensures { result ≡ is_offset down by }
+{
+    if down {
+        1 <= by && by <= 4095
+    } else {
+        by <= 4095 || (by % 4096 == 0 && by <= 16773120)
+    }
+}
+
+fn is_control(control: Control) -> bool
+    ensures { IsTrue result ↔ IsControl control }
+{
+    match control {
+        Control::LoadPtr { to, base, .. } => is_role(to) && is_role(base),
+        Control::StorePtr { base, from, .. } => is_role(base) && is_role(from),
+        Control::Imm { to, .. } => is_role(to),
+        Control::AddImm { to, from, down, by } => {
+            is_role(to) && is_role(from) && is_offset(down, by)
+        }
+        Control::AddReg { to, left, right } => is_role(to) && is_role(left) && is_role(right),
+        Control::LoadByte { to, at } => is_role(to) && is_role(at),
+        Control::LoadHalf { to, at } => is_role(to) && is_role(at),
+        Control::StoreByte { at, from } => is_role(at) && is_role(from),
+        Control::StoreHalf { at, from } => is_role(at) && is_role(from),
+        Control::Compare { left, right } => is_role(left) && is_role(right),
+        Control::Below { label } => is_name(label.as_slice()),
+        Control::Jump { label } => is_name(label.as_slice()),
+        Control::Return => true,
+    }
+}
+
+/// The control instruction, or None where its registers, its numbers or its label aren't such as
+/// an instruction may have.
+pub fn checked(control: Control) -> Option<Ctl>
+    ensures { MatchOption result (IsControl control → ⊥) (λ c. c ≡ control) }
+{
+    let tested = control;
+    if !is_control(tested) {
+        return None;
+    }
+    Some(Ctl::new(control))
 }

@@ -65,6 +65,16 @@ impl ShortLine {
         self.word(buffer.format(n).as_bytes())
     }
 
+    /// The line without the blanks that don't count.
+    pub fn tightened(&self) -> ShortLine
+        ensures { result ≡ tight self.now }
+    {
+        match tighten(self.as_slice()) {
+            Some(line) => line,
+            None => unreachable!(),
+        }
+    }
+
     /// The line with one byte more, or None where it has 80.
     fn with(mut self, byte: u8) -> Option<ShortLine>
         ensures { MatchOption result (80 ≤ length self) (λ l. l ≡ self ++ byte ∷ []) }
