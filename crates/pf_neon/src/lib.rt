@@ -1,6 +1,8 @@
 //! The instructions of A64 Advanced SIMD, as a set for pf_isa's machine.
 #![tactic(auto)]
 
+mod lane;
+mod lines;
 mod op;
 
 pub use op::{Form, Lanes, Mnemonic, Op};
