@@ -1,4 +1,4 @@
-ghost use Rattle.std.specs.Prelude.{◌≡◌, ◌+◌, ◌<◌, ◌≤◌, ◌++◌, [], ◌∷◌, length, MatchOption};
+ghost use Rattle.std.specs.Prelude.{◌≡◌, ◌+◌, ◌<◌, ◌≤◌, ◌++◌, [], ◌∷◌, length, MatchOption, IsTrue, ◌↔◌};
 ghost use Rattle.std.specs.Fmt.{decimal};
 ghost use Rattle.pf_isa.specs.Lines.{tight, is_blank};
 ghost use Rattle.pf_isa.specs.Scan.{spaced};
@@ -73,6 +73,13 @@ impl ShortLine {
             Some(line) => line,
             None => unreachable!(),
         }
+    }
+
+    /// Whether both lines have the same bytes.
+    pub fn is_same(&self, other: &ShortLine) -> bool
+        ensures { IsTrue result ↔ (self.now ≡ other.now) }
+    {
+        self.as_slice() == other.as_slice()
     }
 
     /// The line with one byte more, or None where it has 80.

@@ -4,5 +4,6 @@
 mod lane;
 mod lines;
 mod op;
+mod reads;
 
 pub use op::{Form, Lanes, Mnemonic, Op};
