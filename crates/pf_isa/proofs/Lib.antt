@@ -1,3 +1,4 @@
 pub mod Fronts
 pub mod ScanLaws
 pub mod TightLaws
+pub mod QuietLaws
