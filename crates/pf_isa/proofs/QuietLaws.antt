@@ -1,5 +1,5 @@
 -- Lines of quiet bytes are lines of instructions.
-use Rattle.std.proofs.Common.{◌≡◌, ◌≢◌, ℕ, ◌^◌, ◌<◌, List, [], ◌∷◌, ◌++◌, Bool, true, false, not, ◌&&◌, nat_le, length, ◌==◌, if◌then◌else◌, Option, Some, None, refl, arith, All, ⊎_elim}
+use Rattle.std.proofs.Common.{◌≡◌, ◌≢◌, ℕ, ◌^◌, ◌<◌, List, [], ◌∷◌, ◌++◌, Bool, true, false, not, ◌&&◌, nat_le, length, ◌==◌, Option, Some, None, refl, arith, All, ⊎_elim}
 use Rattle.std.specs.Fmt.{decimal}
 use Rattle.std.specs.List.{list_all, last_or}
 use Rattle.std.specs.Str.{all_ascii_digits}

@@ -1,10 +1,11 @@
 -- Vectors, lane by lane: how one is written, and how many bytes there are.
-use Rattle.std.proofs.Common.{◌≡◌, ℕ, zero, suc, ◌+◌, ◌-◌, ◌*◌, ◌/◌, ◌%◌, ◌<◌, ◌≤◌, List, [], ◌∷◌, ◌++◌, take, drop, length, set, min, refl, arith, ap, sym, ◌∙◌, append_assoc, length-append, length-take, rules}
+use Rattle.std.proofs.Common.{◌≡◌, ℕ, zero, suc, ◌+◌, ◌-◌, ◌*◌, ◌<◌, ◌≤◌, List, [], ◌∷◌, ◌++◌, take, drop, length, set, refl, arith, ap, append_assoc, length-append, length-take, rules}
 use Rattle.std.proofs.lemmas.List.{drop-drop, take_at, take_all}
 use Rattle.pf_isa.specs.Bytes.{number, bytes, lanes, packed, map2}
 use Rattle.pf_neon.specs.declared.op.Lanes.{Lanes}
 use Rattle.pf_neon.specs.declared.op.Lanes.TheVariants.{Bytes, Halves, Words}
-use Rattle.pf_neon.specs.Forms.{width, count, lanewise}
+use Rattle.pf_neon.specs.Forms.{width, count}
+use Rattle.pf_neon.specs.LaneLengths.{length-bytes}
 
 set_four : (xs : List ℕ) (n a b c d : ℕ) → suc (suc (suc (suc n))) ≤ length xs → set (set (set (set xs n a) (suc n) b) (suc (suc n)) c) (suc (suc (suc n))) d ≡ take n xs ++ (a ∷ b ∷ c ∷ d ∷ drop (suc (suc (suc (suc n)))) xs)
 set_four (x ∷ y ∷ z ∷ w ∷ xs) zero a b c d h = refl
@@ -22,10 +23,6 @@ four_set xs n a b c d h =
     let three : n + 3 ≡ suc (suc (suc n)) = omega arith in
     let four : n + 4 ≡ suc (suc (suc (suc n))) = omega arith in
     rw (one, two, three, four) (set_four xs n a b c d (omega arith))
-
-pub length-bytes : (many n : ℕ) → length (bytes many n) ≡ many
-length-bytes zero n = refl
-length-bytes (suc many) n = ap suc (length-bytes many (n / 256))
 
 -- what stands in front when lane i is written too
 front_more : (w i n : ℕ) (v v' : List ℕ) → w * i + w ≤ length v → v' ≡ take (w * i) v ++ (bytes w n ++ drop (w * i + w) v) → take (w * (i + 1)) v' ≡ take (w * i) v ++ bytes w n
@@ -63,32 +60,6 @@ pub filled : (l : Lanes) (i : ℕ) → count l ≤ i → 16 ≤ width l * i
 filled Bytes i h = omega arith
 filled Halves i h = omega arith
 filled Words i h = omega arith
-
-length-lanes : (w many : ℕ) (v : List ℕ) → length (lanes w many v) ≡ many
-length-lanes w zero v = refl
-length-lanes w (suc many) v = ap suc (length-lanes w many (drop w v))
-
-length-map2 : (f : ℕ → ℕ → ℕ) (xs ys : List ℕ) → length xs ≡ length ys → length (map2 f xs ys) ≡ length xs
-length-map2 f [] ys e = refl
-length-map2 f (x ∷ xs) [] e = absurd (omega arith)
-length-map2 f (x ∷ xs) (y ∷ ys) e = ap suc (length-map2 f xs ys (omega arith))
-
-length-packed : (w : ℕ) (xs : List ℕ) → length (packed w xs) ≡ w * length xs
-length-packed w [] = omega arith
-length-packed w (x ∷ xs) = rw (length-append (bytes w x) (packed w xs), length-bytes w x, length-packed w xs) (omega arith)
-
-width-count : (l : Lanes) → width l * count l ≡ 16
-width-count Bytes = refl
-width-count Halves = refl
-width-count Words = refl
-
--- a vector that is made lane by lane has 16 bytes
-pub length-lanewise : (l : Lanes) (f : ℕ → ℕ → ℕ) (a b : List ℕ) → length (lanewise l f a b) ≡ 16
-length-lanewise l f a b =
-    let w = width l in
-    let n = count l in
-    let alike : length (lanes w n a) ≡ length (lanes w n b) = length-lanes w n a ∙ sym (length-lanes w n b) in
-    rw (length-packed w (map2 f (lanes w n a) (lanes w n b)), length-map2 f (lanes w n a) (lanes w n b) alike, length-lanes w n a) (width-count l)
 
 -- no lane is written yet
 pub lanes_none : (w : ℕ) (f : ℕ → ℕ → ℕ) (many : ℕ) (a b v : List ℕ) → take (w * 0) v ++ rest w f (many - 0) 0 a b ≡ packed w (map2 f (lanes w many a) (lanes w many b))

@@ -1,3 +1,1 @@
 pub mod LaneLaws
-pub mod FormLaws
-pub mod ControlLaws

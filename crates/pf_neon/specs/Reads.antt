@@ -1,9 +1,9 @@
 -- Which instruction a tight line may be: the word at its front and its numbers in order tell it.
 -- Whether it is that instruction is told by printing it.
-use Rattle.std.specs.Prelude.{ℕ, ◌*◌, ◌/◌, List, [], length, Bool, true, false, ◌&&◌, ◌||◌, nat_lt, nat_le, ◌==◌, if◌then◌else◌, Option, Some, None, option_and_then, codes}
+use Rattle.std.specs.Prelude.{ℕ, ◌*◌, ◌/◌, List, length, Bool, true, false, ◌||◌, nat_lt, ◌==◌, if◌then◌else◌, Option, Some, None, option_and_then, codes}
 use Rattle.pf_isa.specs.declared.control.Control.{Control}
 use Rattle.pf_isa.specs.declared.control.Control.TheVariants.{LoadPtr, StorePtr, Imm, AddImm, AddReg, LoadByte, LoadHalf, StoreByte, StoreHalf, Compare, Below, Jump, Return}
-use Rattle.pf_isa.specs.Scan.{behind, next_number, number_at, then_behind, then_with, by_word}
+use Rattle.pf_isa.specs.Scan.{behind, next_number, then_with, by_word}
 use Rattle.pf_neon.specs.declared.op.Form.{Form}
 use Rattle.pf_neon.specs.declared.op.Form.TheVariants.{Load, Store, Copy, Lanewise}
 use Rattle.pf_neon.specs.declared.op.Lanes.{Lanes}

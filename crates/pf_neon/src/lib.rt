@@ -3,7 +3,9 @@
 
 mod lane;
 mod lines;
+mod neon;
 mod op;
 mod reads;
 
+pub use neon::Neon;
 pub use op::{Form, Lanes, Mnemonic, Op};

@@ -1,5 +1,5 @@
-use Rattle.std.proofs.Common.{◌≡◌, ◌++◌, ◌^◌, ◌<◌, drop, take}
-use Rattle.pf_isa.specs.Scan.{behind, leading_digits, behind_digits, from_digit, number_on}
+use Rattle.std.proofs.Common.{◌≡◌, ◌^◌, ◌<◌, drop}
+use Rattle.pf_isa.specs.Scan.{number_on}
 use Rattle.pf_isa.proofs.scan.number_of.Given as goal
 
 abbrev pub invariant-loop-digit : goal.invariant-loop-digit

@@ -1,5 +1,5 @@
-use Rattle.std.proofs.Common.{◌≡◌, ◌++◌, ◌^◌, ◌<◌, drop, take}
-use Rattle.pf_isa.specs.Scan.{behind, leading_digits, behind_digits, from_digit, number_on}
+use Rattle.std.proofs.Common.{◌≡◌, ◌++◌, drop, take}
+use Rattle.pf_isa.specs.Scan.{leading_digits, behind_digits}
 use Rattle.pf_isa.proofs.scan.parted.Given as goal
 
 abbrev pub invariant-loop-i : goal.invariant-loop-i

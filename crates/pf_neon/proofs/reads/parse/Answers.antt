@@ -1,12 +1,9 @@
 use Rattle.std.proofs.Common.{◌≡◌, ◌<◌, None, Some, length, ◌∙◌, sym, ap}
 use Rattle.std.proofs.lemmas.Bool.{false≢true}
 use Rattle.pf_isa.specs.Lines.{tight}
-use Rattle.pf_isa.specs.Tables.{ReadsOp}
-use Rattle.pf_neon.specs.Forms.{IsForm}
 use Rattle.pf_neon.specs.Lines.{text}
-use Rattle.pf_neon.specs.Neon.{table}
 use Rattle.pf_neon.specs.Reads.{form_read}
-use Rattle.pf_neon.proofs.FormLaws.{no_long_form, no_form, no_other_form}
+use Rattle.pf_neon.specs.FormLaws.{no_long_form, no_form, no_other_form}
 use Rattle.pf_neon.proofs.reads.parse.Goals as goal
 
 pub returns-in_err-tight : goal.returns-in_err-tight

@@ -1,5 +1,5 @@
 -- A printed vector instruction is read back, and is short.
-use Rattle.std.proofs.Common.{◌≡◌, ℕ, ◌+◌, ◌*◌, ◌/◌, ◌^◌, ◌<◌, ◌≤◌, List, [], ◌∷◌, ◌++◌, Bool, true, false, nat_lt, ltb, length, Option, Some, None, refl, arith, ap, append_assoc, length-append}
+use Rattle.std.proofs.Common.{◌≡◌, ℕ, ◌*◌, ◌/◌, ◌^◌, ◌<◌, ◌≤◌, List, [], ◌++◌, Bool, false, length, Some, None, refl, arith, ap, append_assoc, length-append}
 use Rattle.std.specs.Prelude.{codes}
 use Rattle.std.specs.Fmt.{decimal}
 use Rattle.std.proofs.lemmas.Bool.{lt-ltb}
@@ -7,7 +7,6 @@ use Rattle.std.proofs.lemmas.Fmt.{length-decimal-le}
 use Rattle.pf_isa.specs.declared.registers.Reg.TheVariants.{V}
 use Rattle.pf_isa.specs.Lines.{tight, tight_on}
 use Rattle.pf_isa.specs.Tables.{IsOver, MeansOp}
-use Rattle.pf_isa.specs.Scan.{next_number, then_with}
 use Rattle.pf_isa.proofs.ScanLaws.{NoDigit}
 use Rattle.pf_isa.proofs.TightLaws.{next_tight, next_tight_last, length-tight}
 use Rattle.pf_neon.specs.declared.op.Form.{Form}
@@ -18,7 +17,7 @@ use Rattle.pf_neon.specs.declared.op.Mnemonic.TheVariants.{Umin}
 use Rattle.pf_neon.specs.Forms.{IsForm}
 use Rattle.pf_neon.specs.Lines.{suffix, vector_text, place_text, text}
 use Rattle.pf_neon.specs.Neon.{table}
-use Rattle.pf_neon.specs.Reads.{below, lanes_of, place_read, form_read}
+use Rattle.pf_neon.specs.Reads.{below, place_read, form_read}
 
 -- a number below the limit is read from a tight line
 pub below_tight : (limit : ℕ) (free : Bool) (n : ℕ) (t : List ℕ) → n < limit → limit ≤ 2 ^ 32 → NoDigit (tight_on false t) → below limit (tight_on free (decimal n ++ t)) ≡ Some (n, tight_on false t)

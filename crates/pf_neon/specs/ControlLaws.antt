@@ -1,6 +1,6 @@
 -- A printed control instruction is read back, and is short.
-use Rattle.std.proofs.Common.{◌≡◌, ℕ, ◌+◌, ◌*◌, ◌/◌, ◌%◌, ◌^◌, ◌<◌, ◌≤◌, List, [], ◌∷◌, ◌++◌, Bool, true, false, ◌&&◌, ◌||◌, not, nat_lt, nat_le, ◌==◌, if◌then◌else◌, length, Option, Some, None, refl, arith, ap, sym, ◌∙◌, append_assoc, length-append, ⊎_elim, inl, inr, ◌⊎◌}
-use Rattle.std.specs.Prelude.{codes, IsTrue}
+use Rattle.std.proofs.Common.{◌≡◌, ℕ, ◌*◌, ◌/◌, ◌%◌, ◌^◌, ◌<◌, ◌≤◌, List, [], ◌∷◌, ◌++◌, Bool, true, false, ◌&&◌, ◌||◌, not, nat_lt, nat_le, ◌==◌, length, Some, None, refl, arith, ap, length-append, ⊎_elim, inl, inr, ◌⊎◌}
+use Rattle.std.specs.Prelude.{codes}
 use Rattle.std.specs.Fmt.{decimal}
 use Rattle.std.proofs.lemmas.Bool.{cases_Bool, and_parts, eqb-true, leb-true, le-leb}
 use Rattle.std.proofs.lemmas.Bool.Decides.{nat_tests}
@@ -9,14 +9,14 @@ use Rattle.pf_ints.specs.Words.{is_name, is_spelled, is_reserved}
 use Rattle.pf_isa.specs.declared.control.Control.{Control}
 use Rattle.pf_isa.specs.declared.control.Control.TheVariants.{LoadPtr, StorePtr, Imm, AddImm, AddReg, LoadByte, LoadHalf, StoreByte, StoreHalf, Compare, Below, Jump, Return}
 use Rattle.pf_isa.specs.Control.{IsControl, is_offset}
-use Rattle.pf_isa.specs.Lines.{tight, tight_on, tight_pending}
+use Rattle.pf_isa.specs.Lines.{tight, tight_on}
 use Rattle.pf_isa.specs.Tables.{MeansControl}
 use Rattle.pf_isa.proofs.ScanLaws.{NoDigit}
 use Rattle.pf_isa.proofs.TightLaws.{tight_pending-name, length-tight}
-use Rattle.pf_neon.specs.Lines.{general_text, value_text, at_text, place_text, offset_text, sum_word, control_text}
+use Rattle.pf_neon.specs.Lines.{general_text, at_text, place_text, offset_text, sum_word, control_text}
 use Rattle.pf_neon.specs.Neon.{table}
 use Rattle.pf_neon.specs.Reads.{below, two_read, entry_read, sum_read, label_read, control_read}
-use Rattle.pf_neon.proofs.FormLaws.{below_tight, below_last}
+use Rattle.pf_neon.specs.FormLaws.{below_tight, below_last}
 
 -- a register that isn't the last thing of its line
 role_back : (n : ℕ) (t : List ℕ) → n < 8 → NoDigit (tight_on false t) → below 8 (tight_on false (decimal n ++ t)) ≡ Some (n, tight_on false t)
@@ -163,7 +163,7 @@ length-sum_word : (down : Bool) → length (sum_word down) ≡ 4
 length-sum_word true = refl
 length-sum_word false = refl
 
-offset_most : (down : Bool) (by : ℕ) → is_offset down by ≡ true → by < 2 ^ 32
+pub offset_most : (down : Bool) (by : ℕ) → is_offset down by ≡ true → by < 2 ^ 32
 offset_most down by h =
     ⊎_elim
     (λ (small : by ≤ 4095). omega arith)
