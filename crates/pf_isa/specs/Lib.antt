@@ -8,3 +8,8 @@ pub mod Memory
 pub mod Steps
 pub mod Heads
 pub mod Programs
+pub mod Texts
+pub mod Blocks
+pub mod Runs
+pub mod RowEnds
+pub mod Moved

@@ -11,6 +11,7 @@ mod program;
 mod registers;
 mod scan;
 mod tight;
+mod write;
 
 pub use access::Access;
 pub use block::{Block, Item, ItemList};
@@ -22,3 +23,4 @@ pub use program::{Head, Program};
 pub use registers::{Reg, RegFile, RegList, VectorList};
 pub use scan::{behind, checked, next_number, number_at};
 pub use tight::{ShortLine, tighten};
+pub use write::{push_number, write_text};

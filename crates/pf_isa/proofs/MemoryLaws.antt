@@ -1,0 +1,1 @@
+-- What loads and stores give in regions that are apart.

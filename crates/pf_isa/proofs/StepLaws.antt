@@ -1,0 +1,1 @@
+-- How a row goes on from the outcome of a step, and numbers in general registers.

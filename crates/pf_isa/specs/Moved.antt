@@ -1,0 +1,144 @@
+-- What control instructions of selected code may do: they move addresses and whole pixels, and never compute with pixels.
+use Rattle.std.specs.Prelude.{◌≡◌, ◌≢◌, ℕ, ◌+◌, ◌≤◌, List, [], ◌∷◌, map, sum, Bool, true, false, All, Contains, Option, Some, None, MatchOption, ◌⊎◌}
+use Rattle.pf_isa.specs.declared.control.Control.{Control}
+use Rattle.pf_isa.specs.declared.control.Control.TheVariants.{LoadPtr, StorePtr, Imm, AddImm, AddReg, LoadByte, LoadHalf, StoreByte, StoreHalf, Compare, Below, Jump, Return}
+use Rattle.pf_isa.specs.declared.code.Line.{Line}
+use Rattle.pf_isa.specs.declared.code.Line.TheVariants.{Vector, Control as Controls}
+use Rattle.pf_isa.specs.declared.code.Label.{Label}
+use Rattle.pf_isa.specs.Tables.{Table}
+
+-- the general registers by their roles
+abbrev t : ℕ
+t = 0
+
+abbrev n : ℕ
+n = 1
+
+abbrev s : ℕ
+s = 2
+
+abbrev x : ℕ
+x = 3
+
+abbrev u : ℕ
+u = 4
+
+abbrev p : ℕ
+p = 5
+
+abbrev v : ℕ
+v = 6
+
+abbrev e : ℕ
+e = 7
+
+-- the sum of the costs of the vector instructions
+abbrev pub line_cost : {I O : Type 0} → Table O → Line I O → ℕ
+line_cost table (Vector op) = table.cost op
+line_cost table (Controls c) = 0
+
+abbrev pub Work : {I O : Type 0} → Table O → List (Line I O) → ℕ
+Work table code = sum (map (line_cost table) code)
+
+-- the general register that an instruction writes
+abbrev pub written_by : Control → Option ℕ
+written_by (LoadPtr to base entry) = Some to
+written_by (Imm to number) = Some to
+written_by (AddImm to from down by) = Some to
+written_by (AddReg to left right) = Some to
+written_by (LoadByte to at) = Some to
+written_by (LoadHalf to at) = Some to
+written_by _ = None
+
+-- the fact holds of the control instruction
+abbrev pub OfControl : {I O : Type 0} → (Control → Type 0) → Line I O → Type 0
+OfControl P (Vector op) = Unit {0}
+OfControl P (Controls c) = P c
+
+-- an instruction that writes the register is such a one
+abbrev pub WritesOnly : {I O : Type 0} → ℕ → (Control → Type 0) → Line I O → Type 0
+WritesOnly r P = OfControl (λ c. written_by c ≡ Some r → P c)
+
+-- one of two registers; the sum of a register and x, in either order
+abbrev pub Either : ℕ → ℕ → ℕ → Type 0
+Either a b r = (r ≡ a) ⊎ (r ≡ b)
+
+abbrev pub WithPixel : ℕ → ℕ → ℕ → Type 0
+WithPixel r left right = ((left ≡ r) × (right ≡ x)) ⊎ ((left ≡ x) × (right ≡ r))
+
+abbrev pub MovesPixel : Control → Type 0
+MovesPixel (Imm to number) = Unit {0}
+MovesPixel (AddImm to from down by) = Either x n from
+MovesPixel _ = ⊥
+
+abbrev pub MovesTable : Control → Type 0
+MovesTable (AddImm to from down by) = (by ≡ 0) × Either s u from
+MovesTable _ = ⊥
+
+abbrev pub MovesEnd : ℕ → Control → Type 0
+MovesEnd taps (Imm to number) = Unit {0}
+MovesEnd taps (LoadPtr to base entry) = (base ≡ u) × (entry ≤ taps + 2)
+MovesEnd taps (AddImm to from down by) = (from ≡ x) ⊎ Either s e from
+MovesEnd taps (AddReg to left right) = WithPixel e left right
+MovesEnd taps _ = ⊥
+
+abbrev pub MovesPointer : Control → Type 0
+MovesPointer (LoadPtr to base entry) = Either t u base
+MovesPointer (AddImm to from down by) = Either s p from
+MovesPointer (AddReg to left right) = WithPixel p left right
+MovesPointer _ = ⊥
+
+abbrev pub MovesValue : Control → Type 0
+MovesValue (LoadByte to at) = at ≡ p
+MovesValue (LoadHalf to at) = at ≡ p
+MovesValue _ = ⊥
+
+-- a pixel is stored from v at e, and nothing else reads v
+abbrev pub StoresValue : Control → Type 0
+StoresValue (StoreByte at from) = (at ≡ e) × (from ≡ v)
+StoresValue (StoreHalf at from) = (at ≡ e) × (from ≡ v)
+StoresValue (StorePtr base entry from) = (base ≢ v) × (from ≢ v)
+StoresValue (LoadPtr to base entry) = base ≢ v
+StoresValue (AddImm to from down by) = from ≢ v
+StoresValue (AddReg to left right) = (left ≢ v) × (right ≢ v)
+StoresValue (LoadByte to at) = at ≢ v
+StoresValue (LoadHalf to at) = at ≢ v
+StoresValue (Compare left right) = (left ≢ v) × (right ≢ v)
+StoresValue _ = Unit {0}
+
+abbrev pub IsCounter : ℕ → Type 0
+IsCounter r = (r ≡ n) ⊎ Either x e r
+
+abbrev pub Compares : Control → Type 0
+Compares (Compare left right) = IsCounter left × IsCounter right
+Compares _ = Unit {0}
+
+abbrev pub StoresPointer : Control → Type 0
+StoresPointer (StorePtr base entry from) = (base ≡ s) × (from ≡ e)
+StoresPointer _ = Unit {0}
+
+-- each vector load and store goes through p
+abbrev pub AccessesPointer : {I O : Type 0} → Table O → Line I O → Type 0
+AccessesPointer table (Vector op) = MatchOption (table.access op) (Unit {0}) (λ a. a.base ≡ p)
+AccessesPointer table (Controls c) = Unit {0}
+
+-- the code of a program with so many taps
+pub record Moved {I O : Type 0} (table : Table O) (taps : ℕ) (code : List (Line I O)) (labels : List Label) : Type 0 where
+  -- the first instruction keeps t in u; no label stands before it, and nothing else writes u
+  pub rest : List (Line I O)
+  pub kept : code ≡ Controls (AddImm u t false 0) ∷ rest
+  pub kept_for_good : All (WritesOnly u (λ _. ⊥)) rest
+  pub no_label : All (λ l. 1 ≤ l.before) labels
+  -- n, s, x, t, e, p and v are written only so
+  pub count : All (WritesOnly n (λ c. c ≡ LoadPtr n u (taps + 2))) code
+  pub scratch : All (WritesOnly s (λ c. c ≡ LoadPtr s u (taps + 1))) code
+  pub pixel : All (WritesOnly x MovesPixel) code
+  pub pointers : All (WritesOnly t MovesTable) code
+  pub end : All (WritesOnly e (MovesEnd taps)) code
+  pub pointer : All (WritesOnly p MovesPointer) code
+  pub value : All (WritesOnly v MovesValue) code
+  -- v is stored alone, n, x and e are compared alone, and e is kept in the scratch's table alone
+  pub value_stored : All (OfControl StoresValue) code
+  pub compared : All (OfControl Compares) code
+  pub pointer_stored : All (OfControl StoresPointer) code
+  pub accesses : All (AccessesPointer table) code
