@@ -1,3 +1,7 @@
+pub mod Fronts
+pub mod ScanLaws
+pub mod TightLaws
+pub mod QuietLaws
 pub mod ByteLaws
 pub mod MemoryLaws
 pub mod StepLaws
