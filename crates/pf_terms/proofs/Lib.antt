@@ -1,3 +1,4 @@
 pub mod Typing
 pub mod Printing
 pub mod Nodes
+pub mod Bounds

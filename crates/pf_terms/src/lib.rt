@@ -9,6 +9,7 @@ mod print;
 mod row;
 mod term;
 mod types;
+mod values;
 mod weights;
 
 pub use fault::TermFault;
