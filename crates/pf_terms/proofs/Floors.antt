@@ -21,7 +21,7 @@ order a b = elim (cases_lt (up b + down a) (up a + down b)) [ inl h ↦ inr (ome
 pub floor_least : (z b : ℤ) (m : ℕ) → 0 < m → (b *ℤ pos m) ≤ℤ z → b ≤ℤ floor_div z m
 floor_least z b m some h =
     elim (order b (floor_div z m)) [
-      inl le ↦ le
+      | inl le ↦ le
       | inr past ↦ absurd (omega (arith, ints, h, floor_split z m some, floor_mod_below z m some, times (floor_div z m +ℤ pos 1) b m (omega (arith, ints, past)), distribute_left (floor_div z m) (pos 1) (pos m)))
     ]
 
@@ -29,7 +29,7 @@ floor_least z b m some h =
 pub floor_greatest : (z b : ℤ) (m : ℕ) → 0 < m → z <ℤ ((b +ℤ pos 1) *ℤ pos m) → floor_div z m ≤ℤ b
 floor_greatest z b m some h =
     elim (order (floor_div z m) b) [
-      inl le ↦ le
+      | inl le ↦ le
       | inr past ↦ absurd (omega (arith, ints, h, floor_split z m some, times (b +ℤ pos 1) (floor_div z m) m (omega (arith, ints, past))))
     ]
 
@@ -47,8 +47,7 @@ shrink (negsuc n) m h some = omega (arith, ints, mul-le-mul_left (suc n) some)
 -- a quotient lies between the number and 0, also where up to a whole step less one is added to the number
 pub floor_toward : (x l g : ℤ) (h m : ℕ) → h < m → l ≤ℤ pos 0 → pos 0 ≤ℤ g → l ≤ℤ x → x ≤ℤ g → (l ≤ℤ floor_div (x +ℤ pos h) m) × (floor_div (x +ℤ pos h) m ≤ℤ g)
 floor_toward x l g h m below low high least greatest =
-    let some : 0 < m = omega (arith, below) in
-    (
+    let some : 0 < m = omega (arith, below) in (
       floor_least (x +ℤ pos h) l m some (omega (arith, ints, shrink l m low some, least)),
-      floor_greatest (x +ℤ pos h) g m some (omega (arith, ints, grow g m high some, greatest, below, distribute_left g (pos 1) (pos m)))
+      floor_greatest (x +ℤ pos h) g m some (omega (arith, ints, grow g m high some, greatest, below, distribute_left g (pos 1) (pos m))),
     )

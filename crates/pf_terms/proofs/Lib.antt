@@ -6,3 +6,4 @@ pub mod Floors
 pub mod Ranges
 pub mod NodeRanges
 pub mod TermRanges
+pub mod Evaluating

@@ -84,10 +84,9 @@ operands_typed (t ∷ ts) n us f h =
     let first = first_type (typing t) n (map typing ts) us h in
     let rest = gathered_types (types_from (n + 1) (map typing ts)) first.0 us first.2 in
     let more = operands_typed ts (n + 1) rest.0 (and_right (is_well_formed t) _ f) rest.1 in
-    let same = typing_stated t first.0 first.1 in
-    (
+    let same = typing_stated t first.0 first.1 in (
       (record { formed = and_left _ (all_true (map is_well_formed ts)) f; typed = first.1 ∙ ap (λ v. Ok v) (sym same) }, more.0),
-      rest.2 ∙ ap (λ v. v ∷ rest.0) (sym same) ∙ ap (λ vs. stated_type t ∷ vs) more.1
+      rest.2 ∙ ap (λ v. v ∷ rest.0) (sym same) ∙ ap (λ vs. stated_type t ∷ vs) more.1,
     )
 
 found_types : (r : Row) (ty u : LaneType) (k : ℕ) (o : Result (List LaneType) TermFault) → then_node r ty k o ≡ Ok u → (ts : List LaneType) × (o ≡ Ok ts) × (node_type r ty k ts ≡ Ok u)
@@ -142,8 +141,8 @@ layer_keeps env (LeafLayer leaf ty) = subst (KeepsType env) (sym (rolls-Leaf lea
 layer_keeps env (NodeLayer op ty k ps) =
     let args = map (λ p. p.0) ps in
     subst (KeepsType env) (sym (rolls-Node op ty k args)) (λ typed h.
-      let parts = typed_node op ty k args typed in
-      node_keeps env op ty k args parts (operands_in env ps parts.operands (sym (env_node env op ty k args) ∙ h)))
+    let parts = typed_node op ty k args typed in
+    node_keeps env op ty k args parts (operands_in env ps parts.operands (sym (env_node env op ty k args) ∙ h)))
 
 pub value_in_type : (env : Env) (t : Term) → KeepsType env t
 value_in_type env = ind-Term (KeepsType env) (λ x y is. subst (λ z. KeepsType env (roll-Term z)) is (layer_keeps env y))

@@ -20,4 +20,5 @@ pub use print::{print_term, write_term, write_type};
 pub use row::{Amounts, Gives, Operands, Spelling};
 pub use term::{Env, Leaf, Term, Terms};
 pub use types::type_of;
+pub use values::value;
 pub use weights::weight;

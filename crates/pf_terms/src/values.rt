@@ -8,6 +8,26 @@ use crate::op::Op;
 use crate::term::{Env, Leaf, Term};
 use pf_ints::{LaneType, sat, wrap};
 
+/// The value of a well-typed term, where the environment has a number of the right type for each
+/// of its leaves.
+pub fn value(term: &Term, env: &Env) -> i128
+    requires typed { IsWellTyped term.now }
+    requires entries { is_env_of env.now term.now ≡ true }
+    ensures value { result ≡ Val env.now term.now }
+    ensures member { IsIn (stated_type term.now) result }
+{
+    match term {
+        Term::Leaf { leaf, ty } => of_leaf(*leaf, *ty, env),
+        Term::Node { op, ty, k, args } => {
+            let mut values = [0; 4];
+            for (n, arg) in args.as_slice().iter().enumerate() {
+                values[n] = value(arg, env);
+            }
+            applied(*op, *ty, *k, &values[..args.len()])
+        }
+    }
+}
+
 fn of_leaf(leaf: Leaf, ty: LaneType, env: &Env) -> i128
     requires { is_env_leaf env.now leaf ty ≡ true }
     ensures { result ≡ leaf_value env.now leaf }
