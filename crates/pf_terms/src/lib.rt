@@ -9,6 +9,7 @@ mod print;
 mod row;
 mod term;
 mod types;
+mod values;
 mod weights;
 
 pub use fault::TermFault;
@@ -19,4 +20,5 @@ pub use print::{print_term, write_term, write_type};
 pub use row::{Amounts, Gives, Operands, Spelling};
 pub use term::{Env, Leaf, Term, Terms};
 pub use types::type_of;
+pub use values::value;
 pub use weights::weight;
