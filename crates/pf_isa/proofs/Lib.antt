@@ -3,3 +3,4 @@ pub mod MemoryLaws
 pub mod StepLaws
 pub mod RowLaws
 pub mod TextLaws
+pub mod MachineLaws

@@ -7,8 +7,10 @@ mod code;
 mod control;
 mod isa;
 mod memory;
+mod memory_access;
 mod program;
 mod registers;
+mod steps;
 mod write;
 
 pub use access::Access;
@@ -19,4 +21,5 @@ pub use isa::Isa;
 pub use memory::{Region, RegionList};
 pub use program::{Head, Program};
 pub use registers::{Reg, RegFile, RegList, VectorList};
+pub use steps::Trap;
 pub use write::push_number;
