@@ -8,6 +8,7 @@ use Rattle.pf_isa.specs.declared.memory.Region.{Region}
 use Rattle.pf_isa.specs.declared.code.Line.{Line}
 use Rattle.pf_isa.specs.declared.code.Line.TheVariants.{Vector, Control as Controls}
 use Rattle.pf_isa.specs.declared.code.Label.{Label}
+use Rattle.pf_isa.specs.Bytes.{packed}
 use Rattle.pf_isa.specs.Tables.{Table, IsFile, IsOver}
 use Rattle.pf_isa.specs.Memory.{nowhere, Apart}
 use Rattle.pf_isa.specs.Programs.{Text, IsProgram, jumps_to}
@@ -53,9 +54,9 @@ abbrev pub rewritten : List Region → List ℕ → Option ℕ → List Region
 rewritten regions new None = regions
 rewritten regions new (Some k) = slice_set regions k (record (slice_index_or regions k nowhere) { bytes = new })
 
--- the memory with these bytes in the table
+-- the memory with these entries in the table
 abbrev pub with_entries : List Region → ℕ → List ℕ → List Region
-with_entries regions table new = rewritten regions new (position (is_table table (length new)) regions)
+with_entries regions table entries = rewritten regions (packed 8 entries) (position (is_table table (8 * length entries)) regions)
 
 -- there is a table of so many bytes
 abbrev pub HasTable : List Region → ℕ → ℕ → Type 0
