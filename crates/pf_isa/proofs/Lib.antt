@@ -4,3 +4,4 @@ pub mod StepLaws
 pub mod RowLaws
 pub mod TextLaws
 pub mod MachineLaws
+pub mod RunLaws
