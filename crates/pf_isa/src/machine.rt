@@ -56,7 +56,11 @@ impl<I: Isa> Machine<I> {
         ensures { IfOk result (λ m. m ≡ record { text = program; state = started I.table 0 regions }) }
     {
         let _head = program.head();
-        let places = destinations(alloc, program.code().as_slice(), program.labels().as_slice())?;
+        let places = destinations(
+            alloc,
+            program.code().as_slice(),
+            program.labels().as_slice(),
+        )?;
         let core = Core {
             at: 0,
             general: [0; 8],

@@ -1,7 +1,7 @@
 ghost use Rattle.std.specs.Prelude.{◌≡◌, ◌+◌, ◌-◌, ◌<◌, ◌≤◌, ◌*◌, ◌^◌, [], length, slice_index, slice_index_or, true, false, Err};
 ghost use Rattle.pf_isa.specs.Control.{IsControl};
 ghost use Rattle.pf_isa.specs.Tables.{IsOver};
-ghost use Rattle.pf_isa.specs.Steps.{pointer_bytes, wrapped, sum_of, with_general, load_step, store_step, control_step, access_step, by_access, line_step};
+ghost use Rattle.pf_isa.specs.Steps.{pointer_bytes, wrapped, sum_of, general_of, with_general, load_step, store_step, control_step, access_step, by_access, line_step};
 ghost use Rattle.pf_isa.specs.Machines.{state_of, IsState, IsLineOver, Answers};
 
 use crate::access::Access;
@@ -18,11 +18,7 @@ use pf_ints::Target;
 pub enum Trap {
     /// The instruction of this number, counted from 1, loads or stores so many bytes at the
     /// address, which don't all lie in one region that allows it.
-    Outside {
-        at: u64,
-        address: u64,
-        length: u32,
-    },
+    Outside { at: u64, address: u64, length: u32 },
     /// So many steps were taken without a return.
     Spent { steps: u64 },
 }
@@ -132,12 +128,7 @@ fn store_number(from: u8, address: u64, count: u8, core: &mut Core) -> Result<bo
 }
 
 /// A step of a control instruction that goes on at `place` where it jumps.
-fn run_control(
-    target: Target,
-    place: u64,
-    control: Control,
-    core: &mut Core,
-) -> Result<bool, Trap>
+fn run_control(target: Target, place: u64, control: Control, core: &mut Core) -> Result<bool, Trap>
     requires control { IsControl control }
     requires registers { length core.old.general ≡ 8 }
     requires room { core.old.at + 1 < 2 ^ 64 }
@@ -193,6 +184,15 @@ fn run_control(
     }
 }
 
+fn access_address(target: Target, access: Access, core: &Core) -> u64
+    requires base { access.base < 8 }
+    requires registers { length core.now.general ≡ 8 }
+    ensures { result ≡ wrapped target (general_of (state_of core.now) access.base + access.offset) }
+{
+    let base = core.general[usize::from(access.base)];
+    wrapped(target, u128::from(base) + u128::from(access.offset))
+}
+
 /// The bytes of a vector.
 #[tactic(auto, using(std::proofs::lemmas::Option::get_or_from_slice_get))]
 fn held_in(file: &RegFile, vector: u32) -> &[u8]
@@ -212,8 +212,7 @@ fn run_load<I: Isa>(access: Access, core: &mut Core) -> Result<bool, Trap>
     ensures value { Answers (access_step I.TARGET I.VECTOR access (state_of core.old)) result (state_of core.old) (state_of core.new) }
     ensures state { IsState I.table (state_of core.new) }
 {
-    let base = u128::from(core.general[usize::from(access.base)]);
-    let address = wrapped(I::TARGET, base + u128::from(access.offset));
+    let address = access_address(I::TARGET, access, core);
     match readable_bytes(&core.regions, address, I::VECTOR as usize) {
         None => Err(outside(core, address, I::VECTOR)),
         Some(held) => {
@@ -236,8 +235,7 @@ fn run_store<I: Isa>(access: Access, core: &mut Core) -> Result<bool, Trap>
     ensures value { Answers (access_step I.TARGET I.VECTOR access (state_of core.old)) result (state_of core.old) (state_of core.new) }
     ensures state { IsState I.table (state_of core.new) }
 {
-    let base = u128::from(core.general[usize::from(access.base)]);
-    let address = wrapped(I::TARGET, base + u128::from(access.offset));
+    let address = access_address(I::TARGET, access, core);
     let held = held_in(&core.file, access.vector);
     if !store(&mut core.regions, address, held) {
         return Err(outside(core, address, I::VECTOR));

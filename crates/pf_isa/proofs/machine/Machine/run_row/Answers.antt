@@ -22,8 +22,8 @@ loop-preserved g c =
     record {
       text = c.step.ensures.text ∙ c.loop.invariant.text;
       onwards =
-        ap (λ p. run g.I.Isa.table p.code p.labels (c.args.budget - (c.loop.counter + 1)) c.step.new.self.state) c.step.ensures.text
-        ∙ sym (run_on g.I.Isa.table c.loop.self.text.code c.loop.self.text.labels _ _ c.loop.self.state c.step.new.self.state less h) ∙ c.loop.invariant.onwards;
+          ap (λ p. run g.I.Isa.table p.code p.labels (c.args.budget - (c.loop.counter + 1)) c.step.new.self.state) c.step.ensures.text
+          ∙ sym (run_on g.I.Isa.table c.loop.self.text.code c.loop.self.text.labels _ _ c.loop.self.state c.step.new.self.state less h) ∙ c.loop.invariant.onwards;
     }
 
 pub returns-clause-value : goal.returns-clause-value
