@@ -8,6 +8,8 @@ mod op;
 mod print;
 mod row;
 mod term;
+#[cfg(test)]
+mod tests;
 mod types;
 mod values;
 mod weights;
