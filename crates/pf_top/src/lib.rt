@@ -1,0 +1,12 @@
+//! The commands of `pitchfork` over any store of files and any output.
+#![tactic(auto)]
+
+mod files;
+mod mem_files;
+mod mem_sink;
+mod sink;
+
+pub use files::{Files, FilesFault};
+pub use mem_files::{FileMap, MemFiles};
+pub use mem_sink::MemSink;
+pub use sink::Sink;
