@@ -50,6 +50,13 @@ faults_after (Err Memory) before = before
 faults_after (Err Failed) before = raised before
 faults_after (Err Missing) before = before
 
+-- the count of faults of the machine: one more after `Failed` and after `Missing`
+abbrev pub counted_after : {T : Type 0} → Result T FilesFault → ℕ → ℕ
+counted_after (Ok _) before = before
+counted_after (Err Memory) before = before
+counted_after (Err Failed) before = raised before
+counted_after (Err Missing) before = raised before
+
 -- what a write leaves
 abbrev pub Writes : {T : Type 0} → List ℕ → List ℕ → Option Contents → Option Contents → Result T FilesFault → Type 0
 Writes name bytes old new (Ok _) = Changes (Puts name bytes) old new

@@ -4,9 +4,13 @@
 mod files;
 mod mem_files;
 mod mem_sink;
+mod real_files;
+mod real_sink;
 mod sink;
 
 pub use files::{Files, FilesFault};
 pub use mem_files::{FileMap, MemFiles};
 pub use mem_sink::MemSink;
+pub use real_files::RealFiles;
+pub use real_sink::RealSink;
 pub use sink::Sink;
