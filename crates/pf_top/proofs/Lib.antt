@@ -1,1 +1,3 @@
 pub mod Stores
+pub mod Readings
+pub mod LeastLaws

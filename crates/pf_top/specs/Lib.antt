@@ -1,2 +1,4 @@
 pub mod Counts
 pub mod Outside
+pub mod LeastKernels
+pub mod Reading

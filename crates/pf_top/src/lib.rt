@@ -2,6 +2,7 @@
 #![tactic(auto)]
 
 mod files;
+mod least;
 mod mem_files;
 mod mem_sink;
 mod real_files;
@@ -9,6 +10,7 @@ mod real_sink;
 mod sink;
 
 pub use files::{Files, FilesFault};
+pub use least::{LeastKernel, Side};
 pub use mem_files::{FileMap, MemFiles};
 pub use mem_sink::MemSink;
 pub use real_files::RealFiles;
