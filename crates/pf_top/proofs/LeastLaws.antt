@@ -7,7 +7,7 @@ use Rattle.pf_ints.specs.Words.{is_name, is_name_byte}
 use Rattle.pf_top.specs.declared.least.LeastKernel.{LeastKernel}
 use Rattle.pf_top.specs.declared.least.Side.{Side}
 use Rattle.pf_top.specs.declared.least.Side.TheVariants.{First, Second}
-use Rattle.pf_top.specs.LeastKernels.{image_of, line_end, least_text, IsLeastKernel}
+use Rattle.pf_top.specs.LeastKernels.{image_of, line_end, least_text, IsProper, IsLeastKernel}
 use Rattle.pf_top.specs.Reading.{on_field, side_of, kernel_of, least_of, field_of}
 use Rattle.pf_top.proofs.Readings.{IsField, ReadsOn, reads_on, field_back}
 
@@ -130,10 +130,12 @@ least_is text k e =
     let made = kernel_is a.n b.n c.n d.n f.n f.t k f.rest in
     record {
       text = joined text a.t b.t c.t d.t f.t a.n b.n c.n d.n f.n k a.field.whole b.field.whole c.field.whole d.field.whole f.field.whole made;
-      name = ap is_name made.name_is ∙ a.field.name;
-      first = ap is_name made.first_is ∙ b.field.name;
-      second = ap is_name made.second_is ∙ c.field.name;
-      different = λ same. made.different (sym made.first_is ∙ same ∙ made.second_is);
+      proper = record {
+        name = ap is_name made.name_is ∙ a.field.name;
+        first = ap is_name made.first_is ∙ b.field.name;
+        second = ap is_name made.second_is ∙ c.field.name;
+        different = λ same. made.different (sym made.first_is ∙ same ∙ made.second_is);
+      };
     }
 
 image_name : (k : LeastKernel) (s : Side) → is_name k.first ≡ true → is_name k.second ≡ true → is_name (image_of k s) ≡ true
@@ -146,17 +148,17 @@ step : {A : Type 0} (before n : List ℕ) (c : ℕ) (after t : List ℕ) (next :
 step before n c after t next name other = ap (option_and_then (λ p. next p.0 p.1)) (field_back before n c after t name other)
 
 -- the text of a kernel is read
-pub least_back : (k : LeastKernel) → is_name k.name ≡ true → is_name k.first ≡ true → is_name k.second ≡ true → k.first ≢ k.second → least_of (least_text k) ≡ Some k
+pub least_back : (k : LeastKernel) → IsProper k → least_of (least_text k) ≡ Some k
 unfolding least_of least_text
-least_back k name first second differs =
-    let left : is_name (image_of k k.left) ≡ true = image_name k k.left first second in
-    let right : is_name (image_of k k.right) ≡ true = image_name k k.right first second in
-    step (codes "kernel ") k.name 10 [] _ _ name refl
-    ∙ step (codes "image ") k.first 32 (codes "u8" ++ line_end) _ _ first refl
-    ∙ step (codes "image ") k.second 32 (codes "u8" ++ line_end) _ _ second refl
+least_back k proper =
+    let left : is_name (image_of k k.left) ≡ true = image_name k k.left proper.first proper.second in
+    let right : is_name (image_of k k.right) ≡ true = image_name k k.right proper.first proper.second in
+    step (codes "kernel ") k.name 10 [] _ _ proper.name refl
+    ∙ step (codes "image ") k.first 32 (codes "u8" ++ line_end) _ _ proper.first refl
+    ∙ step (codes "image ") k.second 32 (codes "u8" ++ line_end) _ _ proper.second refl
     ∙ step (codes "out u8 = min(") (image_of k k.left) 91 (codes "0,0], ") _ _ left refl
     ∙ step [] (image_of k k.right) 91 (codes "0,0])" ++ line_end) [] _ right refl
-    ∙ kernel_back k differs
+    ∙ kernel_back k proper.different
 
 pub kernel_where_read : (text : List ℕ) (o : Option LeastKernel) → o ≡ least_of text → IfSome o (IsLeastKernel text)
 kernel_where_read text None e = tt
@@ -164,6 +166,6 @@ kernel_where_read text (Some k) e = least_is text k (sym e)
 
 pub no_kernel_else : (text : List ℕ) (o : Option LeastKernel) → o ≡ least_of text → IfNone o ((k : LeastKernel) → IsLeastKernel text k → ⊥)
 no_kernel_else text None e = λ k is.
-    let back : least_of text ≡ Some k = ap least_of is.text ∙ least_back k is.name is.first is.second is.different in
+    let back : least_of text ≡ Some k = ap least_of is.text ∙ least_back k is.proper in
     cc
 no_kernel_else text (Some k) e = tt

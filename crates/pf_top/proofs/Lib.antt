@@ -1,3 +1,5 @@
 pub mod Stores
 pub mod Readings
 pub mod LeastLaws
+pub mod Selecting
+pub mod SixWords

@@ -24,10 +24,14 @@ least_text k =
     ∷ codes "image " ∷ k.second ∷ codes " u8" ∷ line_end
     ∷ codes "out u8 = min(" ∷ image_of k k.left ∷ codes "[0,0], " ∷ image_of k k.right ∷ codes "[0,0])" ∷ line_end ∷ [])
 
--- the bytes are the text of this kernel, and its names are names, the images' different ones
-pub record IsLeastKernel (bytes : List ℕ) (k : LeastKernel) : Type 0 where
-  pub text : bytes ≡ least_text k
+-- its names are names, and those of the images differ
+pub record IsProper (k : LeastKernel) : Type 0 where
   pub name : is_name k.name ≡ true
   pub first : is_name k.first ≡ true
   pub second : is_name k.second ≡ true
   pub different : k.first ≢ k.second
+
+-- the bytes are the text of this kernel
+pub record IsLeastKernel (bytes : List ℕ) (k : LeastKernel) : Type 0 where
+  pub text : bytes ≡ least_text k
+  pub proper : IsProper k

@@ -1,13 +1,16 @@
 //! The commands of `pitchfork` over any store of files and any output.
 #![tactic(auto)]
 
+mod command;
 mod files;
 mod least;
 mod mem_files;
 mod mem_sink;
 mod real_files;
 mod real_sink;
+mod select;
 mod sink;
+mod verdict;
 
 pub use files::{Files, FilesFault};
 pub use least::{LeastKernel, Side};
