@@ -3,3 +3,5 @@ pub mod Readings
 pub mod LeastLaws
 pub mod Selecting
 pub mod SixWords
+pub mod Telling
+pub mod SameWords

@@ -22,7 +22,7 @@ changes_then P Q R f (Some m) None c p q = absurd p
 changes_then P Q R f (Some m) (Some n) None p q = absurd q
 changes_then P Q R f (Some m) (Some n) (Some o) p q = f m n o p q
 
-changes_weaker : {T : Type 0} (P Q : T → T → Type 0) → ((m n : T) → P m n → Q m n) → (a b : Option T) → Changes P a b → Changes Q a b
+pub changes_weaker : {T : Type 0} (P Q : T → T → Type 0) → ((m n : T) → P m n → Q m n) → (a b : Option T) → Changes P a b → Changes Q a b
 changes_weaker P Q f None b p = p
 changes_weaker P Q f (Some m) None p = p
 changes_weaker P Q f (Some m) (Some n) p = f m n p

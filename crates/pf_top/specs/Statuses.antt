@@ -30,15 +30,13 @@ named_line head name = head ++ (name ++ line_end)
 unfoldable pub usage : Due
 usage = due 2 (codes "usage: pitchfork select|check|run|eval|explain|demo" ++ line_end)
 
--- what is due at each verdict of `select` but at Done, where nothing is put
-unfoldable pub due_at : Select → Verdict → Due
-due_at s Done = record { status = 0; line = []; poor_status = 0; poor_line = [] }
-due_at s TargetNotBuilt = due 8 (named_line (codes "not built: ") (target_word s.target))
-due_at s (NotBuilt w) = due 8 (named_line (codes "not built: ") (file_name s w))
-due_at s (Missing w) = due 3 (named_line (codes "no file: ") (file_name s w))
-due_at s (ReadFailed w) = due 3 (named_line (codes "read failed: ") (file_name s w))
-due_at s WriteFailed = record { status = 4; line = named_line (codes "write failed: ") s.out; poor_status = 4; poor_line = [] }
-due_at s Memory = record { status = 13; line = memory_line; poor_status = 13; poor_line = [] }
+-- what is due where memory is wanting
+unfoldable pub wanting : Due
+wanting = record { status = 13; line = memory_line; poor_status = 13; poor_line = [] }
+
+-- what is due where the write of the text failed: 4, also where memory is wanting for its line
+unfoldable pub write_failed : List ℕ → Due
+write_failed name = record { status = 4; line = named_line (codes "write failed: ") name; poor_status = 4; poor_line = [] }
 
 -- what is seen of an output at a moment
 pub record Output : Type 0 where
@@ -70,12 +68,12 @@ pub record Wanted (d : Due) (before : Output) (answer : ℕ) (after : Output) : 
 abbrev pub Told : Due → Output → ℕ → Output → Type 0
 Told d before answer after = Said d before answer after ⊎ Failed d before answer after ⊎ Wanted d before answer after
 
--- what was answered and put at a verdict: at Done 0 and nothing
+-- what is answered and put at each verdict of `select`; at Done it is 0, and nothing is put
 abbrev pub Tells : Select → Verdict → Output → ℕ → Output → Type 0
 Tells s Done before answer after = (answer ≡ 0) × (after ≡ before)
-Tells s TargetNotBuilt before answer after = Told (due_at s TargetNotBuilt) before answer after
-Tells s (NotBuilt w) before answer after = Told (due_at s (NotBuilt w)) before answer after
-Tells s (Missing w) before answer after = Told (due_at s (Missing w)) before answer after
-Tells s (ReadFailed w) before answer after = Told (due_at s (ReadFailed w)) before answer after
-Tells s WriteFailed before answer after = Told (due_at s WriteFailed) before answer after
-Tells s Memory before answer after = Told (due_at s Memory) before answer after
+Tells s TargetNotBuilt before answer after = Told (due 8 (named_line (codes "not built: ") (target_word s.target))) before answer after
+Tells s (NotBuilt w) before answer after = Told (due 8 (named_line (codes "not built: ") (file_name s w))) before answer after
+Tells s (Missing w) before answer after = Told (due 3 (named_line (codes "no file: ") (file_name s w))) before answer after
+Tells s (ReadFailed w) before answer after = Told (due 3 (named_line (codes "read failed: ") (file_name s w))) before answer after
+Tells s WriteFailed before answer after = Told (write_failed s.out) before answer after
+Tells s Memory before answer after = Told wanting before answer after

@@ -8,6 +8,7 @@ use Rattle.pf_top.specs.declared.verdict.Verdict.TheVariants.{Done, TargetNotBui
 use Rattle.pf_top.specs.Counts.{raised, raised_by, Rose}
 use Rattle.pf_top.specs.LeastKernels.{IsLeastKernel}
 use Rattle.pf_top.specs.Outside.{Contents, SameContents, Puts, PutsPart, Changes}
+use Rattle.pf_top.specs.Statuses.{Output}
 use Rattle.pf_top.specs.Selections.{Select, Store, HasForm, judged, FaultsAre, CallsAre, Leads}
 
 -- the words that were lent
@@ -87,3 +88,7 @@ pub record Written (name text : List ℕ) (before : Store) (r : Result ⊤ Verdi
 abbrev pub verdict_of : Result ⊤ Verdict → Verdict
 verdict_of (Ok _) = Done
 verdict_of (Err v) = v
+
+-- what is seen of an output whose trait tells this
+abbrev pub seen_output : {T : Type 0} → (T → Option (List ℕ)) → (T → ℕ) → (T → ℕ) → T → Output
+seen_output written faults calls output = record { written = written output; faults = faults output; calls = calls output }

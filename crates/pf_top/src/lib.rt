@@ -8,8 +8,10 @@ mod mem_files;
 mod mem_sink;
 mod real_files;
 mod real_sink;
+mod report;
 mod select;
 mod sink;
+mod top;
 mod verdict;
 
 pub use files::{Files, FilesFault};
@@ -19,3 +21,4 @@ pub use mem_sink::MemSink;
 pub use real_files::RealFiles;
 pub use real_sink::RealSink;
 pub use sink::Sink;
+pub use top::pitchfork;
