@@ -20,5 +20,9 @@ pub use mem_files::{FileMap, MemFiles};
 pub use mem_sink::MemSink;
 pub use real_files::RealFiles;
 pub use real_sink::RealSink;
+pub use report::tell_want;
 pub use sink::Sink;
 pub use top::pitchfork;
+
+#[cfg(test)]
+mod tests;

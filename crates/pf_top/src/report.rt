@@ -24,7 +24,7 @@ fn named_line(alloc: Global, head: &[u8], name: &[u8]) -> Result<Vec<u8>, Memory
 
 /// Puts that memory is wanting, and answers 13, or 4 where the output failed.
 #[tactic(auto, unfolding(crate::specs::Statuses::wanting, crate::specs::Statuses::memory_line))]
-fn tell_want<S: Sink>(alloc: Global, out: &mut S) -> u8
+pub fn tell_want<S: Sink>(alloc: Global, out: &mut S) -> u8
     ensures told { Told wanting (seen_output S.written S.faults S.calls out.old) result
         (seen_output S.written S.faults S.calls out.new) }
     ensures calls { S.calls out.new ≡ raised (S.calls out.old) }
