@@ -1,5 +1,5 @@
-ghost use Rattle.std.specs.Prelude.{◌≡◌, ◌≢◌, ◌≤◌, pos, take, IfOk, OnErr, IsErrOf, IsTrue, ◌↔◌, Contains, Err, Some};
-ghost use Rattle.std.specs.BTreeMap.{get_by_text, IsUnchanged};
+ghost use Rattle.std.specs.Prelude.{◌≡◌, ◌≢◌, ◌≤◌, pos, [], take, IfOk, OnErr, IsErrOf, IsTrue, ◌↔◌, Contains, Err, Some};
+ghost use Rattle.std.specs.BTreeMap.{get_by_text, IsEmpty, IsUnchanged};
 ghost use Rattle.pf_top.specs.Counts.{raised};
 ghost use Rattle.pf_top.specs.Outside.{SameContents, Changes, IsFront, Lacks, HasCause, Writes, faults_after};
 
@@ -22,7 +22,12 @@ pub struct MemFiles {
 
 impl MemFiles {
     /// No files, and no call that is to fail. It takes no memory.
-    pub fn new(alloc: Global) -> MemFiles {
+    pub fn new(alloc: Global) -> MemFiles
+        ensures held { IsEmpty result.held }
+        ensures fails { result.fails ≡ [] }
+        ensures calls { result.calls ≡ 0 }
+        ensures faults { result.faults ≡ 0 }
+    {
         MemFiles {
             held: BTreeMap::new(alloc),
             fails: Sequence::new(alloc),

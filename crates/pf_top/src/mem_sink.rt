@@ -1,4 +1,4 @@
-ghost use Rattle.std.specs.Prelude.{◌≡◌, ◌≢◌, ◌≤◌, pos, OnErr, IsErrOf, ◌↔◌, Contains, Err, Some};
+ghost use Rattle.std.specs.Prelude.{◌≡◌, ◌≢◌, ◌≤◌, pos, [], OnErr, IsErrOf, ◌↔◌, Contains, Err, Some};
 ghost use Rattle.pf_top.specs.Counts.{raised};
 ghost use Rattle.pf_top.specs.Outside.{HasCause, Adds, faults_after};
 
@@ -19,7 +19,12 @@ pub struct MemSink {
 
 impl MemSink {
     /// Nothing written, and no call that is to fail. It takes no memory.
-    pub fn new(alloc: Global) -> MemSink {
+    pub fn new(alloc: Global) -> MemSink
+        ensures written { result.written ≡ [] }
+        ensures fails { result.fails ≡ [] }
+        ensures calls { result.calls ≡ 0 }
+        ensures faults { result.faults ≡ 0 }
+    {
         MemSink {
             written: Sequence::new(alloc),
             fails: Sequence::new(alloc),

@@ -20,7 +20,10 @@ pub struct RealFiles<H> {
 
 impl<H> RealFiles<H> {
     /// The files that the host reaches, with no call so far.
-    pub fn new(host: H) -> RealFiles<H> {
+    pub fn new(host: H) -> RealFiles<H>
+        ensures calls { result.calls ≡ 0 }
+        ensures faults { result.faults ≡ 0 }
+    {
         RealFiles {
             host,
             calls: 0,

@@ -16,7 +16,10 @@ pub struct RealSink<H> {
 
 impl<H> RealSink<H> {
     /// The output that the host prints to, with no call so far.
-    pub fn new(host: H) -> RealSink<H> {
+    pub fn new(host: H) -> RealSink<H>
+        ensures calls { result.calls ≡ 0 }
+        ensures faults { result.faults ≡ 0 }
+    {
         RealSink {
             host,
             calls: 0,
