@@ -5,3 +5,5 @@ pub mod Selecting
 pub mod SixWords
 pub mod Telling
 pub mod SameWords
+pub mod HeadLaws
+pub mod HeadlineLaws

@@ -2,6 +2,7 @@ pub mod Counts
 pub mod Outside
 pub mod LeastKernels
 pub mod Reading
+pub mod Headline
 pub mod Selected
 pub mod Selections
 pub mod Statuses

@@ -10,6 +10,7 @@ mod real_files;
 mod real_sink;
 mod report;
 mod select;
+mod selected;
 mod sink;
 mod top;
 mod verdict;

@@ -8,6 +8,7 @@ ghost use Rattle.pf_top.specs.Steps.{the_words, seen, Judged, Written, verdict_o
 use crate::command::Selection;
 use crate::files::{Files, FilesFault};
 use crate::least::{LeastKernel, read_least};
+use crate::selected::text_of;
 use crate::verdict::{FileWord, Verdict};
 use pf_ints::{Memory, Target};
 use std::alloc::Global;
@@ -92,15 +93,6 @@ fn judge_lower<F: Files>(alloc: Global, files: &mut F, name: &str) -> Result<(),
         return Err(Verdict::NotBuilt(FileWord::Lower));
     }
     Ok(())
-}
-
-/// The text that is selected for the kernel.
-#[tactic(auto, unfolding(crate::specs::Selected::IsSelected))]
-fn text_of(alloc: Global, kernel: &LeastKernel) -> Result<Vec<u8>, Memory>
-    requires { IsProper kernel.now }
-    ensures { IfOk result (λ text. IsSelected kernel.now text.items) }
-{
-    Vec::from_slice(alloc, kernel.name.as_slice())
 }
 
 /// Writes the text.
