@@ -1,7 +1,7 @@
 -- What loads and stores give in regions that are apart.
-use Rattle.std.proofs.Common.{◌≡◌, ℕ, zero, suc, ◌+◌, ◌-◌, ◌*◌, ◌<◌, ◌≤◌, ◌⊎◌, inl, inr, ⊎_elim, List, [], ◌∷◌, ◌++◌, length, map, take, drop, set, get_or, Bool, true, false, ◌&&◌, Option, Some, None, ltb, refl, rules, arith, sym, ◌∙◌, ap, length-append, length-take, length-drop, append_assoc, replicate}
+use Rattle.std.proofs.Common.{◌≡◌, ℕ, zero, suc, ◌+◌, ◌-◌, ◌*◌, ◌<◌, ◌≤◌, ◌⊎◌, inl, inr, ⊎_elim, List, [], ◌∷◌, ◌++◌, length, map, take, drop, set, get_or, Bool, true, false, ◌&&◌, Option, Some, None, ltb, refl, rules, arith, sym, ◌∙◌, ap, length-append, length-take, length-drop, append_assoc}
 use Rattle.std.specs.List.{AllPairs, position, position_or_len}
-use Rattle.std.proofs.lemmas.List.{get_or-map, length-map, map-append, take_at, drop_at, drop-drop, drop-take, take-take, get_or_append_left, get_or_at, set_at, length-replicate}
+use Rattle.std.proofs.lemmas.List.{get_or-map, length-map, map-append, take_at, drop_at, drop-drop, drop-take, take-take, get_or_append_left, get_or_at, set_at}
 use Rattle.std.proofs.lemmas.List.Sums.{position_or_len_is}
 use Rattle.std.proofs.lemmas.Bool.Decides.{nat_tests}
 use Rattle.std.proofs.lemmas.Bool.{and_from, and_right, cond-true, lt-ltb}
@@ -9,9 +9,8 @@ use Rattle.std.proofs.Math.Seq.{take-add}
 use Rattle.pf_ints.specs.Images.{Picture}
 use Rattle.pf_terms.specs.Kernels.{no_picture}
 use Rattle.pf_isa.specs.declared.memory.Region.{Region}
-use Rattle.pf_isa.specs.declared.program.Head.{Head}
 use Rattle.pf_isa.specs.Memory.{holds, readable, writable, loaded, stored, Apart, nowhere, bytes_at, with_bytes}
-use Rattle.pf_isa.specs.Runs.{Places, IsPlaced, region, image_regions, memory, pixels_in_memory, table_size}
+use Rattle.pf_isa.specs.Runs.{Places, region, image_regions, memory, pixels_in_memory}
 
 -- n bytes from the address on lie in the region
 pub record LiesIn (r : Region) (address n : ℕ) : Type 0 where
@@ -118,12 +117,11 @@ extents-memory : (pictures : List Picture) (at : Places) (table other scratch ke
     → map extent (memory pictures at other kept left) ≡ map extent (memory pictures at table scratch output)
 extents-memory pictures at table other scratch kept output left one two three = rw (map-append extent, map-append extent, one, two, three) refl
 
--- what a placement's regions hold leaves them apart
-pub memory_apart : (h : Head) (pictures : List Picture) (at : Places) (scratch output table kept left : List ℕ) → IsPlaced h pictures at scratch output
-    → length table ≡ table_size h → length kept ≡ length scratch → length left ≡ length output → AllPairs Apart (memory pictures at table kept left)
-memory_apart h pictures at scratch output table kept left placed one two three =
-    let size : length table ≡ length (replicate (table_size h) 0) = one ∙ sym (length-replicate (table_size h) 0) in
-    apart_by_extents (memory pictures at (replicate (table_size h) 0) scratch output) (memory pictures at table kept left) (extents-memory pictures at _ table scratch kept output left size two three) placed.apart
+-- other bytes of the same sizes leave the regions of a run apart
+pub apart-memory : (pictures : List Picture) (at : Places) (table other scratch kept output left : List ℕ) → length other ≡ length table → length kept ≡ length scratch → length left ≡ length output
+    → AllPairs Apart (memory pictures at table scratch output) → AllPairs Apart (memory pictures at other kept left)
+apart-memory pictures at table other scratch kept output left one two three apart =
+    apart_by_extents (memory pictures at table scratch output) (memory pictures at other kept left) (extents-memory pictures at table other scratch kept output left one two three) apart
 
 module _ (pictures : List Picture) (at : Places) (table scratch output : List ℕ) (apart : AllPairs Apart (memory pictures at table scratch output)) where
   -- a load from the table

@@ -1,0 +1,117 @@
+-- A row of the least of two taps, from its first pixel to its last.
+use Rattle.std.proofs.Common.{◌≡◌, ℕ, zero, suc, ◌+◌, ◌-◌, ◌*◌, ◌%◌, ◌^◌, ◌<◌, ◌≤◌, List, [], ◌∷◌, ◌++◌, length, take, drop, get_or, All, Bool, true, false, Some, refl, arith, ltb, ap, sym, ◌∙◌, min, add-zero, length-take, length-drop}
+use Rattle.std.specs.List.{AllPairs}
+use Rattle.std.proofs.lemmas.Bool.{lt-ltb, le-ltb}
+use Rattle.std.proofs.lemmas.List.{take_all, take-append-drop}
+use Rattle.std.proofs.lemmas.List.Elements.{All-take, All-drop}
+use Rattle.pf_ints.specs.Images.{Picture}
+use Rattle.pf_ints.specs.declared.target.Target.TheVariants.{Neon}
+use Rattle.pf_isa.specs.declared.memory.Region.{Region}
+use Rattle.pf_isa.specs.Bytes.{number, bytes, packed}
+use Rattle.pf_isa.specs.Memory.{Apart, loaded, stored}
+use Rattle.pf_isa.specs.Steps.{State, run, wrapped, Ended}
+use Rattle.pf_isa.specs.Runs.{Places, memory}
+use Rattle.pf_isa.proofs.ByteLaws.{entry_at, length-packed, packed_below, number-bytes, length-map2}
+use Rattle.pf_isa.proofs.MemoryLaws.{image_bytes, overwritten, length-overwritten, overwritten-overwritten, take-drop-part, apart-memory, loaded-table, loaded-image, stored-output}
+use Rattle.pf_isa.proofs.StepLaws.{wrapped_small}
+use Rattle.pf_neon.specs.declared.op.Lanes.TheVariants.{Bytes}
+use Rattle.pf_neon.specs.Forms.{lanewise}
+use Rattle.pf_neon.specs.Neon.{table}
+use Rattle.pf_rows.specs.Least.{least_code, least_labels}
+use Rattle.pf_rows.proofs.Blocks.{lesser, lesser-block, length-block}
+use Rattle.pf_rows.proofs.Turns.{now, begins, enters, leaves, loads_first, loads_second, computes, stores, goes_on}
+
+-- entry k of a row's table is the address of n pixels of an image, from a place on
+pub record TapAt (pictures : List Picture) (at : Places) (entries : List ℕ) (n k image place : ℕ) : Type 0 where
+  pub entry : get_or entries k 0 ≡ get_or at.images image 0 + place
+  pub known : image < length pictures
+  pub inside : place + n ≤ length (image_bytes pictures image)
+  pub low : get_or at.images image 0 + place + n < 2 ^ 31
+
+-- a row of n pixels: its table and memory, two taps, and its place in the output
+pub record RowAt (pictures : List Picture) (at : Places) (entries scratch output : List ℕ) (taps n first image place second other where' row : ℕ) : Type 0 where
+  pub apart : AllPairs Apart (memory pictures at (packed 8 entries) scratch output)
+  pub images : length at.images ≡ length pictures
+  pub size : length entries ≡ taps + 3
+  pub table_low : at.table + 8 * (taps + 3) < 2 ^ 31
+  pub first_in : first < taps
+  pub second_in : second < taps
+  pub left : TapAt pictures at entries n first image place
+  pub right : TapAt pictures at entries n second other where'
+  pub out : get_or entries taps 0 ≡ at.output + row
+  pub inside : row + n ≤ length output
+  pub out_low : at.output + row + n < 2 ^ 31
+  pub count : get_or entries (taps + 2) 0 ≡ n
+
+-- a table's entry as an address in the region of some pixels, at pixel x
+address : (entry base place x : ℕ) → entry ≡ base + place → base + place + x < 2 ^ 31 → wrapped Neon (wrapped Neon (number (bytes 8 entry) + x) + 0) ≡ base + (place + x)
+address entry base place x is low =
+    let held : number (bytes 8 entry) ≡ entry = number-bytes 8 entry (omega arith) in
+    let sum : wrapped Neon (entry + x) ≡ entry + x = wrapped_small Neon (entry + x) (omega arith) in
+    rw (held, sum, add-zero, sum) (omega arith)
+
+module _ (pictures : List Picture) (at : Places) (entries scratch output : List ℕ) (taps n first image place second other where' row : ℕ) (placed : RowAt pictures at entries scratch output taps n first image place second other where' row) where
+  -- the pixels of the taps, and those that are due
+  abbrev left_pixels : List ℕ
+  left_pixels = take n (drop place (image_bytes pictures image))
+
+  abbrev right_pixels : List ℕ
+  right_pixels = take n (drop where' (image_bytes pictures other))
+
+  abbrev pub due : List ℕ
+  due = lesser left_pixels right_pixels
+
+  length-left : length left_pixels ≡ n
+  length-left = let l = placed.left in length-block n place (image_bytes pictures image) l.inside
+
+  length-right : length right_pixels ≡ n
+  length-right = let r = placed.right in length-block n where' (image_bytes pictures other) r.inside
+
+  length-due : length due ≡ n
+  length-due = length-map2 (λ y z. min y z) left_pixels right_pixels ∙ omega (arith, length-left, length-right)
+
+  length-done : (x : ℕ) → x ≤ n → length (take x due) ≡ x
+  length-done x within = simp (length-take, length-due) (omega arith)
+
+  -- the memory where the first x pixels are written
+  abbrev written : ℕ → List ℕ
+  written x = overwritten output row (take x due)
+
+  abbrev at_pixel : ℕ → List Region
+  at_pixel x = memory pictures at (packed 8 entries) scratch (written x)
+
+  length-written : (x : ℕ) → x ≤ n → length (written x) ≡ length output
+  length-written x within = let fits = placed.inside in let long = length-done x within in length-overwritten output row (take x due) (omega arith)
+
+  apart_at : (x : ℕ) → x ≤ n → AllPairs Apart (at_pixel x)
+  apart_at x within = apart-memory pictures at (packed 8 entries) (packed 8 entries) scratch scratch output (written x) refl refl (length-written x within) placed.apart
+
+  entry-loaded : (x k : ℕ) → x ≤ n → k < taps + 3 → loaded (at_pixel x) (wrapped Neon (at.table + 8 * k)) 8 ≡ Some (bytes 8 (get_or entries k 0))
+  entry-loaded x k within known =
+      let size = placed.size in
+      let low = placed.table_low in
+      let long : length (packed 8 entries) ≡ 8 * length entries = length-packed 8 entries in
+      let small : wrapped Neon (at.table + 8 * k) ≡ at.table + 8 * k = wrapped_small Neon (at.table + 8 * k) (omega arith) in
+      rw small (loaded-table pictures at (packed 8 entries) scratch (written x) (apart_at x within) (8 * k) 8 (omega arith) (omega arith) ∙ ap (λ l. Some l) (entry_at entries k (omega arith)))
+
+  tap-loaded : (x k i a : ℕ) → TapAt pictures at entries n k i a → x + 16 ≤ n
+      → loaded (at_pixel x) (wrapped Neon (wrapped Neon (number (bytes 8 (get_or entries k 0)) + x) + 0)) 16 ≡ Some (take 16 (drop x (take n (drop a (image_bytes pictures i)))))
+  tap-loaded x k i a tap within =
+      let low = tap.low in
+      let inside = tap.inside in
+      let there : wrapped Neon (wrapped Neon (number (bytes 8 (get_or entries k 0)) + x) + 0) ≡ get_or at.images i 0 + (a + x) = address (get_or entries k 0) (get_or at.images i 0) a x tap.entry (omega arith) in
+      rw (there, take-drop-part (image_bytes pictures i) a n x 16 within) (loaded-image pictures at (packed 8 entries) scratch (written x) (apart_at x (omega arith)) i (a + x) 16 placed.images tap.known (omega arith) (omega arith))
+
+  block-stored : (x : ℕ) → x + 16 ≤ n → stored (at_pixel x) (wrapped Neon (wrapped Neon (number (bytes 8 (get_or entries taps 0)) + x) + 0)) (take 16 (drop x due)) ≡ Some (at_pixel (x + 16))
+  block-stored x within =
+      let low = placed.out_low in
+      let inside = placed.inside in
+      let there : wrapped Neon (wrapped Neon (number (bytes 8 (get_or entries taps 0)) + x) + 0) ≡ at.output + (row + x) = address (get_or entries taps 0) at.output row x placed.out (omega arith) in
+      let size : length (take 16 (drop x due)) ≡ 16 = length-block 16 x due (rw length-due within) in
+      let same : length (written x) ≡ length output = length-written x (omega arith) in
+      let fits : row + length due ≤ length output = rw length-due inside in
+      rw there (stored-output pictures at (packed 8 entries) scratch (written x) (apart_at x (omega arith)) (row + x) (take 16 (drop x due)) (omega arith) (omega arith)
+      ∙ ap (λ o. Some (memory pictures at (packed 8 entries) scratch o)) (overwritten-overwritten output due row x 16 fits (rw length-due within)))
+
+  small_left : All (λ b. b < 256) left_pixels
+  small_left = All-take (λ b. b < 256) n _ (All-drop (λ b. b < 256) place _ (packed_below _ _))

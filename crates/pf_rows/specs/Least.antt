@@ -1,0 +1,64 @@
+-- The program that stores the lesser of two taps of u8 images, sixteen pixels at a time.
+use Rattle.std.specs.Prelude.{ℕ, ◌+◌, List, [], ◌∷◌, ◌++◌, false, codes}
+use Rattle.pf_isa.specs.declared.control.Control.TheVariants.{LoadPtr, Imm, AddImm, AddReg, Compare, Below, Jump, Return}
+use Rattle.pf_isa.specs.declared.code.Line.{Line}
+use Rattle.pf_isa.specs.declared.code.Line.TheVariants.{Vector, Control as Controls}
+use Rattle.pf_isa.specs.declared.code.Label.{Label}
+use Rattle.pf_neon.specs.declared.op.Form.{Form}
+use Rattle.pf_neon.specs.declared.op.Form.TheVariants.{Load, Store, Lanewise}
+use Rattle.pf_neon.specs.declared.op.Lanes.TheVariants.{Bytes}
+use Rattle.pf_neon.specs.declared.op.Mnemonic.TheVariants.{Umin}
+
+-- the general registers by their roles
+abbrev t : ℕ
+t = 0
+
+abbrev n : ℕ
+n = 1
+
+abbrev x : ℕ
+x = 3
+
+abbrev u : ℕ
+u = 4
+
+abbrev p : ℕ
+p = 5
+
+abbrev e : ℕ
+e = 7
+
+-- u keeps the table, n is the row's count, and x its first pixel
+abbrev pub begin_lines : {I : Type 0} → ℕ → List (Line I Form)
+begin_lines taps = Controls (AddImm u t false 0) ∷ Controls (LoadPtr n u (taps + 2)) ∷ Controls (Imm x 0) ∷ []
+
+-- the row ends where fewer than sixteen pixels are left
+abbrev pub test_lines : {I : Type 0} → List (Line I Form)
+test_lines = Controls (AddImm e x false 16) ∷ Controls (Compare n e) ∷ Controls (Below (codes "done")) ∷ []
+
+-- p is the address of pixel x by an entry of the table
+abbrev pub pointer_lines : {I : Type 0} → ℕ → List (Line I Form)
+pointer_lines entry = Controls (LoadPtr p t entry) ∷ Controls (AddReg p p x) ∷ []
+
+abbrev pub load_lines : {I : Type 0} → ℕ → ℕ → List (Line I Form)
+load_lines vector entry = pointer_lines entry ++ Vector (Load vector 0) ∷ []
+
+abbrev pub store_lines : {I : Type 0} → ℕ → ℕ → List (Line I Form)
+store_lines vector entry = pointer_lines entry ++ Vector (Store vector 0) ∷ []
+
+-- the next sixteen pixels
+abbrev pub next_lines : {I : Type 0} → List (Line I Form)
+next_lines = Controls (AddImm x x false 16) ∷ Controls (Jump (codes "loop")) ∷ []
+
+-- the code, for two of so many taps by their numbers
+abbrev pub least_code : {I : Type 0} → (taps first second : ℕ) → List (Line I Form)
+least_code taps first second =
+    begin_lines taps
+    ++ (test_lines
+    ++ (load_lines 0 first
+    ++ (load_lines 1 second
+    ++ (Vector (Lanewise Umin Bytes 0 0 1) ∷ (store_lines 0 taps
+    ++ (next_lines ++ Controls Return ∷ []))))))
+
+abbrev pub least_labels : List Label
+least_labels = record { name = codes "loop"; before = 3 } ∷ record { name = codes "done"; before = 18 } ∷ []
