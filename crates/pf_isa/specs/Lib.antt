@@ -10,4 +10,5 @@ pub mod Programs
 pub mod Texts
 pub mod Blocks
 pub mod Runs
+pub mod RowEnds
 pub mod Moved
