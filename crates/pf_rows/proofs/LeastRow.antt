@@ -10,7 +10,8 @@ use Rattle.pf_isa.specs.declared.memory.Region.{Region}
 use Rattle.pf_isa.specs.Bytes.{number, bytes, packed}
 use Rattle.pf_isa.specs.Memory.{Apart, loaded, stored}
 use Rattle.pf_isa.specs.Steps.{State, run, wrapped, Ended}
-use Rattle.pf_isa.specs.Runs.{Places, memory}
+use Rattle.pf_terms.specs.Kernels.{no_picture}
+use Rattle.pf_isa.specs.Runs.{Places, memory, pixel_bytes}
 use Rattle.pf_isa.proofs.ByteLaws.{entry_at, length-packed, packed_below, number-bytes, length-map2}
 use Rattle.pf_isa.proofs.MemoryLaws.{image_bytes, overwritten, length-overwritten, overwritten-overwritten, take-drop-part, apart-memory, loaded-table, loaded-image, stored-output}
 use Rattle.pf_isa.proofs.StepLaws.{wrapped_small}
@@ -20,6 +21,9 @@ use Rattle.pf_neon.specs.Neon.{table}
 use Rattle.pf_rows.specs.Least.{least_code, least_labels}
 use Rattle.pf_rows.proofs.Blocks.{lesser, lesser-block, length-block}
 use Rattle.pf_rows.proofs.Turns.{now, begins, enters, leaves, loads_first, loads_second, computes, stores, goes_on}
+
+image_bytes_below : (pictures : List Picture) (k : ℕ) → All (λ b. b < 256) (image_bytes pictures k)
+image_bytes_below pictures k = let p = get_or pictures k no_picture in packed_below (pixel_bytes p.ty) p.pixels
 
 -- entry k of a row's table is the address of n pixels of an image, from a place on
 pub record TapAt (pictures : List Picture) (at : Places) (entries : List ℕ) (n k image place : ℕ) : Type 0 where
@@ -92,7 +96,7 @@ module _ (pictures : List Picture) (at : Places) (entries scratch output : List 
       let low = placed.table_low in
       let long : length (packed 8 entries) ≡ 8 * length entries = length-packed 8 entries in
       let small : wrapped Neon (at.table + 8 * k) ≡ at.table + 8 * k = wrapped_small Neon (at.table + 8 * k) (omega arith) in
-      rw small (loaded-table pictures at (packed 8 entries) scratch (written x) (apart_at x within) (8 * k) 8 (omega arith) (omega arith) ∙ ap (λ l. Some l) (entry_at entries k (omega arith)))
+      ap (λ a. loaded (at_pixel x) a 8) small ∙ loaded-table pictures at (packed 8 entries) scratch (written x) (apart_at x within) (8 * k) 8 (omega arith) (omega arith) ∙ ap (λ l. Some l) (entry_at entries k (omega arith))
 
   tap-loaded : (x k i a : ℕ) → TapAt pictures at entries n k i a → x + 16 ≤ n
       → loaded (at_pixel x) (wrapped Neon (wrapped Neon (number (bytes 8 (get_or entries k 0)) + x) + 0)) 16 ≡ Some (take 16 (drop x (take n (drop a (image_bytes pictures i)))))
@@ -100,7 +104,9 @@ module _ (pictures : List Picture) (at : Places) (entries scratch output : List 
       let low = tap.low in
       let inside = tap.inside in
       let there : wrapped Neon (wrapped Neon (number (bytes 8 (get_or entries k 0)) + x) + 0) ≡ get_or at.images i 0 + (a + x) = address (get_or entries k 0) (get_or at.images i 0) a x tap.entry (omega arith) in
-      rw (there, take-drop-part (image_bytes pictures i) a n x 16 within) (loaded-image pictures at (packed 8 entries) scratch (written x) (apart_at x (omega arith)) i (a + x) 16 placed.images tap.known (omega arith) (omega arith))
+      ap (λ l. loaded (at_pixel x) l 16) there
+      ∙ loaded-image pictures at (packed 8 entries) scratch (written x) (apart_at x (omega arith)) i (a + x) 16 placed.images tap.known (omega arith) (omega arith)
+      ∙ ap (λ l. Some l) (sym (take-drop-part (image_bytes pictures i) a n x 16 within))
 
   block-stored : (x : ℕ) → x + 16 ≤ n → stored (at_pixel x) (wrapped Neon (wrapped Neon (number (bytes 8 (get_or entries taps 0)) + x) + 0)) (take 16 (drop x due)) ≡ Some (at_pixel (x + 16))
   block-stored x within =
@@ -110,8 +116,9 @@ module _ (pictures : List Picture) (at : Places) (entries scratch output : List 
       let size : length (take 16 (drop x due)) ≡ 16 = length-block 16 x due (rw length-due within) in
       let same : length (written x) ≡ length output = length-written x (omega arith) in
       let fits : row + length due ≤ length output = rw length-due inside in
-      rw there (stored-output pictures at (packed 8 entries) scratch (written x) (apart_at x (omega arith)) (row + x) (take 16 (drop x due)) (omega arith) (omega arith)
-      ∙ ap (λ o. Some (memory pictures at (packed 8 entries) scratch o)) (overwritten-overwritten output due row x 16 fits (rw length-due within)))
+      ap (λ l. stored (at_pixel x) l (take 16 (drop x due))) there
+      ∙ stored-output pictures at (packed 8 entries) scratch (written x) (apart_at x (omega arith)) (row + x) (take 16 (drop x due)) (omega arith) (omega arith)
+      ∙ ap (λ o. Some (memory pictures at (packed 8 entries) scratch o)) (overwritten-overwritten output due row x 16 fits (rw length-due within))
 
   small_left : All (λ b. b < 256) left_pixels
-  small_left = All-take (λ b. b < 256) n _ (All-drop (λ b. b < 256) place _ (packed_below _ _))
+  small_left = All-take (λ b. b < 256) n (drop place (image_bytes pictures image)) (All-drop (λ b. b < 256) place (image_bytes pictures image) (image_bytes_below pictures image))

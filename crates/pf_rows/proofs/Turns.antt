@@ -61,7 +61,7 @@ module _ (I : Type 0) (taps first second : ℕ) (t s v k : ℕ) (q : List Bool) 
   unfolding run
   loads_second m n x u p e flag a b rs entry pixels pointer load = rw (pointer, load) refl
 
-  computes : (m n x u p e : ℕ) (flag : Bool) (a b : List ℕ) (rs : List Region)
+  pub computes : (m n x u p e : ℕ) (flag : Bool) (a b : List ℕ) (rs : List Region)
       → run table code least_labels (suc m) (at_line 12 n x u p e flag a b rs) ≡ run table code least_labels m (at_line 13 n x u p e flag (lanewise Bytes (λ y z. min y z) a b) b rs)
   unfolding run
   computes m n x u p e flag a b rs = refl
