@@ -20,7 +20,7 @@ use Rattle.pf_neon.specs.Forms.{lanewise}
 use Rattle.pf_neon.specs.Neon.{table}
 use Rattle.pf_rows.specs.Least.{least_code, least_labels}
 use Rattle.pf_rows.proofs.Blocks.{lesser, lesser-block, length-block}
-use Rattle.pf_rows.proofs.Turns.{now, begins, enters, leaves, loads_first, loads_second, computes, stores, goes_on}
+use Rattle.pf_rows.proofs.Turns.{now, begins, leaves, turn}
 
 image_bytes_below : (pictures : List Picture) (k : ℕ) → All (λ b. b < 256) (image_bytes pictures k)
 image_bytes_below pictures k = let p = get_or pictures k no_picture in packed_below (pixel_bytes p.ty) p.pixels
@@ -122,3 +122,52 @@ module _ (pictures : List Picture) (at : Places) (entries scratch output : List 
 
   small_left : All (λ b. b < 256) left_pixels
   small_left = All-take (λ b. b < 256) n (drop place (image_bytes pictures image)) (All-drop (λ b. b < 256) place (image_bytes pictures image) (image_bytes_below pictures image))
+
+  module _ (I : Type 0) (u s v k : ℕ) (q : List Bool) (vectors : List (List ℕ)) where
+    -- within so many steps the row ends, and all its pixels are written
+    pub record RowEnds (budget : ℕ) (state : State) : Type 0 where
+      pub last : State
+      pub ends : run table (least_code {I = I} taps first second) least_labels budget state ≡ Ended last
+      pub regions : last.regions ≡ at_pixel n
+
+    abbrev at_loop : (x p e : ℕ) (flag : Bool) (a b : List ℕ) → List Region → State
+    at_loop x p e flag a b rs = now at.table s v k q vectors 3 n x u p e flag a b rs
+
+    -- so many blocks are left
+    blocks_left : (m x p e : ℕ) (flag : Bool) (a b : List ℕ) → x + 16 * m ≡ n → RowEnds (15 * m + 4) (at_loop x p e flag a b (at_pixel x))
+    blocks_left zero x p e flag a b sum =
+        let full : x ≡ n = omega arith in
+        let low = placed.out_low in
+        let next : wrapped Neon (x + 16) ≡ x + 16 = wrapped_small Neon (x + 16) (omega arith) in
+        let none : ltb n (wrapped Neon (x + 16)) ≡ true = ap (λ l. ltb n l) next ∙ lt-ltb n (x + 16) (omega arith) in
+        record {
+          last = now at.table s v k q vectors 18 n x u p (wrapped Neon (x + 16)) true a b (at_pixel x);
+          ends = leaves I taps first second at.table s v k q vectors 0 n x u p e flag a b (at_pixel x) none;
+          regions = ap (λ y. at_pixel y) full;
+        }
+    blocks_left (suc m) x p e flag a b sum =
+        let within : x + 16 ≤ n = omega arith in
+        let low = placed.out_low in
+        let size = placed.size in
+        let left_in = placed.first_in in
+        let right_in = placed.second_in in
+        let next : wrapped Neon (x + 16) ≡ x + 16 = wrapped_small Neon (x + 16) (omega arith) in
+        let more : ltb n (wrapped Neon (x + 16)) ≡ false = ap (λ l. ltb n l) next ∙ le-ltb n (x + 16) within in
+        let left_bytes = take 16 (drop x left_pixels) in
+        let right_bytes = take 16 (drop x right_pixels) in
+        let steps : 15 * suc m + 4 ≡ 15 + (15 * m + 4) = omega arith in
+        let computed : lanewise Bytes (λ y z. min y z) left_bytes right_bytes ≡ take 16 (drop x due) = lesser-block 16 x left_pixels right_pixels (omega (arith, length-left)) (omega (arith, length-right)) small_left in
+        let turned = turn I taps first second at.table s v k q vectors (15 * m + 4) n x u p e flag a b (at_pixel x) (at_pixel (x + 16)) (bytes 8 (get_or entries first 0)) (bytes 8 (get_or entries second 0)) (bytes 8 (get_or entries taps 0)) left_bytes right_bytes (take 16 (drop x due)) more
+        (entry-loaded x first (omega arith) (omega arith)) (tap-loaded x first image place placed.left within)
+        (entry-loaded x second (omega arith) (omega arith)) (tap-loaded x second other where' placed.right within)
+        computed (entry-loaded x taps (omega arith) (omega arith)) (block-stored x within) in
+        let pointer = wrapped Neon (number (bytes 8 (get_or entries taps 0)) + x) in
+        let rest = blocks_left m (x + 16) pointer (wrapped Neon (x + 16)) false (take 16 (drop x due)) right_bytes (omega arith) in
+        record {
+          last = rest.last;
+          ends = ap (λ c. run table (least_code {I = I} taps first second) least_labels c (at_loop x p e flag a b (at_pixel x))) steps
+          ∙ turned
+          ∙ ap (λ y. run table (least_code {I = I} taps first second) least_labels (15 * m + 4) (at_loop y pointer (wrapped Neon (x + 16)) false (take 16 (drop x due)) right_bytes (at_pixel (x + 16)))) next
+          ∙ rest.ends;
+          regions = rest.regions;
+        }

@@ -76,3 +76,21 @@ module _ (I : Type 0) (taps first second : ℕ) (t s v k : ℕ) (q : List Bool) 
       → run table code least_labels (suc (suc m)) (at_line 16 n x u p e flag a b rs) ≡ run table code least_labels m (at_line 3 n (wrapped Neon (x + 16)) u p e flag a b rs)
   unfolding run
   goes_on m n x u p e flag a b rs = refl
+
+  -- one block, over memory that gives these bytes
+  pub turn : (m n x u p e : ℕ) (flag : Bool) (a b : List ℕ) (rs after : List Region) (one two out left right least : List ℕ) → ltb n (wrapped Neon (x + 16)) ≡ false
+      → loaded rs (wrapped Neon (t + 8 * first)) 8 ≡ Some one → loaded rs (wrapped Neon (wrapped Neon (number one + x) + 0)) 16 ≡ Some left
+      → loaded rs (wrapped Neon (t + 8 * second)) 8 ≡ Some two → loaded rs (wrapped Neon (wrapped Neon (number two + x) + 0)) 16 ≡ Some right
+      → lanewise Bytes (λ y z. min y z) left right ≡ least
+      → loaded rs (wrapped Neon (t + 8 * taps)) 8 ≡ Some out → stored rs (wrapped Neon (wrapped Neon (number out + x) + 0)) least ≡ Some after
+      → run table code least_labels (15 + m) (at_line 3 n x u p e flag a b rs) ≡ run table code least_labels m (at_line 3 n (wrapped Neon (x + 16)) u (wrapped Neon (number out + x)) (wrapped Neon (x + 16)) false least right after)
+  turn m n x u p e flag a b rs after one two out left right least more to_left at_left to_right at_right same to_out at_out =
+      let steps : 15 + m ≡ suc (suc (suc (suc (suc (suc (suc (suc (suc (suc (suc (suc (suc (suc (suc m)))))))))))))) = omega arith in
+      ap (λ count. run table code least_labels count (at_line 3 n x u p e flag a b rs)) steps
+      ∙ enters _ n x u p e flag a b rs more
+      ∙ loads_first _ n x u p (wrapped Neon (x + 16)) false a b rs one left to_left at_left
+      ∙ loads_second _ n x u (wrapped Neon (number one + x)) (wrapped Neon (x + 16)) false left b rs two right to_right at_right
+      ∙ computes _ n x u (wrapped Neon (number two + x)) (wrapped Neon (x + 16)) false left right rs
+      ∙ ap (λ c. run table code least_labels (suc (suc (suc (suc (suc m))))) (at_line 13 n x u (wrapped Neon (number two + x)) (wrapped Neon (x + 16)) false c right rs)) same
+      ∙ stores _ n x u (wrapped Neon (number two + x)) (wrapped Neon (x + 16)) false least right rs after out to_out at_out
+      ∙ goes_on m n x u (wrapped Neon (number out + x)) (wrapped Neon (x + 16)) false least right after
