@@ -1,5 +1,6 @@
 -- A row of the least of two taps, from its first pixel to its last.
 use Rattle.std.proofs.Common.{◌≡◌, ℕ, zero, suc, ◌+◌, ◌-◌, ◌*◌, ◌%◌, ◌^◌, ◌<◌, ◌≤◌, List, [], ◌∷◌, ◌++◌, length, take, drop, get_or, All, Bool, true, false, Some, refl, arith, ltb, ap, sym, ◌∙◌, min, add-zero, length-take, length-drop}
+use Rattle.std.specs.Prelude.{replicate}
 use Rattle.std.specs.List.{AllPairs}
 use Rattle.std.proofs.lemmas.Bool.{lt-ltb, le-ltb}
 use Rattle.std.proofs.lemmas.List.{take_all, take-append-drop}
@@ -9,12 +10,12 @@ use Rattle.pf_ints.specs.declared.target.Target.TheVariants.{Neon}
 use Rattle.pf_isa.specs.declared.memory.Region.{Region}
 use Rattle.pf_isa.specs.Bytes.{number, bytes, packed}
 use Rattle.pf_isa.specs.Memory.{Apart, loaded, stored}
-use Rattle.pf_isa.specs.Steps.{State, run, wrapped, Ended}
+use Rattle.pf_isa.specs.Steps.{State, run, wrapped, Ended, started}
 use Rattle.pf_terms.specs.Kernels.{no_picture}
 use Rattle.pf_isa.specs.Runs.{Places, memory, pixel_bytes}
 use Rattle.pf_isa.proofs.ByteLaws.{entry_at, length-packed, packed_below, number-bytes, length-map2}
 use Rattle.pf_isa.proofs.MemoryLaws.{image_bytes, overwritten, length-overwritten, overwritten-overwritten, take-drop-part, apart-memory, loaded-table, loaded-image, stored-output}
-use Rattle.pf_isa.proofs.StepLaws.{wrapped_small}
+use Rattle.pf_isa.proofs.StepLaws.{wrapped_small, run_longer}
 use Rattle.pf_neon.specs.declared.op.Lanes.TheVariants.{Bytes}
 use Rattle.pf_neon.specs.Forms.{lanewise}
 use Rattle.pf_neon.specs.Neon.{table}
@@ -171,3 +172,48 @@ module _ (pictures : List Picture) (at : Places) (entries scratch output : List 
           ∙ rest.ends;
           regions = rest.regions;
         }
+
+  start_is : at_pixel 0 ≡ memory pictures at (packed 8 entries) scratch output
+  start_is =
+      let none : row + 0 ≡ row = omega arith in
+      ap (λ o. memory pictures at (packed 8 entries) scratch o) (ap (λ l. take row output ++ drop l output) none ∙ take-append-drop row output)
+
+  end_is : at_pixel n ≡ memory pictures at (packed 8 entries) scratch (overwritten output row due)
+  end_is = ap (λ l. memory pictures at (packed 8 entries) scratch (overwritten output row l)) (take_all n due (omega (arith, length-due)))
+
+  -- a whole row, from cleared registers
+  pub record RowDue (I : Type 0) (budget : ℕ) : Type 0 where
+    pub last : State
+    pub ends : run table (least_code {I = I} taps first second) least_labels budget (started table at.table (memory pictures at (packed 8 entries) scratch output)) ≡ Ended last
+    pub regions : last.regions ≡ memory pictures at (packed 8 entries) scratch (overwritten output row due)
+
+  pub row_due : (I : Type 0) (m budget : ℕ) → 16 * m ≡ n → 15 * m + 7 ≤ budget → RowDue I budget
+  row_due I m budget sum enough =
+      let q = replicate 16 false in
+      let zeros = replicate 16 0 in
+      let others = replicate 30 zeros in
+      let low = placed.table_low in
+      let low_row = placed.out_low in
+      let code = least_code {I = I} taps first second in
+      let base = memory pictures at (packed 8 entries) scratch output in
+      let bytes_of_n = bytes 8 (get_or entries (taps + 2) 0) in
+      let steps : budget ≡ (15 * m + 7) + (budget - (15 * m + 7)) = omega arith in
+      let first_steps : 15 * m + 7 ≡ suc (suc (suc (15 * m + 4))) = omega arith in
+      let none : at.table + 0 ≡ at.table = omega arith in
+      let kept : wrapped Neon (at.table + 0) ≡ at.table = ap (λ l. wrapped Neon l) none ∙ wrapped_small Neon at.table (omega arith) in
+      let held : number bytes_of_n ≡ n = number-bytes 8 (get_or entries (taps + 2) 0) (omega (arith, placed.count)) ∙ placed.count in
+      let count : loaded (at_pixel 0) (wrapped Neon (wrapped Neon (at.table + 0) + 8 * (taps + 2))) 8 ≡ Some bytes_of_n =
+      ap (λ l. loaded (at_pixel 0) (wrapped Neon (l + 8 * (taps + 2))) 8) kept ∙ entry-loaded 0 (taps + 2) (omega arith) (omega arith) in
+      let begun = begins I taps first second at.table 0 0 0 q others (15 * m + 4) 0 0 0 0 0 false zeros zeros (at_pixel 0) bytes_of_n count in
+      let rest = blocks_left I (wrapped Neon (at.table + 0)) 0 0 0 q others m 0 0 0 false zeros zeros (omega arith) in
+      let ends : run table code least_labels (15 * m + 7) (started table at.table base) ≡ Ended rest.last =
+      ap (λ rs. run table code least_labels (15 * m + 7) (started table at.table rs)) (sym start_is)
+      ∙ ap (λ c. run table code least_labels c (started table at.table (at_pixel 0))) first_steps
+      ∙ begun
+      ∙ ap (λ c. run table code least_labels (15 * m + 4) (now at.table 0 0 0 q others 3 c 0 (wrapped Neon (at.table + 0)) 0 0 false zeros zeros (at_pixel 0))) held
+      ∙ rest.ends in
+      record {
+        last = rest.last;
+        ends = ap (λ c. run table code least_labels c (started table at.table base)) steps ∙ run_longer table code least_labels (15 * m + 7) (budget - (15 * m + 7)) (started table at.table base) rest.last ends;
+        regions = rest.regions ∙ end_is;
+      }
