@@ -1,13 +1,25 @@
 -- The program that stores the lesser of two taps of u8 images, sixteen pixels at a time.
-use Rattle.std.specs.Prelude.{ℕ, ◌+◌, List, [], ◌∷◌, ◌++◌, false, codes}
+use Rattle.std.specs.Prelude.{◌≡◌, ℕ, ◌+◌, ◌%◌, List, [], ◌∷◌, ◌++◌, false, codes}
+use Rattle.pf_ints.specs.declared.lane.LaneType.{LaneType}
+use Rattle.pf_ints.specs.declared.lane.Bits.TheVariants.{Eight}
+use Rattle.pf_ints.specs.Images.{Picture}
+use Rattle.pf_terms.specs.declared.op.Op.TheVariants.{Min}
+use Rattle.pf_terms.specs.declared.term.Leaf.TheVariants.{Tap}
+use Rattle.pf_terms.specs.declared.term.Term.{Term}
+use Rattle.pf_terms.specs.declared.term.Term.TheVariants.{Leaf, Node}
+use Rattle.pf_terms.specs.Kernels.{Source, Keeps, Out}
 use Rattle.pf_isa.specs.declared.control.Control.TheVariants.{LoadPtr, Imm, AddImm, AddReg, Compare, Below, Jump, Return}
 use Rattle.pf_isa.specs.declared.code.Line.{Line}
 use Rattle.pf_isa.specs.declared.code.Line.TheVariants.{Vector, Control as Controls}
 use Rattle.pf_isa.specs.declared.code.Label.{Label}
+use Rattle.pf_isa.specs.declared.program.Head.{Head}
+use Rattle.pf_isa.specs.Programs.{Text}
+use Rattle.pf_isa.specs.Runs.{Places, IsPlaced, Leaves, columns}
 use Rattle.pf_neon.specs.declared.op.Form.{Form}
 use Rattle.pf_neon.specs.declared.op.Form.TheVariants.{Load, Store, Lanewise}
 use Rattle.pf_neon.specs.declared.op.Lanes.TheVariants.{Bytes}
 use Rattle.pf_neon.specs.declared.op.Mnemonic.TheVariants.{Umin}
+use Rattle.pf_neon.specs.Neon.{table}
 
 -- the general registers by their roles
 abbrev t : ℕ
@@ -62,3 +74,20 @@ least_code taps first second =
 
 abbrev pub least_labels : List Label
 least_labels = record { name = codes "loop"; before = 3 } ∷ record { name = codes "done"; before = 18 } ∷ []
+
+abbrev pub byte_type : LaneType
+byte_type = record { signed = false; bits = Eight }
+
+-- the lesser of two taps
+abbrev pub least_term : ℕ → ℕ → Term
+least_term first second = Node Min byte_type 0 (Leaf (Tap first) byte_type ∷ Leaf (Tap second) byte_type ∷ [])
+
+-- the kernel that has a head's images and taps, and the lesser of two of them as its output
+abbrev pub least_source : Head → ℕ → ℕ → Source
+least_source h first second = record { images = h.images; taps = h.taps; defs = []; out_ty = byte_type; out = least_term first second }
+
+-- on all images that the kernel asks for, of a width that is a multiple of 16, and under every placement, the program leaves the kernel's output
+abbrev pub LeavesLeast : {I : Type 0} → Text I Form → ℕ → ℕ → Type 0
+LeavesLeast p first second =
+    (pictures : List Picture) → Keeps (least_source p.head first second) pictures → columns p.head pictures % 16 ≡ 0
+    → (o : Picture) × Out (least_source p.head first second) pictures o × ((at : Places) (scratch output : List ℕ) → IsPlaced p.head pictures at scratch output → Leaves table p pictures at scratch output o)
