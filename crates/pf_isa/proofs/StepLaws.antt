@@ -1,5 +1,5 @@
 -- How a row goes on from the outcome of a step, and numbers in general registers.
-use Rattle.std.proofs.Common.{◌≡◌, ℕ, zero, suc, ◌+◌, ◌*◌, ◌%◌, ◌^◌, ◌<◌, List, [], ◌∷◌, ◌++◌, length, Bool, true, false, Option, Some, None, refl, arith, ap, add-zero, add-suc, zero-add}
+use Rattle.std.proofs.Common.{◌≡◌, ℕ, zero, suc, ◌+◌, ◌^◌, ◌<◌, List, [], ◌∷◌, ◌++◌, length, true, false, Some, refl, arith}
 use Rattle.std.specs.Prelude.{slice_get}
 use Rattle.std.specs.Str.{bytes_eq}
 use Rattle.std.proofs.Math.Nat.{mod-eq_of_lt}
@@ -8,7 +8,7 @@ use Rattle.pf_ints.specs.declared.target.Target.TheVariants.{Neon, Avx2, Hvx}
 use Rattle.pf_isa.specs.declared.code.Line.{Line}
 use Rattle.pf_isa.specs.declared.code.Label.{Label}
 use Rattle.pf_isa.specs.Tables.{Table}
-use Rattle.pf_isa.specs.Steps.{State, Outcome, Moved, Returned, Trapped, wrapped, place_of, step, End, Ended, Stopped, Spent, follow, run}
+use Rattle.pf_isa.specs.Steps.{State, Outcome, Moved, Returned, Trapped, wrapped, place_of, step, End, Ended, Stopped, follow, run}
 
 -- a number below 2^32 fits every machine's registers
 pub wrapped_small : (target : Target) (n : ℕ) → n < 2 ^ 32 → wrapped target n ≡ n

@@ -14,7 +14,8 @@ use Rattle.pf_isa.specs.Steps.{State, run, wrapped, Ended, started}
 use Rattle.pf_terms.specs.Kernels.{no_picture}
 use Rattle.pf_isa.specs.Runs.{Places, memory, pixel_bytes}
 use Rattle.pf_isa.proofs.ByteLaws.{entry_at, length-packed, packed_below, number-bytes, length-map2}
-use Rattle.pf_isa.proofs.MemoryLaws.{image_bytes, overwritten, length-overwritten, overwritten-overwritten, take-drop-part, apart-memory, loaded-table, loaded-image, stored-output}
+use Rattle.pf_isa.proofs.MemoryLaws.{image_bytes, overwritten, length-overwritten, overwritten-overwritten, take-drop-part, loaded-table, loaded-image, stored-output}
+use Rattle.pf_isa.proofs.RowLaws.{apart_kept, memory_places}
 use Rattle.pf_isa.proofs.StepLaws.{wrapped_small, run_longer}
 use Rattle.pf_neon.specs.declared.op.Lanes.TheVariants.{Bytes}
 use Rattle.pf_neon.specs.Forms.{lanewise}
@@ -89,7 +90,7 @@ module _ (pictures : List Picture) (at : Places) (entries scratch output : List 
   length-written x within = let fits = placed.inside in let long = length-done x within in length-overwritten output row (take x due) (omega arith)
 
   apart_at : (x : ℕ) → x ≤ n → AllPairs Apart (at_pixel x)
-  apart_at x within = apart-memory pictures at (packed 8 entries) (packed 8 entries) scratch scratch output (written x) refl refl (length-written x within) placed.apart
+  apart_at x within = apart_kept (memory pictures at (packed 8 entries) scratch output) (at_pixel x) (memory_places pictures at (packed 8 entries) scratch output (packed 8 entries) scratch (written x) refl refl (length-written x within)) placed.apart
 
   entry-loaded : (x k : ℕ) → x ≤ n → k < taps + 3 → loaded (at_pixel x) (wrapped Neon (at.table + 8 * k)) 8 ≡ Some (bytes 8 (get_or entries k 0))
   entry-loaded x k within known =

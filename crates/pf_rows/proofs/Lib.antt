@@ -1,3 +1,5 @@
 pub mod Turns
 pub mod Blocks
 pub mod LeastRow
+pub mod Taps
+pub mod LeastValues
