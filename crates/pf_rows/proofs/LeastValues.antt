@@ -17,6 +17,7 @@ use Rattle.pf_terms.specs.declared.term.Term.TheFolds.{fold-roll-Term}
 use Rattle.pf_terms.specs.Terms.{Val, value_step}
 use Rattle.pf_terms.specs.Kernels.{tap_value, tap_values, tap_column, tap_row, no_picture, out_value}
 use Rattle.pf_isa.specs.declared.program.Head.{Head}
+use Rattle.pf_rows.proofs.Taps.{no_tap}
 use Rattle.pf_rows.specs.Least.{byte_type, least_term, least_source}
 
 Val-tap : (env : Env) (n : ℕ) (ty : LaneType) → Val env (Leaf (TapLeaf n) ty) ≡ get_or env.taps n (pos 0)
@@ -31,13 +32,10 @@ Val-least env first second =
 int_min-pos : (a b : ℕ) → int_min (pos a) (pos b) ≡ pos (min a b)
 int_min-pos a b = omega (arith, ints, int_min_is (pos a) (pos b))
 
-no_tap : Tap
-no_tap = record { image = 0; dx = pos 0; dy = pos 0 }
-
 -- a tap's pixel
 abbrev pub tap_pixel : Head → List Picture → ℕ → ℕ → ℕ → ℕ
 tap_pixel h pictures k x y =
-    let t = get_or h.taps k (record { image = 0; dx = pos 0; dy = pos 0 }) in
+    let t = get_or h.taps k no_tap in
     pixel (get_or pictures t.image no_picture) (tap_column h.taps x t) (tap_row h.taps y t)
 
 -- the lesser of two taps' pixels
@@ -46,8 +44,7 @@ least_value h pictures first second x y = min (tap_pixel h pictures first x y) (
 
 pub out_value-least : (h : Head) (pictures : List Picture) (first second x y : ℕ) → first < length h.taps → second < length h.taps → pos (least_value h pictures first second x y) ≡ out_value (least_source h first second) pictures x y
 out_value-least h pictures first second x y left right =
-    let none : Tap = record { image = 0; dx = pos 0; dy = pos 0 } in
-    let one : get_or (tap_values h.taps pictures x y) first (pos 0) ≡ pos (tap_pixel h pictures first x y) = get_or-map (tap_value h.taps pictures x y) h.taps first none (pos 0) left in
-    let two : get_or (tap_values h.taps pictures x y) second (pos 0) ≡ pos (tap_pixel h pictures second x y) = get_or-map (tap_value h.taps pictures x y) h.taps second none (pos 0) right in
+    let one : get_or (tap_values h.taps pictures x y) first (pos 0) ≡ pos (tap_pixel h pictures first x y) = get_or-map (tap_value h.taps pictures x y) h.taps first no_tap (pos 0) left in
+    let two : get_or (tap_values h.taps pictures x y) second (pos 0) ≡ pos (tap_pixel h pictures second x y) = get_or-map (tap_value h.taps pictures x y) h.taps second no_tap (pos 0) right in
     let env : Env = record { taps = tap_values h.taps pictures x y; defs = [] } in
     sym (Val-least env first second ∙ ap (λ a. int_min a (get_or (tap_values h.taps pictures x y) second (pos 0))) one ∙ ap (λ b. int_min (pos (tap_pixel h pictures first x y)) b) two ∙ int_min-pos _ _)

@@ -3,3 +3,4 @@ pub mod Blocks
 pub mod LeastRow
 pub mod Taps
 pub mod LeastValues
+pub mod LeastProgram

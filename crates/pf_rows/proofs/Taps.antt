@@ -40,3 +40,34 @@ column_at low high d width x reach before behind some = omega (arith, ints)
 
 column_inside : (low high d : ℤ) (width : ℕ) → low ≤ℤ pos 0 → low ≤ℤ d → d ≤ℤ high → pos 1 ≤ℤ (pos width -ℤ (high -ℤ low)) → unsigned_abs ((pos 0 -ℤ low) +ℤ d) + unsigned_abs (pos width -ℤ (high -ℤ low)) ≤ width
 column_inside low high d width reach before behind some = omega (arith, ints)
+
+-- what stands in a list of taps past its end
+abbrev pub no_tap : Tap
+no_tap = record { image = 0; dx = pos 0; dy = pos 0 }
+
+-- a tap's columns and rows, which lie in the image
+module _ (taps : List Tap) (pictures : List Picture) (k : ℕ) (known : k < length taps) (wide : pos 1 ≤ℤ out_width taps pictures) (high : pos 1 ≤ℤ out_height taps pictures) where
+  pub columns_at : (x : ℕ) → tap_column taps x (get_or taps k no_tap) ≡ tap_column taps 0 (get_or taps k no_tap) + x
+  columns_at x =
+      let reads : get_or (map (λ t. t.dx) taps) k (pos 0) ≡ (get_or taps k no_tap).dx = get_or-map (λ t. t.dx) taps k no_tap (pos 0) known in
+      let inside : k < length (map (λ t. t.dx) taps) = omega (arith, length-map taps (λ t. t.dx)) in
+      column_at (left_reach taps) (right_reach taps) (get_or taps k no_tap).dx (width_of pictures) x (lowest_low (map (λ t. t.dx) taps))
+      (rw reads at (lowest_below (map (λ t. t.dx) taps) k inside)) (rw reads at (highest_above (map (λ t. t.dx) taps) k inside)) wide
+
+  pub columns_fit : tap_column taps 0 (get_or taps k no_tap) + unsigned_abs (out_width taps pictures) ≤ width_of pictures
+  columns_fit =
+      let reads : get_or (map (λ t. t.dx) taps) k (pos 0) ≡ (get_or taps k no_tap).dx = get_or-map (λ t. t.dx) taps k no_tap (pos 0) known in
+      let inside : k < length (map (λ t. t.dx) taps) = omega (arith, length-map taps (λ t. t.dx)) in
+      column_inside (left_reach taps) (right_reach taps) (get_or taps k no_tap).dx (width_of pictures) (lowest_low (map (λ t. t.dx) taps))
+      (rw reads at (lowest_below (map (λ t. t.dx) taps) k inside)) (rw reads at (highest_above (map (λ t. t.dx) taps) k inside)) wide
+
+  pub rows_fit : (y : ℕ) → y < unsigned_abs (out_height taps pictures) → tap_row taps y (get_or taps k no_tap) < height_of pictures
+  rows_fit y within =
+      let reads : get_or (map (λ t. t.dy) taps) k (pos 0) ≡ (get_or taps k no_tap).dy = get_or-map (λ t. t.dy) taps k no_tap (pos 0) known in
+      let inside : k < length (map (λ t. t.dy) taps) = omega (arith, length-map taps (λ t. t.dy)) in
+      let low = lowest_low (map (λ t. t.dy) taps) in
+      let above = rw reads at (lowest_below (map (λ t. t.dy) taps) k inside) in
+      let below = rw reads at (highest_above (map (λ t. t.dy) taps) k inside) in
+      let at_y = column_at (up_reach taps) (down_reach taps) (get_or taps k no_tap).dy (height_of pictures) y low above below high in
+      let fits = column_inside (up_reach taps) (down_reach taps) (get_or taps k no_tap).dy (height_of pictures) low above below high in
+      omega arith

@@ -1,5 +1,5 @@
 -- The program that stores the lesser of two taps of u8 images, sixteen pixels at a time.
-use Rattle.std.specs.Prelude.{◌≡◌, ℕ, ◌+◌, ◌%◌, List, [], ◌∷◌, ◌++◌, false, codes}
+use Rattle.std.specs.Prelude.{◌≡◌, ℕ, ◌+◌, ◌%◌, ◌<◌, List, [], ◌∷◌, ◌++◌, length, All, false, codes}
 use Rattle.pf_ints.specs.declared.lane.LaneType.{LaneType}
 use Rattle.pf_ints.specs.declared.lane.Bits.TheVariants.{Eight}
 use Rattle.pf_ints.specs.Images.{Picture}
@@ -13,6 +13,7 @@ use Rattle.pf_isa.specs.declared.code.Line.{Line}
 use Rattle.pf_isa.specs.declared.code.Line.TheVariants.{Vector, Control as Controls}
 use Rattle.pf_isa.specs.declared.code.Label.{Label}
 use Rattle.pf_isa.specs.declared.program.Head.{Head}
+use Rattle.pf_isa.specs.Heads.{IsHead}
 use Rattle.pf_isa.specs.Programs.{Text}
 use Rattle.pf_isa.specs.Runs.{Places, IsPlaced, Leaves, columns}
 use Rattle.pf_neon.specs.declared.op.Form.{Form}
@@ -75,6 +76,10 @@ least_code taps first second =
 abbrev pub least_labels : List Label
 least_labels = record { name = codes "loop"; before = 3 } ∷ record { name = codes "done"; before = 18 } ∷ []
 
+-- a head's program
+abbrev pub least_text : {I : Type 0} → Head → ℕ → ℕ → Text I Form
+least_text h first second = record { head = h; code = least_code (length h.taps) first second; labels = least_labels }
+
 abbrev pub byte_type : LaneType
 byte_type = record { signed = false; bits = Eight }
 
@@ -85,6 +90,14 @@ least_term first second = Node Min byte_type 0 (Leaf (Tap first) byte_type ∷ L
 -- the kernel that has a head's images and taps, and the lesser of two of them as its output
 abbrev pub least_source : Head → ℕ → ℕ → Source
 least_source h first second = record { images = h.images; taps = h.taps; defs = []; out_ty = byte_type; out = least_term first second }
+
+-- two taps of a head whose images and output are u8
+pub record HasTaps (h : Head) (first second : ℕ) : Type 0 where
+  pub head : IsHead h
+  pub images : All (λ d. d.ty ≡ byte_type) h.images
+  pub out_ty : h.out_ty ≡ byte_type
+  pub first_tap : first < length h.taps
+  pub second_tap : second < length h.taps
 
 -- on all images that the kernel asks for, of a width that is a multiple of 16, and under every placement, the program leaves the kernel's output
 abbrev pub LeavesLeast : {I : Type 0} → Text I Form → ℕ → ℕ → Type 0
