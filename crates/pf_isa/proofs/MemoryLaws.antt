@@ -79,7 +79,7 @@ take-drop-part bs off n x count inside =
     let front : drop x (take n (drop off bs)) ≡ take (n - x) (drop x (drop off bs)) = drop-take-sum (drop off bs) x n (n - x) (omega arith) in
     rw (front, drop-drop) (take-take count (n - x) (drop (off + x) bs) (omega arith))
 
-length-image_regions : (starts : List ℕ) (pictures : List Picture) → length starts ≡ length pictures → length (image_regions starts pictures) ≡ length pictures
+pub length-image_regions : (starts : List ℕ) (pictures : List Picture) → length starts ≡ length pictures → length (image_regions starts pictures) ≡ length pictures
 length-image_regions [] [] same = refl
 length-image_regions [] (p ∷ ps) same = absurd (omega arith)
 length-image_regions (start ∷ starts) [] same = absurd (omega arith)

@@ -27,7 +27,7 @@ packed-one (x ∷ xs) small =
 abbrev pub lesser : List ℕ → List ℕ → List ℕ
 lesser xs ys = map2 (λ y z. min y z) xs ys
 
-lesser_below : (xs ys : List ℕ) → All (λ b. b < 256) xs → All (λ b. b < 256) (lesser xs ys)
+pub lesser_below : (xs ys : List ℕ) → All (λ b. b < 256) xs → All (λ b. b < 256) (lesser xs ys)
 lesser_below [] ys small = All-nil (λ b. b < 256)
 lesser_below (x ∷ xs) [] small = All-nil (λ b. b < 256)
 lesser_below (x ∷ xs) (y ∷ ys) small =

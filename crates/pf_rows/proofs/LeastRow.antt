@@ -21,7 +21,7 @@ use Rattle.pf_neon.specs.declared.op.Lanes.TheVariants.{Bytes}
 use Rattle.pf_neon.specs.Forms.{lanewise}
 use Rattle.pf_neon.specs.Neon.{table}
 use Rattle.pf_rows.specs.Least.{least_code, least_labels}
-use Rattle.pf_rows.proofs.Blocks.{lesser, lesser-block, length-block}
+use Rattle.pf_rows.proofs.Blocks.{lesser, lesser_below, lesser-block, length-block}
 use Rattle.pf_rows.proofs.Turns.{now, begins, leaves, turn}
 
 image_bytes_below : (pictures : List Picture) (k : ℕ) → All (λ b. b < 256) (image_bytes pictures k)
@@ -73,7 +73,7 @@ module _ (pictures : List Picture) (at : Places) (entries scratch output : List 
   length-right : length right_pixels ≡ n
   length-right = let r = placed.right in length-block n where' (image_bytes pictures other) r.inside
 
-  length-due : length due ≡ n
+  pub length-due : length due ≡ n
   length-due = length-map2 (λ y z. min y z) left_pixels right_pixels ∙ omega (arith, length-left, length-right)
 
   length-done : (x : ℕ) → x ≤ n → length (take x due) ≡ x
@@ -124,6 +124,9 @@ module _ (pictures : List Picture) (at : Places) (entries scratch output : List 
 
   small_left : All (λ b. b < 256) left_pixels
   small_left = All-take (λ b. b < 256) n (drop place (image_bytes pictures image)) (All-drop (λ b. b < 256) place (image_bytes pictures image) (image_bytes_below pictures image))
+
+  pub due_below : All (λ b. b < 256) due
+  due_below = lesser_below left_pixels right_pixels small_left
 
   module _ (I : Type 0) (u s v k : ℕ) (q : List Bool) (vectors : List (List ℕ)) where
     -- within so many steps the row ends, and all its pixels are written
