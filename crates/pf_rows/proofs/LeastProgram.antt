@@ -18,12 +18,13 @@ use Rattle.pf_isa.specs.declared.memory.Region.{Region}
 use Rattle.pf_isa.specs.Bytes.{packed}
 use Rattle.pf_isa.specs.Memory.{nowhere}
 use Rattle.pf_isa.specs.Heads.{IsHead, IsTap}
-use Rattle.pf_isa.specs.Runs.{Places, IsPlaced, pixel_bytes, columns, rows, tap_address, row_entries, memory}
+use Rattle.pf_isa.specs.Runs.{Places, IsPlaced, pixel_bytes, columns, rows, tap_address, row_entries, row_budget, memory}
 use Rattle.pf_isa.specs.RowEnds.{row_size, with_row, RowDone, row_values, row_in_memory}
 use Rattle.pf_isa.proofs.MemoryLaws.{image_bytes, memory-image, memory-output, output_place, length-memory, length-image_regions, overwritten}
 use Rattle.pf_isa.proofs.RowLaws.{row_apart, row_low, length-row_entries, length-row_values, leaves}
 use Rattle.pf_isa.proofs.ByteLaws.{length-packed, get_or-map2}
-use Rattle.pf_rows.specs.Least.{byte_type, least_source, least_text, HasTaps, LeavesLeast}
+use Rattle.pf_neon.specs.Neon.{table}
+use Rattle.pf_rows.specs.Least.{byte_type, least_code, least_source, least_text, HasTaps, LeavesLeast}
 use Rattle.pf_rows.proofs.Blocks.{packed-one, lesser, length-block}
 use Rattle.pf_rows.proofs.Taps.{no_tap, columns_at, columns_fit, rows_fit}
 use Rattle.pf_rows.proofs.LeastValues.{tap_pixel, least_value, out_value-least}
@@ -207,3 +208,27 @@ module _ (h : Head) (first second : ℕ) (has : HasTaps h first second) (picture
         let small : All (λ b. b < 256) row_pixels = due_below pictures at entries scratch output (length h.taps) (columns h pictures) first (get_or h.taps first no_tap).image (place first y) second (get_or h.taps second no_tap).image (place second y) line row_at in
         let below : All (λ b. b < 256) values = subst (λ l. All (λ b. b < 256) l) values_are small in
         values_are ∙ sym (packed-one values below) ∙ ap (λ b. packed b values) (sym bytes_one)
+
+    -- the row ends within its steps, and has written its pixels alone
+    row_done : (I : Type 0) → columns h pictures % 16 ≡ 0 → RowDone table (least_text {I = I} h first second) pictures at y (row_in_memory (least_value h pictures first second) h pictures y) scratch output
+    row_done I blocks =
+        let n = columns h pictures in
+        let budget = row_budget (length (least_code {I = I} (length h.taps) first second)) (length h.taps) n in
+        let whole : 16 * (n / 16) ≡ n = omega arith in
+        let done : RowDue pictures at entries scratch output (length h.taps) n first (get_or h.taps first no_tap).image (place first y) second (get_or h.taps second no_tap).image (place second y) line row_at I budget =
+        row_due pictures at entries scratch output (length h.taps) n first (get_or h.taps first no_tap).image (place first y) second (get_or h.taps second no_tap).image (place second y) line row_at I (n / 16) budget whole (omega arith) in
+        let size : row_size h pictures ≡ n = ap (λ b. b * n) bytes_one ∙ omega arith in
+        let start : line ≡ row_size h pictures * y = line_is ∙ ap (λ w. w * y) (sym size) in
+        record {
+          last = done.last;
+          kept = scratch;
+          kept_size = refl;
+          ends = done.ends;
+          regions = done.regions ∙ ap (λ o. memory pictures at (packed 8 entries) scratch o) (same_row output row_pixels (row_in_memory (least_value h pictures first second) h pictures y) line (row_size h pictures) y start (long_row ∙ sym size) memory_is);
+        }
+
+pub leaves_least : (I : Type 0) (h : Head) (first second : ℕ) → HasTaps h first second → LeavesLeast (least_text {I = I} h first second) first second
+leaves_least I h first second has pictures keeps blocks =
+    leaves table (least_text {I = I} h first second) pictures (least_source h first second) (least_value h pictures first second) refl (sym has.out_ty) keeps
+    (λ x y column row. out_value-least h pictures first second x y has.first_tap has.second_tap)
+    (λ at scratch output placed y inside. row_done h first second has pictures keeps at scratch output placed y inside I blocks)
