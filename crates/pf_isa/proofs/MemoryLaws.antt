@@ -150,3 +150,17 @@ module _ (pictures : List Picture) (at : Places) (table scratch output : List �
       let after : set (memory pictures at table scratch output) k (region at.output (overwritten output off new) true) ≡ memory pictures at table scratch (overwritten output off new) =
       set_at front (region at.output output true) [] (region at.output (overwritten output off new) true) k refl in
       rw (stored-inside (memory pictures at table scratch output) k (at.output + off) new apart some places written lies, found, here) (ap (λ l. Some l) after)
+
+  -- a load from the scratch, and a store to it
+  pub loaded-scratch : (off n : ℕ) → 0 < n → off + n ≤ length scratch → loaded (memory pictures at table scratch output) (at.scratch + off) n ≡ Some (take n (drop off scratch))
+  loaded-scratch off n some inside =
+      let here : at.scratch + off - at.scratch ≡ off = omega arith in
+      let lies : LiesIn (region at.scratch scratch true) (at.scratch + off) n = record { from = omega arith; to = omega arith } in
+      rw (loaded-inside (memory pictures at table scratch output) 1 (at.scratch + off) n apart some (omega arith) refl lies, here) refl
+
+  pub stored-scratch : (off : ℕ) (new : List ℕ) → 0 < length new → off + length new ≤ length scratch
+      → stored (memory pictures at table scratch output) (at.scratch + off) new ≡ Some (memory pictures at table (overwritten scratch off new) output)
+  stored-scratch off new some inside =
+      let here : at.scratch + off - at.scratch ≡ off = omega arith in
+      let lies : LiesIn (region at.scratch scratch true) (at.scratch + off) (length new) = record { from = omega arith; to = omega arith } in
+      rw (stored-inside (memory pictures at table scratch output) 1 (at.scratch + off) new apart some (omega arith) refl lies, here) refl

@@ -4,4 +4,4 @@ pub mod LeastRow
 pub mod Taps
 pub mod LeastValues
 pub mod LeastProgram
-pub mod Moves
+pub mod LeastCode
