@@ -44,7 +44,7 @@ module _ (I : Type 0) (taps first second : ℕ) where
     accesses = All-from_recursion (AccessesPointer table) code (search rules);
   }
 
-two_apart : {X : Type 0} (R : X → X → Type 0) (a b : X) → R a b → AllPairs R (a ∷ b ∷ [])
+pub two_apart : {X : Type 0} (R : X → X → Type 0) (a b : X) → R a b → AllPairs R (a ∷ b ∷ [])
 two_apart R a b both zero zero d before within = absurd (omega arith)
 two_apart R a b both zero (suc zero) d before within = both
 two_apart R a b both zero (suc (suc j)) d before within = absurd (omega arith)

@@ -12,6 +12,7 @@ use Rattle.pf_ints.specs.Images.{Picture, IsPicture, pixel}
 use Rattle.pf_ints.specs.Lanes.{IsIn}
 use Rattle.pf_ints.specs.declared.lane.LaneType.{LaneType}
 use Rattle.pf_terms.specs.declared.names.Tap.{Tap}
+use Rattle.pf_terms.specs.TermTexts.{no_tap}
 use Rattle.pf_terms.specs.Kernels.{Keeps, KeepsRange, no_picture, left_reach, right_reach, up_reach, down_reach, width_of, height_of, out_width, out_height, tap_column, tap_row}
 use Rattle.pf_isa.specs.declared.program.Head.{Head}
 use Rattle.pf_isa.specs.declared.memory.Region.{Region}
@@ -26,7 +27,7 @@ use Rattle.pf_isa.proofs.ByteLaws.{length-packed, get_or-map2}
 use Rattle.pf_neon.specs.Neon.{table}
 use Rattle.pf_rows.specs.Least.{byte_type, least_code, least_source, least_text, HasTaps, LeavesLeast}
 use Rattle.pf_rows.proofs.Blocks.{packed-one, lesser, length-block}
-use Rattle.pf_rows.proofs.Taps.{no_tap, columns_at, columns_fit, rows_fit}
+use Rattle.pf_rows.proofs.Taps.{columns_at, columns_fit, rows_fit}
 use Rattle.pf_rows.proofs.LeastValues.{tap_pixel, least_value, out_value-least}
 use Rattle.pf_rows.proofs.LeastRow.{TapAt, RowAt, RowDue, row_due, due, length-due, due_below}
 

@@ -15,9 +15,9 @@ use Rattle.pf_terms.specs.declared.term.Term.TheVariants.{Leaf, Node, rolls-Leaf
 use Rattle.pf_terms.specs.declared.term.Term.TheOpen.Term-F.{Leaf as LeafLayer, Node as NodeLayer}
 use Rattle.pf_terms.specs.declared.term.Term.TheFolds.{fold-roll-Term}
 use Rattle.pf_terms.specs.Terms.{Val, value_step}
+use Rattle.pf_terms.specs.TermTexts.{no_tap}
 use Rattle.pf_terms.specs.Kernels.{tap_value, tap_values, tap_column, tap_row, no_picture, out_value}
 use Rattle.pf_isa.specs.declared.program.Head.{Head}
-use Rattle.pf_rows.proofs.Taps.{no_tap}
 use Rattle.pf_rows.specs.Least.{byte_type, least_term, least_source}
 
 Val-tap : (env : Env) (n : ℕ) (ty : LaneType) → Val env (Leaf (TapLeaf n) ty) ≡ get_or env.taps n (pos 0)

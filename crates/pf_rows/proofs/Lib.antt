@@ -5,3 +5,4 @@ pub mod Taps
 pub mod LeastValues
 pub mod LeastProgram
 pub mod LeastCode
+pub mod SampleHead

@@ -6,6 +6,7 @@ use Rattle.std.proofs.lemmas.Int.{ints, int_min_is, int_max_is}
 use Rattle.std.proofs.lemmas.List.{get_or-map, length-map}
 use Rattle.pf_ints.specs.Images.{Picture}
 use Rattle.pf_terms.specs.declared.names.Tap.{Tap}
+use Rattle.pf_terms.specs.TermTexts.{no_tap}
 use Rattle.pf_terms.specs.Kernels.{lowest, highest, left_reach, right_reach, up_reach, down_reach, width_of, height_of, out_width, out_height, tap_column, tap_row}
 
 lowest_low : (ns : List ℤ) → lowest ns ≤ℤ pos 0
@@ -40,10 +41,6 @@ column_at low high d width x reach before behind some = omega (arith, ints)
 
 column_inside : (low high d : ℤ) (width : ℕ) → low ≤ℤ pos 0 → low ≤ℤ d → d ≤ℤ high → pos 1 ≤ℤ (pos width -ℤ (high -ℤ low)) → unsigned_abs ((pos 0 -ℤ low) +ℤ d) + unsigned_abs (pos width -ℤ (high -ℤ low)) ≤ width
 column_inside low high d width reach before behind some = omega (arith, ints)
-
--- what stands in a list of taps past its end
-abbrev pub no_tap : Tap
-no_tap = record { image = 0; dx = pos 0; dy = pos 0 }
 
 -- a tap's columns and rows, which lie in the image
 module _ (taps : List Tap) (pictures : List Picture) (k : ℕ) (known : k < length taps) (wide : pos 1 ≤ℤ out_width taps pictures) (high : pos 1 ≤ℤ out_height taps pictures) where
