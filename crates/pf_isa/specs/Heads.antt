@@ -21,9 +21,12 @@ image_name d = record { name = d.name; ty = d.ty }
 abbrev pub def_name : Definition → DefName
 def_name d = record { name = d.name; ty = d.ty }
 
--- what the leaves of the lifted terms are called
-abbrev pub names_of : List ImageDecl → List Tap → List Definition → Names
-names_of images taps lifted = record { images = map image_name images; taps = taps; defs = map def_name lifted }
+-- what the leaves of the first lifted term are called; each further one may name those before it
+abbrev pub names_of : List ImageDecl → List Tap → Names
+names_of images taps = record { images = map image_name images; taps = taps; defs = [] }
+
+abbrev pub with_def : Names → Definition → Names
+with_def names d = record names { defs = names.defs ++ def_name d ∷ [] }
 
 -- an image of u8 or u16, with a range of its type
 pub record IsDecl (d : ImageDecl) : Type 0 where
@@ -40,16 +43,16 @@ pub record IsTap (count : ℕ) (t : Tap) : Type 0 where
   pub up : neg_ℤ (pos 64) ≤ℤ t.dy
   pub down : t.dy ≤ℤ pos 64
 
--- a lifted term, over the terms before it
-pub record IsLifted (images : List ImageDecl) (taps : List Tap) (before : List Definition) (d : Definition) : Type 0 where
+-- a lifted term whose leaves have these names
+pub record IsLifted (names : Names) (d : Definition) : Type 0 where
   pub typed : IsWellTyped d.term
   pub ty : stated_type d.term ≡ d.ty
-  pub named : is_named (names_of images taps before) d.term ≡ true
+  pub named : is_named names d.term ≡ true
   pub depth : depth_of d.term ≤ 1024
 
-abbrev pub AreLifted : List ImageDecl → List Tap → List Definition → List Definition → Type 0
-AreLifted images taps before [] = Unit {0}
-AreLifted images taps before (d ∷ ds) = IsLifted images taps before d × AreLifted images taps (before ++ d ∷ []) ds
+abbrev pub AreLifted : Names → List Definition → Type 0
+AreLifted names [] = Unit {0}
+AreLifted names (d ∷ ds) = IsLifted names d × AreLifted (with_def names d) ds
 
 -- all but the last have names, and the last is `out`
 abbrev pub AreLiftedNames : List (List ℕ) → Type 0
@@ -67,7 +70,7 @@ pub record IsHead (h : Head) : Type 0 where
   pub out_ty : IsPixelType h.out_ty
   pub scratch : h.scratch ≤ 2 ^ 30
   pub few_lifted : length h.lifted ≤ 65
-  pub lifted : AreLifted h.images h.taps [] h.lifted
+  pub lifted : AreLifted (names_of h.images h.taps) h.lifted
   pub lifted_names : AreLiftedNames (map (λ d. d.name) h.lifted)
   pub nodes : sum (map (λ d. node_count d.term) h.lifted) ≤ 1536
   pub distinct_names : AllPairs (λ n m. n ≢ m) (map (λ d. d.name) h.images ++ map (λ d. d.name) h.lifted)

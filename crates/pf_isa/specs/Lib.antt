@@ -1,6 +1,7 @@
 pub mod Bytes
 pub mod Files
 pub mod Lines
+pub mod Scan
 pub mod Control
 pub mod Tables
 pub mod Memory

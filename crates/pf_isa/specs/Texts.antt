@@ -20,18 +20,25 @@ use Rattle.pf_isa.specs.declared.code.Line.TheVariants.{Vector, Control as Contr
 use Rattle.pf_isa.specs.declared.code.Label.{Label}
 use Rattle.pf_isa.specs.Lines.{tight, IsLine}
 use Rattle.pf_isa.specs.Tables.{Table}
-use Rattle.pf_isa.specs.Heads.{image_name, names_of}
+use Rattle.pf_isa.specs.Heads.{image_name, names_of, with_def}
 use Rattle.pf_isa.specs.Programs.{Text, IsProgram}
 
 -- ---- the head's lines, as they are printed
 abbrev pub target_line : Target → List ℕ
 target_line target = codes ".target " ++ target_word target
 
-abbrev pub image_line : ImageDecl → List ℕ
-image_line d = codes ".image " ++ d.name ++ codes " " ++ type_word d.ty ++ codes " " ++ decimal d.lo ++ codes " " ++ decimal d.hi
+-- the type of an image's pixels, and the range that they lie in
+abbrev pub range_text : ImageDecl → List ℕ
+range_text d = type_word d.ty ++ codes " " ++ decimal d.lo ++ codes " " ++ decimal d.hi
 
-abbrev pub tap_line : List ImageDecl → Tap → List ℕ
-tap_line images t = codes ".tap " ++ (slice_index_or (map image_name images) t.image no_image).name ++ codes " " ++ signed_decimal t.dx ++ codes " " ++ signed_decimal t.dy
+abbrev pub image_line : ImageDecl → List ℕ
+image_line d = codes ".image " ++ d.name ++ codes " " ++ range_text d
+
+abbrev pub offsets_text : Tap → List ℕ
+offsets_text t = signed_decimal t.dx ++ codes " " ++ signed_decimal t.dy
+
+abbrev pub tap_line : List ImageName → Tap → List ℕ
+tap_line images t = codes ".tap " ++ (slice_index_or images t.image no_image).name ++ codes " " ++ offsets_text t
 
 abbrev pub out_line : LaneType → List ℕ
 out_line ty = codes ".out " ++ type_word ty
@@ -39,16 +46,23 @@ out_line ty = codes ".out " ++ type_word ty
 abbrev pub scratch_line : ℕ → List ℕ
 scratch_line n = codes ".scratch " ++ decimal n
 
+abbrev pub typed_term_text : Names → Definition → List ℕ
+typed_term_text names d = codes " " ++ type_word d.ty ++ codes " = " ++ term_text names d.term
+
 abbrev pub lifted_line : Names → Definition → List ℕ
-lifted_line names d = codes ".lifted " ++ d.name ++ codes " " ++ type_word d.ty ++ codes " = " ++ term_text names d.term
+lifted_line names d = codes ".lifted " ++ d.name ++ typed_term_text names d
+
+abbrev pub lifted_lines : Names → List Definition → List (List ℕ)
+lifted_lines names [] = []
+lifted_lines names (d ∷ ds) = lifted_line names d ∷ lifted_lines (with_def names d) ds
 
 abbrev pub cost_line : ℕ → List ℕ
 cost_line n = codes ".cost " ++ decimal n
 
 abbrev pub head_lines : Target → Head → List (List ℕ)
 head_lines target h =
-    target_line target ∷ (map image_line h.images ++ (map (tap_line h.images) h.taps
-    ++ (out_line h.out_ty ∷ scratch_line h.scratch ∷ (map (lifted_line (names_of h.images h.taps h.lifted)) h.lifted ++ cost_line h.cost ∷ []))))
+    target_line target ∷ (map image_line h.images ++ (map (tap_line (map image_name h.images)) h.taps
+    ++ (out_line h.out_ty ∷ scratch_line h.scratch ∷ (lifted_lines (names_of h.images h.taps) h.lifted ++ cost_line h.cost ∷ []))))
 
 -- ---- the lines behind the head
 
@@ -89,6 +103,44 @@ labels_of n [] = []
 labels_of n (Nothing ∷ more) = labels_of n more
 labels_of n (Named name ∷ more) = record { name = name; before = n } ∷ labels_of n more
 labels_of n (Does line ∷ more) = labels_of (n + 1) more
+
+-- ---- a text as it is written
+
+-- lines, each with its line feed
+abbrev pub printed : List (List ℕ) → List ℕ
+printed ls = flat_map (λ l. l ++ 10 ∷ []) ls
+
+-- the labels that stand before instruction n, and those that stand behind it
+abbrev pub labels_at : ℕ → List Label → List Label
+labels_at n [] = []
+labels_at n (l ∷ ls) = if nat_le l.before n then l ∷ labels_at n ls else []
+
+abbrev pub labels_behind : ℕ → List Label → List Label
+labels_behind n [] = []
+labels_behind n (l ∷ ls) = if nat_le l.before n then labels_behind n ls else l ∷ ls
+
+abbrev pub named : {I O : Type 0} → List Label → List (Said I O)
+named ls = map (λ l. Named l.name) ls
+
+abbrev pub label_lines : List Label → List (List ℕ)
+label_lines ls = map (λ l. label_text l.name) ls
+
+-- what the lines of code and labels say, from instruction n on: each label before the instruction that it stands before
+abbrev pub said_from : {I O : Type 0} → ℕ → List (Line I O) → List Label → List (Said I O)
+said_from n [] ls = named ls
+said_from n (line ∷ more) ls = named (labels_at n ls) ++ Does line ∷ said_from (n + 1) more (labels_behind n ls)
+
+abbrev pub said_line : {I O : Type 0} → Table O → Said I O → List ℕ
+said_line t Nothing = []
+said_line t (Named name) = label_text name
+said_line t (Does line) = line_text t line
+
+-- the lines of code and labels, from instruction n on
+abbrev pub code_lines : {I O : Type 0} → Table O → ℕ → List (Line I O) → List Label → List (List ℕ)
+code_lines t n [] ls = label_lines ls
+code_lines t n (line ∷ more) ls = label_lines (labels_at n ls) ++ line_text t line ∷ code_lines t (n + 1) more (labels_behind n ls)
+
+-- ---- programs
 
 -- a vector instruction is one of the table
 abbrev pub IsOpOf : {I O : Type 0} → (O → Type 0) → Line I O → Type 0

@@ -9,6 +9,9 @@ mod isa;
 mod memory;
 mod program;
 mod registers;
+mod scan;
+mod tight;
+mod write;
 
 pub use access::Access;
 pub use block::{Block, Item, ItemList};
@@ -18,3 +21,6 @@ pub use isa::Isa;
 pub use memory::{Region, RegionList};
 pub use program::{Head, Program};
 pub use registers::{Reg, RegFile, RegList, VectorList};
+pub use scan::{behind, checked, next_number, number_at};
+pub use tight::{ShortLine, tighten};
+pub use write::{push_number, write_text};

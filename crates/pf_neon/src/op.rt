@@ -1,5 +1,5 @@
 ghost use Rattle.std.specs.Prelude.{◌≡◌, ◌≤◌, IsTrue};
-ghost use Rattle.pf_neon.specs.Forms.{IsForm, is_row};
+ghost use Rattle.pf_neon.specs.Forms.{IsForm, is_row, name_cost};
 
 use std::marker::Model;
 
@@ -19,6 +19,17 @@ pub enum Lanes {
 pub enum Mnemonic {
     /// The lesser number, without signs.
     Umin,
+}
+
+impl Mnemonic {
+    /// What an instruction of this name costs.
+    pub fn cost(self) -> u32
+        ensures { result ≡ name_cost self }
+    {
+        match self {
+            Mnemonic::Umin => 1,
+        }
+    }
 }
 
 /// Vector instructions, by the shape of their operands.

@@ -1,0 +1,3 @@
+pub mod Typing
+pub mod Printing
+pub mod Nodes
