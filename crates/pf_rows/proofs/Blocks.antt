@@ -2,8 +2,8 @@
 use Rattle.std.proofs.Common.{◌≡◌, ℕ, zero, suc, ◌+◌, ◌*◌, ◌%◌, ◌<◌, ◌≤◌, List, [], ◌∷◌, length, take, drop, All, refl, arith, sym, ◌∙◌, min, length-take, length-drop}
 use Rattle.std.proofs.Math.Nat.{mod-eq_of_lt}
 use Rattle.std.proofs.lemmas.List.Elements.{All-nil, All-cons, All-head, All-tail, All-take, All-drop}
-use Rattle.pf_isa.specs.Bytes.{number, bytes, lanes, packed, map2}
-use Rattle.pf_isa.proofs.ByteLaws.{bytes_one, take-map2, drop-map2}
+use Rattle.pf_isa.specs.Bytes.{lanes, packed, map2}
+use Rattle.pf_isa.proofs.ByteLaws.{take-map2, drop-map2}
 
 -- lanes of one byte are the bytes
 pub lanes-one : (count : ℕ) (v : List ℕ) → length v ≡ count → lanes 1 count v ≡ v

@@ -1,13 +1,12 @@
 -- The code of the least of two taps: it moves addresses and whole pixels, its work, and that it is a program's.
-use Rattle.std.proofs.Common.{◌≡◌, ◌≢◌, ℕ, zero, suc, ◌+◌, ◌<◌, ◌≤◌, List, [], ◌∷◌, length, All, true, false, refl, arith, rules}
+use Rattle.std.proofs.Common.{◌≡◌, ◌≢◌, ℕ, zero, suc, ◌+◌, ◌≤◌, List, [], ◌∷◌, length, true, refl, arith, rules}
 use Rattle.std.specs.Prelude.{codes}
 use Rattle.std.specs.List.{AllPairs}
 use Rattle.pf_ints.specs.Words.{is_name, is_reserved}
 use Rattle.pf_isa.specs.Programs.{Text, IsProgram, IsInstructionOf, IsLabel}
 use Rattle.std.proofs.lemmas.List.Elements.{All-from_recursion}
-use Rattle.pf_isa.specs.declared.control.Control.TheVariants.{LoadPtr, AddImm}
+use Rattle.pf_isa.specs.declared.control.Control.TheVariants.{LoadPtr}
 use Rattle.pf_isa.specs.declared.code.Line.{Line}
-use Rattle.pf_isa.specs.declared.code.Line.TheVariants.{Control as Controls}
 use Rattle.pf_isa.specs.declared.code.Label.{Label}
 use Rattle.pf_isa.specs.declared.program.Head.{Head}
 use Rattle.pf_isa.specs.Moved.{Moved, Work, WritesOnly, OfControl, MovesPixel, MovesTable, MovesEnd, MovesPointer, MovesValue, StoresValue, Compares, StoresPointer, AccessesPointer}
@@ -52,11 +51,11 @@ two_apart R a b both (suc i) zero d before within = absurd (omega arith)
 two_apart R a b both (suc i) (suc zero) d before within = absurd (omega arith)
 two_apart R a b both (suc i) (suc (suc j)) d before within = absurd (omega arith)
 
-loop_named : is_name (codes "loop") ≡ true
+pub loop_named : is_name (codes "loop") ≡ true
 unfolding is_name is_reserved
 loop_named = refl
 
-done_named : is_name (codes "done") ≡ true
+pub done_named : is_name (codes "done") ≡ true
 unfolding is_name is_reserved
 done_named = refl
 

@@ -1,24 +1,23 @@
 -- The program of the least of two taps leaves its kernel's output.
-use Rattle.std.proofs.Common.{◌≡◌, ℕ, zero, suc, ◌+◌, ◌-◌, ◌*◌, ◌/◌, ◌%◌, ◌^◌, ◌<◌, ◌≤◌, List, [], ◌∷◌, ◌++◌, length, map, take, drop, get_or, All, refl, arith, ap, sym, subst, ◌∙◌, min, length-append, length-drop, length-take}
-use Rattle.std.specs.Prelude.{ℤ, pos, ◌+ℤ◌, ◌-ℤ◌, ◌≤ℤ◌, unsigned_abs, zip}
-use Rattle.std.specs.List.{range_with_len}
+use Rattle.std.proofs.Common.{◌≡◌, ℕ, suc, ◌+◌, ◌*◌, ◌/◌, ◌%◌, ◌^◌, ◌<◌, ◌≤◌, List, [], ◌∷◌, length, map, take, drop, get_or, All, refl, arith, ap, sym, subst, ◌∙◌, min}
+use Rattle.std.specs.Prelude.{pos, zip}
 use Rattle.std.proofs.lemmas.Int.{ints}
 use Rattle.std.proofs.lemmas.Nat.{column_fits}
 use Rattle.std.proofs.lemmas.List.{get_or_at, get_or-map, length-map, get_or_append_left, get_or-append-add, get_or-take, get_or-drop, ext_get_or}
 use Rattle.std.proofs.lemmas.List.Elements.{All-get_or, All-weaker}
-use Rattle.std.proofs.lemmas.List.FromFn.{length-map-range_with_len, get_or-map-range_with_len}
+use Rattle.std.proofs.lemmas.List.FromFn.{get_or-map-range_with_len}
 use Rattle.std.proofs.lemmas.Slice.Zip.{get_or-zip, length-zip}
-use Rattle.pf_ints.specs.Images.{Picture, IsPicture, pixel}
+use Rattle.pf_ints.specs.Images.{Picture, IsPicture}
 use Rattle.pf_ints.specs.Lanes.{IsIn}
 use Rattle.pf_ints.specs.declared.lane.LaneType.{LaneType}
 use Rattle.pf_terms.specs.declared.names.Tap.{Tap}
 use Rattle.pf_terms.specs.TermTexts.{no_tap}
-use Rattle.pf_terms.specs.Kernels.{Keeps, KeepsRange, no_picture, left_reach, right_reach, up_reach, down_reach, width_of, height_of, out_width, out_height, tap_column, tap_row}
+use Rattle.pf_terms.specs.Kernels.{Keeps, KeepsRange, no_picture, width_of, height_of, tap_column, tap_row}
 use Rattle.pf_isa.specs.declared.program.Head.{Head}
 use Rattle.pf_isa.specs.declared.memory.Region.{Region}
 use Rattle.pf_isa.specs.Bytes.{packed}
 use Rattle.pf_isa.specs.Memory.{nowhere}
-use Rattle.pf_isa.specs.Heads.{IsHead, IsTap}
+use Rattle.pf_isa.specs.Heads.{IsTap}
 use Rattle.pf_isa.specs.Runs.{Places, IsPlaced, pixel_bytes, columns, rows, tap_address, row_entries, row_budget, memory}
 use Rattle.pf_isa.specs.RowEnds.{row_size, with_row, RowDone, row_values, row_in_memory}
 use Rattle.pf_isa.proofs.MemoryLaws.{image_bytes, memory-image, memory-output, output_place, length-memory, length-image_regions, overwritten}
@@ -26,11 +25,10 @@ use Rattle.pf_isa.proofs.RowLaws.{row_apart, row_low, length-row_entries, length
 use Rattle.pf_isa.proofs.ByteLaws.{length-packed, get_or-map2}
 use Rattle.pf_neon.specs.Neon.{table}
 use Rattle.pf_rows.specs.Least.{byte_type, least_code, least_source, least_text, HasTaps, LeavesLeast}
-use Rattle.pf_rows.proofs.Blocks.{packed-one, lesser, length-block}
+use Rattle.pf_rows.proofs.Blocks.{packed-one, length-block}
 use Rattle.pf_rows.proofs.Taps.{columns_at, columns_fit, rows_fit}
 use Rattle.pf_rows.proofs.LeastValues.{tap_pixel, least_value, out_value-least}
 use Rattle.pf_rows.proofs.LeastRow.{TapAt, RowAt, RowDue, row_due, due, length-due, due_below}
-
 
 same_row : (output due row : List ℕ) (line size y : ℕ) → line ≡ size * y → length due ≡ size → due ≡ row → overwritten output line due ≡ with_row output size y row
 same_row output due row line size y here long same = rw (here, long, same) refl
@@ -197,11 +195,11 @@ module _ (h : Head) (first second : ℕ) (has : HasTaps h first second) (picture
         let right_long : length right ≡ n = length-block n (place second y) (image_bytes pictures (get_or h.taps second no_tap).image) (tap_fits second has.second_tap y inside) in
         ext_get_or 0 row_pixels (row_values value n y) (long_row ∙ sym (length-row_values value n y))
         (λ x within.
-            let column : x < n = rw long_row at within in
-            get_or-map2 (λ a b. min a b) left right x 0 0 (omega arith) (omega arith)
-            ∙ ap (λ a. min a (get_or right x 0)) (tap_pixel_is first has.first_tap x y column)
-            ∙ ap (λ b. min (tap_pixel h pictures first x y) b) (tap_pixel_is second has.second_tap x y column)
-            ∙ sym (get_or-map-range_with_len (λ c. value c y) 0 n x x 0 column (omega arith)))
+        let column : x < n = rw long_row at within in
+        get_or-map2 (λ a b. min a b) left right x 0 0 (omega arith) (omega arith)
+        ∙ ap (λ a. min a (get_or right x 0)) (tap_pixel_is first has.first_tap x y column)
+        ∙ ap (λ b. min (tap_pixel h pictures first x y) b) (tap_pixel_is second has.second_tap x y column)
+        ∙ sym (get_or-map-range_with_len (λ c. value c y) 0 n x x 0 column (omega arith)))
 
     memory_is : row_pixels ≡ row_in_memory (least_value h pictures first second) h pictures y
     memory_is =

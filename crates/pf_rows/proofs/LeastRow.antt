@@ -1,5 +1,5 @@
 -- A row of the least of two taps, from its first pixel to its last.
-use Rattle.std.proofs.Common.{◌≡◌, ℕ, zero, suc, ◌+◌, ◌-◌, ◌*◌, ◌%◌, ◌^◌, ◌<◌, ◌≤◌, List, [], ◌∷◌, ◌++◌, length, take, drop, get_or, All, Bool, true, false, Some, refl, arith, ltb, ap, sym, ◌∙◌, min, add-zero, length-take, length-drop}
+use Rattle.std.proofs.Common.{◌≡◌, ℕ, zero, suc, ◌+◌, ◌-◌, ◌*◌, ◌^◌, ◌<◌, ◌≤◌, List, ◌++◌, length, take, drop, get_or, All, Bool, true, false, Some, refl, arith, ltb, ap, sym, ◌∙◌, min, add-zero, length-take}
 use Rattle.std.specs.Prelude.{replicate}
 use Rattle.std.specs.List.{AllPairs}
 use Rattle.std.proofs.lemmas.Bool.{lt-ltb, le-ltb}
@@ -171,9 +171,9 @@ module _ (pictures : List Picture) (at : Places) (entries scratch output : List 
         record {
           last = rest.last;
           ends = ap (λ c. run table (least_code {I = I} taps first second) least_labels c (at_loop x p e flag a b (at_pixel x))) steps
-          ∙ turned
-          ∙ ap (λ y. run table (least_code {I = I} taps first second) least_labels (15 * m + 4) (at_loop y pointer (wrapped Neon (x + 16)) false (take 16 (drop x due)) right_bytes (at_pixel (x + 16)))) next
-          ∙ rest.ends;
+              ∙ turned
+              ∙ ap (λ y. run table (least_code {I = I} taps first second) least_labels (15 * m + 4) (at_loop y pointer (wrapped Neon (x + 16)) false (take 16 (drop x due)) right_bytes (at_pixel (x + 16)))) next
+              ∙ rest.ends;
           regions = rest.regions;
         }
 

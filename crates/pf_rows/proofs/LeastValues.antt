@@ -1,17 +1,15 @@
 -- What the kernel of the least of two taps says of a pixel.
-use Rattle.std.proofs.Common.{◌≡◌, ℕ, ◌<◌, List, [], ◌∷◌, length, map, get_or, refl, arith, ap, sym, ◌∙◌, min}
+use Rattle.std.proofs.Common.{◌≡◌, ℕ, ◌<◌, List, [], ◌∷◌, length, get_or, refl, arith, ap, sym, ◌∙◌, min}
 use Rattle.std.specs.Prelude.{ℤ, pos}
 use Rattle.std.specs.Int.{int_min}
 use Rattle.std.proofs.lemmas.Int.{ints, int_min_is}
 use Rattle.std.proofs.lemmas.List.{get_or-map}
 use Rattle.pf_ints.specs.Images.{Picture, pixel}
 use Rattle.pf_ints.specs.declared.lane.LaneType.{LaneType}
-use Rattle.pf_terms.specs.declared.names.Tap.{Tap}
 use Rattle.pf_terms.specs.declared.op.Op.TheVariants.{Min}
 use Rattle.pf_terms.specs.declared.term.Env.{Env}
 use Rattle.pf_terms.specs.declared.term.Leaf.TheVariants.{Tap as TapLeaf}
-use Rattle.pf_terms.specs.declared.term.Term.{Term}
-use Rattle.pf_terms.specs.declared.term.Term.TheVariants.{Leaf, Node, rolls-Leaf, rolls-Node}
+use Rattle.pf_terms.specs.declared.term.Term.TheVariants.{Leaf, rolls-Leaf, rolls-Node}
 use Rattle.pf_terms.specs.declared.term.Term.TheOpen.Term-F.{Leaf as LeafLayer, Node as NodeLayer}
 use Rattle.pf_terms.specs.declared.term.Term.TheFolds.{fold-roll-Term}
 use Rattle.pf_terms.specs.Terms.{Val, value_step}

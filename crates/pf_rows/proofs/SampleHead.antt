@@ -1,5 +1,5 @@
 -- A head with one tap.
-use Rattle.std.proofs.Common.{◌≡◌, ◌≢◌, ℕ, pos, List, [], ◌∷◌, All, true, refl, arith, rules, ap, sym, ◌∙◌, Bool, Result, Ok}
+use Rattle.std.proofs.Common.{◌≡◌, ◌≢◌, ℕ, [], ◌∷◌, true, refl, arith, rules, ap, sym, ◌∙◌, Bool, Result, Ok}
 use Rattle.std.specs.Prelude.{codes}
 use Rattle.std.specs.List.{AllPairs}
 use Rattle.std.proofs.lemmas.Int.{ints}
@@ -9,17 +9,15 @@ use Rattle.pf_ints.specs.Images.{IsPixelType}
 use Rattle.pf_ints.specs.Words.{is_name, is_reserved}
 use Rattle.pf_terms.specs.declared.fault.TermFault.{TermFault}
 use Rattle.pf_terms.specs.declared.kernel.ImageDecl.{ImageDecl}
-use Rattle.pf_terms.specs.declared.names.Names.{Names}
-use Rattle.pf_terms.specs.declared.names.Tap.{Tap}
 use Rattle.pf_terms.specs.declared.term.Leaf.TheVariants.{Tap as TapLeaf}
 use Rattle.pf_terms.specs.declared.term.Term.{Term}
 use Rattle.pf_terms.specs.declared.term.Term.TheVariants.{Leaf, rolls-Leaf}
 use Rattle.pf_terms.specs.declared.term.Term.TheOpen.Term-F.{Leaf as LeafLayer}
 use Rattle.pf_terms.specs.declared.term.Term.TheFolds.{fold-roll-Term}
-use Rattle.pf_terms.specs.Terms.{IsWellTyped, stated_type, stated_step, node_count, nodes_step, depth_of, depth_step, is_well_formed, formed_step, typing, typing_step}
+use Rattle.pf_terms.specs.Terms.{stated_type, stated_step, node_count, nodes_step, depth_of, depth_step, is_well_formed, formed_step, typing, typing_step}
 use Rattle.pf_terms.specs.TermTexts.{is_named, named_step, no_tap}
 use Rattle.pf_isa.specs.declared.program.Head.{Head}
-use Rattle.pf_isa.specs.Heads.{IsHead, IsDecl, IsTap, IsLifted, names_of}
+use Rattle.pf_isa.specs.Heads.{IsDecl, IsTap, IsLifted, names_of}
 use Rattle.pf_rows.specs.Least.{byte_type, HasTaps}
 use Rattle.pf_rows.proofs.LeastCode.{two_apart}
 
@@ -31,7 +29,6 @@ image = record { name = codes "a"; ty = byte_type; lo = 0; hi = 255 }
 
 abbrev pub sample : Head
 sample = record { images = image ∷ []; taps = no_tap ∷ []; out_ty = byte_type; scratch = 0; lifted = record { name = codes "out"; ty = byte_type; term = tap } ∷ []; cost = 0 }
-
 
 stated : stated_type tap ≡ byte_type
 stated = ap stated_type (sym (rolls-Leaf (TapLeaf 0) byte_type)) ∙ fold-roll-Term LaneType (λ layer. stated_step layer) (LeafLayer (TapLeaf 0) byte_type)
@@ -48,9 +45,9 @@ formed = ap is_well_formed (sym (rolls-Leaf (TapLeaf 0) byte_type)) ∙ fold-rol
 typed : typing tap ≡ Ok (stated_type tap)
 typed = ap typing (sym (rolls-Leaf (TapLeaf 0) byte_type)) ∙ fold-roll-Term (Result LaneType TermFault) typing_step (LeafLayer (TapLeaf 0) byte_type) ∙ ap (λ t. Ok t) (sym stated)
 
-named : is_named (names_of (image ∷ []) (no_tap ∷ []) []) tap ≡ true
+named : is_named (names_of (image ∷ []) (no_tap ∷ [])) tap ≡ true
 named =
-    let names = names_of (image ∷ []) (no_tap ∷ []) [] in
+    let names = names_of (image ∷ []) (no_tap ∷ []) in
     ap (is_named names) (sym (rolls-Leaf (TapLeaf 0) byte_type)) ∙ fold-roll-Term Bool (named_step names) (LeafLayer (TapLeaf 0) byte_type)
 
 letter_named : is_name (codes "a") ≡ true
@@ -69,7 +66,7 @@ tap_known = record { image = omega arith; left = omega (arith, ints); right = om
 two_names : AllPairs (λ n m. n ≢ m) (codes "a" ∷ codes "out" ∷ [])
 two_names = two_apart (λ n m. n ≢ m) (codes "a") (codes "out") (λ e. cc)
 
-lifted_tap : IsLifted (image ∷ []) (no_tap ∷ []) [] (record { name = codes "out"; ty = byte_type; term = tap })
+lifted_tap : IsLifted (names_of (image ∷ []) (no_tap ∷ [])) (record { name = codes "out"; ty = byte_type; term = tap })
 lifted_tap = record { typed = record { formed = formed; typed = typed }; ty = stated; named = named; depth = omega (arith, depth) }
 
 pub sample_taps : HasTaps sample 0 0

@@ -1,11 +1,11 @@
 -- A row of the least of two taps, a few instructions at a time.
-use Rattle.std.proofs.Common.{◌≡◌, ℕ, zero, suc, ◌+◌, ◌*◌, ◌%◌, ◌^◌, ◌<◌, List, [], ◌∷◌, Bool, true, false, Option, Some, refl, arith, ltb, ap, ◌∙◌, min}
+use Rattle.std.proofs.Common.{◌≡◌, ℕ, suc, ◌+◌, ◌*◌, List, [], ◌∷◌, Bool, true, false, Some, refl, arith, ltb, ap, ◌∙◌, min}
 use Rattle.pf_ints.specs.declared.target.Target.TheVariants.{Neon}
 use Rattle.pf_isa.specs.declared.memory.Region.{Region}
 use Rattle.pf_isa.specs.declared.code.Line.{Line}
 use Rattle.pf_isa.specs.Bytes.{number}
 use Rattle.pf_isa.specs.Memory.{loaded, stored}
-use Rattle.pf_isa.specs.Steps.{State, run, wrapped, End, Ended}
+use Rattle.pf_isa.specs.Steps.{State, run, wrapped, Ended}
 use Rattle.pf_neon.specs.declared.op.Form.{Form}
 use Rattle.pf_neon.specs.declared.op.Lanes.TheVariants.{Bytes}
 use Rattle.pf_neon.specs.Forms.{lanewise}
