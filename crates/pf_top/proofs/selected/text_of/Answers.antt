@@ -2,8 +2,8 @@ use Rattle.pf_top.proofs.HeadLaws.{head_taps}
 use Rattle.pf_top.proofs.HeadlineLaws.{selected_from}
 use Rattle.pf_top.proofs.selected.text_of.Goals as goal
 
-pub least_program-program-requires : goal.least_program-program-requires
-least_program-program-requires c = rw (c.in_ok-head.ensures, c.second_tap.ensures) (head_taps c.args.kernel.now c.requires)
+pub least_program-requires : goal.least_program-requires
+least_program-requires c = rw (c.in_ok-head.ensures, c.second_tap.ensures) (head_taps c.args.kernel.now c.requires)
 
 pub returns : goal.returns
 returns c =
