@@ -5,6 +5,8 @@ mod fault;
 mod folds;
 mod rows;
 mod steps;
+#[cfg(test)]
+mod tests;
 
 pub use fault::StepFault;
 pub use steps::apply;

@@ -9,3 +9,5 @@ pub mod RowLaws
 pub mod TextLaws
 pub mod TermLaws
 pub mod WrittenLaws
+pub mod MachineLaws
+pub mod RunLaws

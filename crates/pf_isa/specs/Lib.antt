@@ -13,3 +13,5 @@ pub mod Blocks
 pub mod Runs
 pub mod RowEnds
 pub mod Moved
+pub mod Spans
+pub mod Machines

@@ -9,3 +9,6 @@ mod reads;
 
 pub use neon::Neon;
 pub use op::{Form, Lanes, Mnemonic, Op};
+
+#[cfg(test)]
+mod tests;

@@ -19,10 +19,10 @@ use Rattle.pf_terms.proofs.Printing.{pieces}
 use Rattle.pf_terms.proofs.Typing.{and_left, and_right, all_true_at, behind, stopped, gathered, tells_below}
 use Rattle.pf_terms.specs.Terms.{all_true, is_formed_node, is_well_formed, typing, types_from, then_node, Val, operand_count, formed_step, typing_step, Tells, fault_below, node_type}
 
-formed_is : (op : Op) (ty : LaneType) (k : ℕ) (args : List Term) → is_well_formed (Node op ty k args) ≡ (is_formed_node (row_of op) k (length (map is_well_formed args)) && all_true (map is_well_formed args))
+pub formed_is : (op : Op) (ty : LaneType) (k : ℕ) (args : List Term) → is_well_formed (Node op ty k args) ≡ (is_formed_node (row_of op) k (length (map is_well_formed args)) && all_true (map is_well_formed args))
 formed_is op ty k args = ap is_well_formed (sym (rolls-Node op ty k args)) ∙ fold-roll-Term Bool formed_step (NodeLayer op ty k args)
 
-typing_is : (op : Op) (ty : LaneType) (k : ℕ) (args : List Term) → typing (Node op ty k args) ≡ then_node (row_of op) ty k (types_from 0 (map typing args))
+pub typing_is : (op : Op) (ty : LaneType) (k : ℕ) (args : List Term) → typing (Node op ty k args) ≡ then_node (row_of op) ty k (types_from 0 (map typing args))
 typing_is op ty k args = ap typing (sym (rolls-Node op ty k args)) ∙ fold-roll-Term (Result LaneType TermFault) typing_step (NodeLayer op ty k args)
 
 -- the operands of a well-formed node are as many as its operator's, and well-formed

@@ -3,3 +3,4 @@ pub mod Terms
 pub mod Kernels
 pub mod TermTexts
 pub mod Pieces
+pub mod Small

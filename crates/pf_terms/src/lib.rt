@@ -8,7 +8,10 @@ mod op;
 mod print;
 mod row;
 mod term;
+#[cfg(test)]
+mod tests;
 mod types;
+mod values;
 mod weights;
 
 pub use fault::TermFault;
@@ -19,4 +22,5 @@ pub use print::{print_term, write_term, write_type};
 pub use row::{Amounts, Gives, Operands, Spelling};
 pub use term::{Env, Leaf, Term, Terms};
 pub use types::type_of;
+pub use values::value;
 pub use weights::weight;
