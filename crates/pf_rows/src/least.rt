@@ -1,4 +1,4 @@
-ghost use Rattle.std.specs.Prelude.{◌≡◌, ◌+◌, ◌<◌, ◌≤◌, ◌++◌, [], ◌∷◌, length, IfOk, IsTrue, OnOk, codes};
+ghost use Rattle.std.specs.Prelude.{◌≡◌, ◌+◌, ◌<◌, ◌≤◌, ◌++◌, [], ◌∷◌, length, IfOk, IsTrue, OnOk, codes, false};
 ghost use Rattle.pf_ints.specs.Words.{is_name};
 ghost use Rattle.pf_isa.specs.Control.{IsControl};
 ghost use Rattle.pf_isa.specs.Moved.{Moved, Work};
@@ -90,15 +90,7 @@ fn begin(code: &mut Code<Neon>, taps: u8) -> Result<(), Memory>
     requires { taps ≤ 64 }
     ensures { OnOk result (code.new ≡ code.old ++ begin_lines taps) }
 {
-    control(
-        code,
-        Control::AddImm {
-            to: role::KEPT,
-            from: role::TABLE,
-            down: false,
-            by: 0,
-        },
-    )?;
+    add(code, role::KEPT, role::TABLE, 0)?;
     control(
         code,
         Control::LoadPtr {
@@ -120,15 +112,7 @@ fn begin(code: &mut Code<Neon>, taps: u8) -> Result<(), Memory>
 fn test(code: &mut Code<Neon>) -> Result<(), Memory>
     ensures { OnOk result (code.new ≡ code.old ++ test_lines) }
 {
-    control(
-        code,
-        Control::AddImm {
-            to: role::END,
-            from: role::PIXEL,
-            down: false,
-            by: BLOCK,
-        },
-    )?;
+    add(code, role::END, role::PIXEL, BLOCK)?;
     control(
         code,
         Control::Compare {
@@ -179,16 +163,25 @@ fn store(code: &mut Code<Neon>, vector: u32, entry: u8) -> Result<(), Memory>
 fn next(code: &mut Code<Neon>) -> Result<(), Memory>
     ensures { OnOk result (code.new ≡ code.old ++ next_lines) }
 {
+    add(code, role::PIXEL, role::PIXEL, BLOCK)?;
+    control(code, Control::Jump { label: loop_name() })
+}
+
+/// Adds a number.
+fn add(code: &mut Code<Neon>, to: u8, from: u8, by: u32) -> Result<(), Memory>
+    requires { IsControl (Control.AddImm to from false by) }
+    ensures { OnOk result
+        (code.new ≡ code.old ++ Line.Control (Control.AddImm to from false by) ∷ []) }
+{
     control(
         code,
         Control::AddImm {
-            to: role::PIXEL,
-            from: role::PIXEL,
+            to,
+            from,
             down: false,
-            by: BLOCK,
+            by,
         },
-    )?;
-    control(code, Control::Jump { label: loop_name() })
+    )
 }
 
 fn control(code: &mut Code<Neon>, control: Control) -> Result<(), Memory>
