@@ -1,5 +1,5 @@
 -- The reader of kernels reads each kernel's text, and nothing else.
-use Rattle.std.proofs.Common.{◌≡◌, ◌≢◌, ℕ, Bool, true, false, cond, List, [], ◌∷◌, ◌++◌, Option, Some, None, ◌∙◌, refl, sym, ap, subst, append-nil}
+use Rattle.std.proofs.Common.{◌≡◌, ◌≢◌, ℕ, Bool, true, false, cond, List, [], ◌∷◌, ◌++◌, Option, Some, None, ◌∙◌, refl, sym, ap, subst}
 use Rattle.std.specs.Prelude.{codes, option_and_then, IfSome, IfNone}
 use Rattle.std.specs.Str.{bytes_eq}
 use Rattle.std.specs.Cmp.Lexicographic.{bytes_decides}
@@ -8,8 +8,8 @@ use Rattle.pf_top.specs.declared.least.LeastKernel.{LeastKernel}
 use Rattle.pf_top.specs.declared.least.Side.{Side}
 use Rattle.pf_top.specs.declared.least.Side.TheVariants.{First, Second}
 use Rattle.pf_top.specs.LeastKernels.{image_of, line_end, least_text, IsProper, IsLeastKernel}
-use Rattle.pf_top.specs.Reading.{on_field, side_of, kernel_of, least_of, field_of}
-use Rattle.pf_top.proofs.Readings.{IsField, ReadsOn, reads_on, field_back}
+use Rattle.pf_top.specs.Reading.{on_field, side_of, kernel_of, least_of}
+use Rattle.pf_top.proofs.Readings.{reads_on, field_back}
 
 -- the name of one of two images
 abbrev chosen : List ℕ → List ℕ → Side → List ℕ

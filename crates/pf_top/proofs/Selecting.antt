@@ -1,7 +1,6 @@
 -- How the steps of `select` make the whole call.
-use Rattle.std.proofs.Common.{◌≡◌, ◌≢◌, ◌↔◌, ℕ, suc, zero, ◌+◌, ◌≤◌, ◌⊎◌, take, List, Option, Some, None, Result, Ok, Err, ◌∙◌, refl, sym, ap, subst, arith}
-use Rattle.std.specs.Prelude.{IsSomeAnd, IfNone, IfErr, ⊤}
-use Rattle.pf_ints.specs.declared.target.Target.{Target}
+use Rattle.std.proofs.Common.{◌≡◌, ◌≢◌, ◌↔◌, ℕ, suc, ◌≤◌, ◌⊎◌, take, List, Option, Some, None, Result, Ok, Err, ◌∙◌, refl, sym, ap, subst, arith}
+use Rattle.std.specs.Prelude.{IsSomeAnd, IfNone, ⊤}
 use Rattle.pf_ints.specs.declared.target.Target.TheVariants.{Neon}
 use Rattle.pf_top.specs.declared.least.LeastKernel.{LeastKernel}
 use Rattle.pf_top.specs.declared.verdict.FileWord.{FileWord}
@@ -12,8 +11,8 @@ use Rattle.pf_top.specs.Counts.{raised, raised_by, Rose}
 use Rattle.pf_top.specs.LeastKernels.{IsLeastKernel}
 use Rattle.pf_top.specs.Outside.{Contents, SameContents, Puts, PutsPart, Changes}
 use Rattle.pf_top.specs.Selected.{IsSelected}
-use Rattle.pf_top.specs.Selections.{Select, Store, Came, Selects, Leads, Reaches, Fits, HasForm, judged, file_name, place, lift_text, lower_text}
-use Rattle.pf_top.specs.Steps.{Judged, Judges, Written, Wrote, verdict_of}
+use Rattle.pf_top.specs.Selections.{Select, Store, Came, Selects, Reaches, Fits, HasForm, judged, file_name, place, lift_text, lower_text}
+use Rattle.pf_top.specs.Steps.{Judged, Written, verdict_of}
 
 -- two changes one after the other
 pub changes_then : {T : Type 0} (P Q R : T → T → Type 0) → ((m n o : T) → P m n → Q n o → R m o) → (a b c : Option T) → Changes P a b → Changes Q b c → Changes R a c

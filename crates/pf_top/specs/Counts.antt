@@ -1,5 +1,5 @@
 -- Counts that stand still at the end of their type.
-use Rattle.std.specs.Prelude.{◌≡◌, ℕ, suc, zero, ◌+◌, ◌-◌, ◌^◌, ◌≤◌, min}
+use Rattle.std.specs.Prelude.{ℕ, suc, zero, ◌+◌, ◌-◌, ◌^◌, ◌≤◌, min}
 
 -- one more, up to the last value
 abbrev pub raised : ℕ → ℕ

@@ -1,5 +1,5 @@
 -- The kernels of the lesser of two images, and their text.
-use Rattle.std.specs.Prelude.{◌≡◌, ◌≢◌, ℕ, List, [], ◌∷◌, ◌++◌, codes, true}
+use Rattle.std.specs.Prelude.{◌≡◌, ◌≢◌, ℕ, List, [], ◌∷◌, codes, true}
 use Rattle.std.specs.List.{concat}
 use Rattle.pf_ints.specs.Words.{is_name}
 use Rattle.pf_top.specs.declared.least.LeastKernel.{LeastKernel}

@@ -1,5 +1,5 @@
 -- The statuses of the program and the lines that it puts.
-use Rattle.std.specs.Prelude.{◌≡◌, ◌≢◌, ℕ, ◌≤◌, List, [], ◌∷◌, ◌++◌, codes, Option, ◌⊎◌}
+use Rattle.std.specs.Prelude.{◌≡◌, ℕ, List, [], ◌++◌, codes, Option, ◌⊎◌}
 use Rattle.pf_ints.specs.Targets.{target_word}
 use Rattle.pf_top.specs.declared.verdict.Verdict.{Verdict}
 use Rattle.pf_top.specs.declared.verdict.Verdict.TheVariants.{Done, TargetNotBuilt, NotBuilt, Missing, ReadFailed, WriteFailed, Memory}
@@ -52,21 +52,22 @@ pub record Said (d : Due) (before : Output) (answer : ℕ) (after : Output) : Ty
   pub calls : after.calls ≡ raised before.calls
 
 -- the output failed: 4 was answered, and a prefix of what was due was put
-pub record Failed (d : Due) (before : Output) (answer : ℕ) (after : Output) : Type 0 where
+pub record OutputFailed (d : Due) (before : Output) (answer : ℕ) (after : Output) : Type 0 where
   pub status : answer ≡ 4
   pub written : Changes (λ old new. AppendsPart d.line old new ⊎ AppendsPart d.poor_line old new) before.written after.written
   pub faults : Rose before.faults after.faults
   pub calls : RaisedUpTo 2 before.calls after.calls
 
 -- memory was wanting for the line
-pub record Wanted (d : Due) (before : Output) (answer : ℕ) (after : Output) : Type 0 where
+pub record MemoryWanted (d : Due) (before : Output) (answer : ℕ) (after : Output) : Type 0 where
   pub status : answer ≡ d.poor_status
   pub written : Changes (λ old new. Appends [] old new ⊎ Appends d.poor_line old new) before.written after.written
   pub faults : after.faults ≡ before.faults
   pub calls : RaisedUpTo 2 before.calls after.calls
 
+-- what is due was told, or the output failed, or memory was wanting
 abbrev pub Told : Due → Output → ℕ → Output → Type 0
-Told d before answer after = Said d before answer after ⊎ Failed d before answer after ⊎ Wanted d before answer after
+Told d before answer after = Said d before answer after ⊎ OutputFailed d before answer after ⊎ MemoryWanted d before answer after
 
 -- what is answered and put at each verdict of `select`; at Done it is 0, and nothing is put
 abbrev pub Tells : Select → Verdict → Output → ℕ → Output → Type 0

@@ -1,15 +1,13 @@
 -- What the steps of `select` come to, one file at a time.
 use Rattle.std.specs.Prelude.{◌≡◌, ℕ, List, Option, None, IsSomeAnd, Result, Ok, Err, IfErr, ⊤}
 use Rattle.pf_top.specs.declared.command.Selection.{Selection}
-use Rattle.pf_top.specs.declared.least.LeastKernel.{LeastKernel}
 use Rattle.pf_top.specs.declared.verdict.FileWord.{FileWord}
 use Rattle.pf_top.specs.declared.verdict.Verdict.{Verdict}
 use Rattle.pf_top.specs.declared.verdict.Verdict.TheVariants.{Done, TargetNotBuilt, NotBuilt, Missing, ReadFailed, WriteFailed, Memory}
-use Rattle.pf_top.specs.Counts.{raised, raised_by, Rose}
-use Rattle.pf_top.specs.LeastKernels.{IsLeastKernel}
+use Rattle.pf_top.specs.Counts.{raised}
 use Rattle.pf_top.specs.Outside.{Contents, SameContents, Puts, PutsPart, Changes}
 use Rattle.pf_top.specs.Statuses.{Output}
-use Rattle.pf_top.specs.Selections.{Select, Store, HasForm, judged, FaultsAre, CallsAre, Leads}
+use Rattle.pf_top.specs.Selections.{Select, Store, HasForm, judged, FaultsAre}
 
 -- the words that were lent
 abbrev pub the_words : Selection → Select

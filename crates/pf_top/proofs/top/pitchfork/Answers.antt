@@ -1,5 +1,4 @@
 use Rattle.std.proofs.Common.{◌≡◌}
-use Rattle.pf_top.specs.Selections.{Select}
 use Rattle.pf_top.specs.Steps.{the_words}
 use Rattle.pf_top.proofs.SameWords.{same_select}
 use Rattle.pf_top.proofs.top.pitchfork.Goals as goal
