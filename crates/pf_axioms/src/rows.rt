@@ -219,19 +219,19 @@ pub fn wrap_wrap(alloc: Global, form: &Form) -> Result<Form, StepFault>
 pub fn wrap_add(alloc: Global, form: &Form) -> Result<Form, StepFault>
     ensures { (ranges : List Range) → Gives result (rewritten WrapAdd ranges (shape form.now)) }
 {
-    let Form::Wrap(t, whole) = form else {
+    let Form::Wrap(outer, whole) = form else {
         return Err(StepFault::NoMatch);
     };
     let Form::Add(first, y) = &**whole else {
         return Err(StepFault::NoMatch);
     };
-    let Form::Wrap(u, x) = &**first else {
+    let Form::Wrap(inner, x) = &**first else {
         return Err(StepFault::NoMatch);
     };
-    if u.width() < t.width() {
+    if inner.width() < outer.width() {
         return Err(StepFault::NoMatch);
     }
-    Ok(Form::Wrap(*t, sum(alloc, x, y)?))
+    Ok(Form::Wrap(*outer, sum(alloc, x, y)?))
 }
 
 /// A product that is wrapped to t loses the wrap to u of its first part, where u is at least as wide.
