@@ -1,0 +1,100 @@
+//! Images of PGM files.
+
+ghost use Rattle.std.specs.Prelude.{◌≡◌, ◌≤◌, ◌+◌, ◌*◌, ◌<◌, ◌^◌, length, take, drop, IfOk, IfErr, Ok, ℕ, List};
+ghost use Rattle.pf_ints.specs.Images.{Picture, IsPixelType};
+ghost use Rattle.pf_images.specs.Pgm.{IsPgm};
+ghost use Rattle.pf_images.specs.Reading.{Gives, Answers, counted, parts_of, sample_bytes, pairs, pixels_of, image_of};
+
+use crate::fault::{Fault, ImageFault, PgmKind};
+use crate::header::{Header, header_of};
+use pf_ints::{Image, LaneType, Memory, PixelList, Sequence};
+use std::alloc::Global;
+
+/// How many bytes the samples take.
+fn sample_bytes(header: Header) -> usize
+    requires { header.width * header.height ≤ 16777216 }
+    ensures { result ≡ sample_bytes header }
+{
+    let pixels = header.width as usize * header.height as usize;
+    if header.maxval < 256 {
+        pixels
+    } else {
+        2 * pixels
+    }
+}
+
+#[tactic(auto, unfolding(crate::specs::Reading::counted))]
+fn counted(header: Header, bytes: &[u8]) -> Result<(Header, &[u8]), Fault>
+    requires { header.width * header.height ≤ 16777216 }
+    ensures { Gives (λ x. (x.0, x.1.now)) result (counted header bytes.now) }
+{
+    let wanted = sample_bytes(header);
+    if bytes.len() < wanted {
+        return Err(Fault {
+            left: 0,
+            kind: PgmKind::Short,
+        });
+    }
+    if wanted < bytes.len() {
+        return Err(Fault {
+            left: bytes.len() - wanted,
+            kind: PgmKind::Extra,
+        });
+    }
+    Ok((header, bytes))
+}
+
+/// The numbers of the header, and the samples.
+#[tactic(auto, unfolding(crate::specs::Reading::parts_of))]
+fn parts_of(bytes: &[u8], ty: LaneType) -> Result<(Header, &[u8]), Fault>
+    requires { IsPixelType ty }
+    ensures { Gives (λ x. (x.0, x.1.now)) result (parts_of ty bytes.now) }
+{
+    let (header, samples) = header_of(bytes, ty)?;
+    counted(header, samples)
+}
+
+/// Pixels of one byte each.
+fn narrow_pixels(alloc: Global, bytes: &[u8]) -> Result<Vec<u16>, Memory>
+    ensures { IfOk result (λ v. v.items ≡ bytes.now) }
+{
+    let mut pixels = Vec::with_capacity(alloc, bytes.len())?;
+    'bytes: for byte in bytes {
+        pixels.push(u16::from(*byte))?;
+    }
+    Ok(pixels)
+}
+
+/// Pixels of two bytes each, the most significant first.
+fn wide_pixels(alloc: Global, bytes: &[u8]) -> Result<Vec<u16>, Memory>
+    ensures { IfOk result (λ v. v.items ≡ pairs bytes.now) }
+{
+    let count = bytes.len() / 2;
+    let mut pixels = Vec::with_capacity(alloc, count)?;
+    'pairs: for n in 0..count {
+        let pixel = u16::from_be_bytes([bytes[2 * n], bytes[2 * n + 1]]);
+        pixels.push(pixel)?;
+    }
+    Ok(pixels)
+}
+
+fn pixels_of(alloc: Global, maxval: u32, bytes: &[u8]) -> Result<PixelList, Memory>
+    ensures { IfOk result (λ v. v ≡ pixels_of maxval bytes.now) }
+{
+    let pixels = if maxval < 256 {
+        narrow_pixels(alloc, bytes)?
+    } else {
+        wide_pixels(alloc, bytes)?
+    };
+    Ok(Sequence::from_vec(pixels))
+}
+
+/// A fault with its place counted from the front.
+fn placed(fault: Fault, bytes: &[u8]) -> ImageFault
+    ensures { (read : Result Picture Fault) → read ≡ Err fault → fault.left ≤ length bytes.now → Answers bytes.now (Err result) read }
+{
+    ImageFault::At {
+        at: (bytes.len() - fault.left) as u64,
+        kind: fault.kind,
+    }
+}
