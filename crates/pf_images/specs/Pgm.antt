@@ -63,7 +63,13 @@ pub record IsPgm (bytes : List ℕ) (ty : LaneType) (p : Picture) : Type 0 where
   pub ty_is : p.ty ≡ ty
   pub parts : bytes ≡ head ++ white ∷ samples maxval p.pixels
 
+-- the greatest number of the type
+abbrev pub greatest_sample : LaneType → ℕ
+greatest_sample ty = 2 ^ lane_width ty - 1
+
+abbrev pub header_text : Picture → List ℕ
+header_text p = codes "P5\n" ++ decimal p.width ++ codes " " ++ decimal p.height ++ codes "\n" ++ decimal (greatest_sample p.ty) ++ codes "\n"
+
 -- the one file that is written of an image
 abbrev pub pgm_text : Picture → List ℕ
-pgm_text p =
-    codes "P5\n" ++ decimal p.width ++ codes " " ++ decimal p.height ++ codes "\n" ++ decimal (2 ^ lane_width p.ty - 1) ++ codes "\n" ++ samples (2 ^ lane_width p.ty - 1) p.pixels
+pgm_text p = header_text p ++ samples (greatest_sample p.ty) p.pixels

@@ -2,8 +2,7 @@
 
 ghost use Rattle.std.specs.Prelude.{◌≡◌, ◌≤◌, ◌+◌, ◌*◌, ◌<◌, ◌^◌, length, false, min, IfOk};
 ghost use Rattle.pf_ints.specs.Images.{IsPixelType};
-ghost use Rattle.pf_ints.specs.Lanes.{lane_width};
-ghost use Rattle.pf_images.specs.Pgm.{is_white, ends_comment, number_from};
+ghost use Rattle.pf_images.specs.Pgm.{is_white, ends_comment, number_from, greatest_sample};
 ghost use Rattle.pf_images.specs.Reading.{Gives, at_these, at_number, begins_blank, blank_count, digit_count, begun, digits_at, field_at, side_of, height_of, maxval_of, magic_of, header_of};
 
 use crate::fault::{Fault, PgmKind};
@@ -164,9 +163,10 @@ fn height_of(width: u32, digits: &[u8], rest: &[u8]) -> Result<u32, Fault>
     }
 }
 
-fn most_maxval(ty: LaneType) -> u32
+/// The greatest maxval that the type has room for.
+pub fn most_maxval(ty: LaneType) -> u32
     requires { IsPixelType ty }
-    ensures { result + 1 ≡ 2 ^ lane_width ty }
+    ensures { result ≡ greatest_sample ty }
 {
     match ty.bits {
         Bits::Eight => 0xff,

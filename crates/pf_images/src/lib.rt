@@ -3,7 +3,10 @@
 
 mod fault;
 mod header;
+mod reading;
+mod writing;
 
 pub use fault::{ImageFault, PgmKind};
 pub use pf_ints::{Image, ImageSet};
 
+pub use writing::write_pgm;

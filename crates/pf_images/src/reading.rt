@@ -1,6 +1,6 @@
 //! Images of PGM files.
 
-ghost use Rattle.std.specs.Prelude.{◌≡◌, ◌≤◌, ◌+◌, ◌*◌, ◌<◌, ◌^◌, length, take, drop, IfOk, IfErr, Ok, ℕ, List};
+ghost use Rattle.std.specs.Prelude.{◌≡◌, ◌≤◌, ◌*◌, length, IfOk, Err, Result};
 ghost use Rattle.pf_ints.specs.Images.{Picture, IsPixelType};
 ghost use Rattle.pf_images.specs.Pgm.{IsPgm};
 ghost use Rattle.pf_images.specs.Reading.{Gives, Answers, counted, parts_of, sample_bytes, pairs, pixels_of, image_of};
@@ -66,6 +66,7 @@ fn narrow_pixels(alloc: Global, bytes: &[u8]) -> Result<Vec<u16>, Memory>
 }
 
 /// Pixels of two bytes each, the most significant first.
+#[tactic(auto, using(crate::proofs::Pairs::pair_pushed, crate::proofs::Pairs::pairs_done))]
 fn wide_pixels(alloc: Global, bytes: &[u8]) -> Result<Vec<u16>, Memory>
     ensures { IfOk result (λ v. v.items ≡ pairs bytes.now) }
 {
