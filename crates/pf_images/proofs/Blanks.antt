@@ -5,8 +5,8 @@ use Rattle.std.proofs.lemmas.Bool.{cases_Bool, or_cases, or_parts, or_right, eqb
 use Rattle.std.proofs.lemmas.Bool.Decides.{nat_tests}
 use Rattle.std.proofs.lemmas.List.{length-append}
 use Rattle.pf_ints.specs.Words.{is_digit}
-use Rattle.pf_images.specs.Pgm.{is_white, ends_comment, IsPiece, IsBlank}
-use Rattle.pf_images.specs.Reading.{blank_count, digit_count, is_open, begins_blank}
+use Rattle.pf_images.specs.Pgm.{is_white, ends_comment, IsPiece, IsBlank, begins_blank}
+use Rattle.pf_images.specs.Reading.{blank_count, digit_count, is_open}
 
 -- pieces of white space, or none
 abbrev pub IsSpace : List ℕ → Type 0

@@ -3,8 +3,8 @@ use Rattle.std.proofs.Common.{◌≡◌, ℕ, zero, suc, ◌+◌, ◌-◌, ◌*�
 use Rattle.std.proofs.lemmas.Bool.{cases_Bool}
 use Rattle.std.proofs.lemmas.List.{drop_more}
 use Rattle.pf_ints.specs.Words.{is_digit}
-use Rattle.pf_images.specs.Pgm.{number_from}
-use Rattle.pf_images.specs.Reading.{blank_count, digit_count, is_open, begins_blank}
+use Rattle.pf_images.specs.Pgm.{number_from, begins_blank}
+use Rattle.pf_images.specs.Reading.{blank_count, digit_count, is_open}
 
 -- a number that is kept at the cap goes on as the number itself does
 pub number_from_capped : (a : ℕ) (ds : List ℕ) → min (number_from (min a 65536) ds) 65536 ≡ min (number_from a ds) 65536

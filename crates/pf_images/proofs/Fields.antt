@@ -7,8 +7,8 @@ use Rattle.std.proofs.lemmas.List.{length-append, length-take-le, take-append-dr
 use Rattle.pf_ints.specs.Words.{is_digit}
 use Rattle.pf_images.specs.declared.fault.Fault.{Fault}
 use Rattle.pf_images.specs.declared.fault.PgmKind.TheVariants.{Number}
-use Rattle.pf_images.specs.Pgm.{is_white, number_from, IsNumber, IsBlank, IsField}
-use Rattle.pf_images.specs.Reading.{◌>>=◌, at_these, begins_blank, blank_count, digit_count, begun, digits_at, field_at}
+use Rattle.pf_images.specs.Pgm.{is_white, number_from, IsNumber, IsBlank, IsField, begins_blank}
+use Rattle.pf_images.specs.Reading.{◌>>=◌, at_these, blank_count, digit_count, begun, digits_at, field_at}
 use Rattle.pf_images.proofs.Blanks.{counted_blank, blank_again, blank_begins}
 
 -- the value of a step that did not fail
@@ -46,7 +46,7 @@ begun_again comments bytes h = subst (λ (t : List ℕ). begun comments t ≡ Ok
 
 -- ---- digits
 
-all_digits : (bytes : List ℕ) → list_all is_digit (take (digit_count bytes) bytes) ≡ true
+pub all_digits : (bytes : List ℕ) → list_all is_digit (take (digit_count bytes) bytes) ≡ true
 all_digits [] = refl
 all_digits (c ∷ cs) =
     elim (cases_Bool (is_digit c)) [
@@ -54,7 +54,7 @@ all_digits (c ∷ cs) =
       | inr e ↦ rw e refl
     ]
 
-digit_count-le : (bytes : List ℕ) → digit_count bytes ≤ length bytes
+pub digit_count-le : (bytes : List ℕ) → digit_count bytes ≤ length bytes
 digit_count-le [] = omega arith
 digit_count-le (c ∷ cs) =
     elim (cases_Bool (is_digit c)) [
@@ -62,7 +62,7 @@ digit_count-le (c ∷ cs) =
       | inr e ↦ rw e (omega arith)
     ]
 
-digit_count_again : (digits : List ℕ) (c : ℕ) (cs : List ℕ) → list_all is_digit digits ≡ true → is_digit c ≡ false → digit_count (digits ++ c ∷ cs) ≡ length digits
+pub digit_count_again : (digits : List ℕ) (c : ℕ) (cs : List ℕ) → list_all is_digit digits ≡ true → is_digit c ≡ false → digit_count (digits ++ c ∷ cs) ≡ length digits
 digit_count_again [] c cs all n = rw n refl
 digit_count_again (d ∷ ds) c cs all n =
     let parts = and_parts (is_digit d) (list_all is_digit ds) all in
@@ -72,7 +72,7 @@ blank_no_digit : (comments : Bool) (c : ℕ) → begins_blank comments c ≡ tru
 blank_no_digit true c b = grind (arith, nat_tests)
 blank_no_digit false c b = grind (arith, nat_tests)
 
-digit_no_blank : (c : ℕ) → is_digit c ≡ true → begins_blank true c ≡ false
+pub digit_no_blank : (c : ℕ) → is_digit c ≡ true → begins_blank true c ≡ false
 digit_no_blank c d = grind (arith, nat_tests)
 
 -- ---- digits and what ends them
@@ -96,7 +96,7 @@ digits_take comments bytes x e =
       next = rest.1;
     })
 
-digits_again : (comments : Bool) (digits rest : List ℕ) (n : ℕ) → IsNumber digits n → BeginsBlank comments rest → digits_at comments (digits ++ rest) ≡ Ok (digits, rest)
+pub digits_again : (comments : Bool) (digits rest : List ℕ) (n : ℕ) → IsNumber digits n → BeginsBlank comments rest → digits_at comments (digits ++ rest) ≡ Ok (digits, rest)
 unfolding digits_at
 digits_again comments digits rest n h b =
     let count : digit_count (digits ++ rest) ≡ length digits = subst (λ (t : List ℕ). digit_count (digits ++ t) ≡ length digits) (sym b.2) (digit_count_again digits b.0 b.1 h.1 (blank_no_digit comments b.0 b.3)) in
@@ -106,7 +106,11 @@ digits_again comments digits rest n h b =
 -- ---- fields
 
 pub record FieldTakes (comments : Bool) (bytes digits rest : List ℕ) : Type 0 where
+  pub blank : List ℕ
+  pub blank_is : IsBlank blank
+  pub number : IsNumber digits (number_from 0 digits)
   pub text : List ℕ
+  pub text_is : text ≡ blank ++ digits
   pub field : IsField text (number_from 0 digits)
   pub parts : bytes ≡ text ++ rest
   pub next : BeginsBlank comments rest
@@ -119,21 +123,25 @@ field_takes comments bytes x b e =
     let left : 0 < length (drop k bytes) = omega (arith, ap length d.parts, length-append x.0 x.1, d.number.0) in
     let blank : IsBlank (take k bytes) = subst (λ (t : List ℕ). 0 < length (drop (blank_count false t) t) → IsBlank (take (blank_count false t) t)) (sym b.2) (counted_blank b.0 b.1 b.3) left in
     record {
+      blank = take k bytes;
+      blank_is = blank;
+      number = d.number;
       text = take k bytes ++ x.0;
+      text_is = refl;
       field = (take k bytes, x.0, blank, d.number, refl);
       parts = sym (take-append-drop k bytes) ∙ ap (λ (t : List ℕ). take k bytes ++ t) d.parts ∙ sym (append_assoc (take k bytes) x.0 x.1);
       next = d.next;
     }
 
+pub first_digit : (digits : List ℕ) (n : ℕ) → IsNumber digits n → (d : ℕ) × (ds : List ℕ) × (digits ≡ d ∷ ds) × (begins_blank true d ≡ false)
+first_digit [] n h = absurd (omega (arith, h.0))
+first_digit (d ∷ ds) n h = (d, ds, refl, digit_no_blank d (and_parts (is_digit d) (list_all is_digit ds) h.1).0)
+
 -- a field is read again, whatever stands behind its end
 pub field_again : (comments : Bool) (text rest : List ℕ) (n : ℕ) → IsField text n → BeginsBlank comments rest → (digits : List ℕ) × IsNumber digits n × (field_at comments (text ++ rest) ≡ Ok (digits, rest))
 unfolding field_at
 field_again comments text rest n h b =
-    let f = first_digit h.1 h.3 in
+    let f = first_digit h.1 n h.3 in
     let grouped : text ++ rest ≡ h.0 ++ (h.1 ++ rest) = ap (λ (t : List ℕ). t ++ rest) h.4 ∙ append_assoc h.0 h.1 rest in
     let count : blank_count false (h.0 ++ (h.1 ++ rest)) ≡ length h.0 = subst (λ (t : List ℕ). blank_count false (h.0 ++ (t ++ rest)) ≡ length h.0) (sym f.2) (blank_again h.0 f.0 (f.1 ++ rest) h.2 f.3) in
     (h.1, h.3, ap (field_at comments) grouped ∙ rw (count, drop_at h.0 (h.1 ++ rest) (length h.0) refl) (digits_again comments h.1 rest n h.3 b))
-  where
-    first_digit : (digits : List ℕ) → IsNumber digits n → (d : ℕ) × (ds : List ℕ) × (digits ≡ d ∷ ds) × (begins_blank true d ≡ false)
-    first_digit [] h = absurd (omega (arith, h.0))
-    first_digit (d ∷ ds) h = (d, ds, refl, digit_no_blank d (and_parts (is_digit d) (list_all is_digit ds) h.1).0)

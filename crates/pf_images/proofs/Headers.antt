@@ -8,14 +8,15 @@ use Rattle.pf_ints.specs.Lanes.{lane_width}
 use Rattle.pf_images.specs.declared.fault.Fault.{Fault}
 use Rattle.pf_images.specs.declared.fault.PgmKind.TheVariants.{Magic, Size, Maxval}
 use Rattle.pf_images.specs.declared.header.Header.{Header}
-use Rattle.pf_images.specs.Pgm.{is_white, number_from, IsNumber, IsField, IsHead, IsMaxval}
-use Rattle.pf_images.specs.Reading.{◌>>=◌, at_these, at_number, begins_blank, begun, field_at, side_of, height_of, maxval_of, magic_of, header_of}
+use Rattle.pf_images.specs.Pgm.{is_white, number_from, IsNumber, IsField, IsHead, IsMaxval, begins_blank}
+use Rattle.pf_images.specs.Faults.{IsSide}
+use Rattle.pf_images.specs.Reading.{◌>>=◌, at_these, at_number, begun, field_at, side_of, height_of, maxval_of, magic_of, header_of}
 use Rattle.pf_images.proofs.Blanks.{blank_begins}
 use Rattle.pf_images.proofs.Fields.{bind_ok, pass_ok, ok_is, BeginsBlank, begun_takes, begun_again, FieldTakes, field_takes, field_again}
 
 -- ---- single steps
 
-magic_takes : (bytes rest : List ℕ) → magic_of bytes ≡ Ok rest → bytes ≡ codes "P5" ++ rest
+pub magic_takes : (bytes rest : List ℕ) → magic_of bytes ≡ Ok rest → bytes ≡ codes "P5" ++ rest
 unfolding magic_of
 magic_takes [] rest e = absurd cc
 magic_takes (a ∷ []) rest e = absurd cc
@@ -28,12 +29,7 @@ magic_again : (rest : List ℕ) → magic_of (codes "P5" ++ rest) ≡ Ok rest
 unfolding magic_of
 magic_again rest = refl
 
--- a side within its limits
-pub record IsSide (n : ℕ) : Type 0 where
-  pub some : 1 ≤ n
-  pub most : n ≤ 8192
-
-side_takes : (field : List ℕ × List ℕ) (n : ℕ) → side_of field ≡ Ok n → (number_from 0 field.0 ≡ n) × IsSide n
+pub side_takes : (field : List ℕ × List ℕ) (n : ℕ) → side_of field ≡ Ok n → (number_from 0 field.0 ≡ n) × IsSide n
 unfolding side_of
 side_takes field n e =
     let p = pass_ok (leb 1 (number_from 0 field.0) && leb (number_from 0 field.0) 8192) (at_number field Size) (number_from 0 field.0) n e in
@@ -47,7 +43,7 @@ side_again field n e h =
     let high : leb n 8192 ≡ true = le-leb _ _ h.most in
     rw (e, low, high) refl
 
-height_takes : (width : ℕ) (field : List ℕ × List ℕ) (n : ℕ) → height_of width field ≡ Ok n → (number_from 0 field.0 ≡ n) × IsSide n × (width * n ≤ 16777216)
+pub height_takes : (width : ℕ) (field : List ℕ × List ℕ) (n : ℕ) → height_of width field ≡ Ok n → (number_from 0 field.0 ≡ n) × IsSide n × (width * n ≤ 16777216)
 unfolding height_of
 height_takes width field n e =
     let b = bind_ok (side_of field) (λ m. cond (leb (width * m) 16777216) (Ok m) (Err (at_number field Size))) n e in

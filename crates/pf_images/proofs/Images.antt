@@ -16,11 +16,12 @@ use Rattle.pf_ints.specs.Images.{Picture, IsPicture, IsPixelType}
 use Rattle.pf_images.specs.declared.fault.Fault.{Fault}
 use Rattle.pf_images.specs.declared.fault.PgmKind.TheVariants.{Short, Extra}
 use Rattle.pf_images.specs.declared.header.Header.{Header}
-use Rattle.pf_images.specs.Pgm.{is_white, IsHead, IsMaxval, IsPgm, samples}
-use Rattle.pf_images.specs.Reading.{◌>>=◌, at_these, sample_bytes, counted, header_of, parts_of, pairs, pixels_of, picture_of, image_of}
+use Rattle.pf_images.specs.Pgm.{is_white, IsHead, IsMaxval, IsPgm, samples, sample_bytes}
+use Rattle.pf_images.specs.Faults.{IsSide}
+use Rattle.pf_images.specs.Reading.{◌>>=◌, at_these, counted, header_of, parts_of, pairs, pixels_of, picture_of, image_of}
 use Rattle.pf_images.proofs.Pairs.{IsBytes, spelled_pairs, pairs_again, length-pairs, pairs_below}
 use Rattle.pf_images.proofs.Fields.{bind_ok, test_ok, ok_is}
-use Rattle.pf_images.proofs.Headers.{IsSide, HeaderTakes, header_takes, header_again}
+use Rattle.pf_images.proofs.Headers.{HeaderTakes, header_takes, header_again}
 
 -- ---- pixels
 

@@ -1,15 +1,20 @@
 -- Raw PGM files: Netpbm's format P5, with comments up to the number maxval.
-use Rattle.std.specs.Prelude.{◌≡◌, ℕ, ◌+◌, ◌-◌, ◌*◌, ◌^◌, ◌<◌, ◌≤◌, List, [], ◌∷◌, ◌++◌, length, Bool, true, false, ◌==◌, ◌||◌, nat_lt, codes, decimal, if◌then◌else◌, ◌⊎◌}
+use Rattle.std.specs.Prelude.{◌≡◌, ℕ, ◌+◌, ◌-◌, ◌*◌, ◌^◌, ◌<◌, ◌≤◌, List, [], ◌∷◌, ◌++◌, length, Bool, true, false, ◌==◌, ◌||◌, ◌&&◌, nat_lt, codes, decimal, if◌then◌else◌, ◌⊎◌}
 use Rattle.std.specs.List.{AllByRecursion, concat, flat_map, list_all}
 use Rattle.std.specs.Int.{w16, to_be_bytes}
 use Rattle.pf_ints.specs.declared.lane.LaneType.{LaneType}
 use Rattle.pf_ints.specs.Lanes.{lane_width}
 use Rattle.pf_ints.specs.Images.{Picture, IsPicture}
 use Rattle.pf_ints.specs.Words.{is_digit}
+use Rattle.pf_images.specs.declared.header.Header.{Header}
 
 -- space, TAB, LF or CR
 abbrev pub is_white : ℕ → Bool
 is_white c = c == 32 || c == 9 || c == 10 || c == 13
+
+-- a byte that begins white space, where comments may stand or may not
+abbrev pub begins_blank : Bool → ℕ → Bool
+begins_blank comments c = is_white c || (comments && c == 35)
 
 -- LF or CR
 abbrev pub ends_comment : ℕ → Bool
@@ -50,6 +55,10 @@ IsMaxval ty maxval = (1 ≤ maxval) × (maxval < 2 ^ lane_width ty)
 -- how the pixels stand: one byte each, or two with the most significant first
 abbrev pub samples : ℕ → List ℕ → List ℕ
 samples maxval pixels = if nat_lt maxval 256 then pixels else flat_map (to_be_bytes w16) pixels
+
+-- how many bytes the samples take
+abbrev pub sample_bytes : Header → ℕ
+sample_bytes h = if nat_lt h.maxval 256 then h.width * h.height else 2 * (h.width * h.height)
 
 -- the bytes are a file of the image, read as one of this type
 pub record IsPgm (bytes : List ℕ) (ty : LaneType) (p : Picture) : Type 0 where

@@ -10,7 +10,7 @@ use Rattle.pf_images.specs.declared.fault.Fault.{Fault}
 use Rattle.pf_images.specs.declared.fault.ImageFault.{ImageFault}
 use Rattle.pf_images.specs.declared.fault.ImageFault.TheVariants.{At, Memory}
 use Rattle.pf_images.specs.declared.header.Header.{Header}
-use Rattle.pf_images.specs.Pgm.{is_white, ends_comment, number_from}
+use Rattle.pf_images.specs.Pgm.{begins_blank, ends_comment, number_from, sample_bytes}
 
 infixl 10 ◌>>=◌
 abbrev pub ◌>>=◌ : {A B : Type 0} → Result A Fault → (A → Result B Fault) → Result B Fault
@@ -20,10 +20,6 @@ abbrev pub ◌>>=◌ : {A B : Type 0} → Result A Fault → (A → Result B Fau
 -- the place at which these bytes stand is at fault
 abbrev pub at_these : List ℕ → PgmKind → Fault
 at_these rest kind = record { left = length rest; kind = kind }
-
--- a byte that begins white space, where comments may stand or may not
-abbrev pub begins_blank : Bool → ℕ → Bool
-begins_blank comments c = is_white c || (comments && c == 35)
 
 -- whether a comment is open behind the byte
 abbrev pub is_open : Bool → ℕ → Bool
@@ -86,10 +82,6 @@ header_of ty bytes = do
   third ← field_at false second.1
   maxval ← maxval_of ty third
   Ok (record { width = width; height = height; maxval = maxval }, drop 1 third.1)
-
--- how many bytes the samples take
-abbrev pub sample_bytes : Header → ℕ
-sample_bytes h = if nat_lt h.maxval 256 then h.width * h.height else 2 * (h.width * h.height)
 
 unfoldable pub counted : Header → List ℕ → Result (Header × List ℕ) Fault
 counted h bytes =

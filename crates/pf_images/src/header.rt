@@ -2,8 +2,8 @@
 
 ghost use Rattle.std.specs.Prelude.{◌≡◌, ◌≤◌, ◌+◌, ◌*◌, ◌<◌, ◌^◌, length, false, min, IfOk};
 ghost use Rattle.pf_ints.specs.Images.{IsPixelType};
-ghost use Rattle.pf_images.specs.Pgm.{is_white, ends_comment, number_from, greatest_sample};
-ghost use Rattle.pf_images.specs.Reading.{Gives, at_these, at_number, begins_blank, blank_count, digit_count, begun, digits_at, field_at, side_of, height_of, maxval_of, magic_of, header_of};
+ghost use Rattle.pf_images.specs.Pgm.{is_white, ends_comment, number_from, greatest_sample, begins_blank};
+ghost use Rattle.pf_images.specs.Reading.{Gives, at_these, at_number, blank_count, digit_count, begun, digits_at, field_at, side_of, height_of, maxval_of, magic_of, header_of};
 
 use crate::fault::{Fault, PgmKind};
 use pf_ints::{Bits, LaneType, MOST_PIXELS, MOST_SIDE, is_digit};

@@ -2,8 +2,8 @@
 
 ghost use Rattle.std.specs.Prelude.{◌≡◌, ◌≤◌, ◌*◌, length, IfOk, Err, Result};
 ghost use Rattle.pf_ints.specs.Images.{Picture, IsPixelType};
-ghost use Rattle.pf_images.specs.Pgm.{IsPgm};
-ghost use Rattle.pf_images.specs.Reading.{Gives, Answers, counted, parts_of, sample_bytes, pairs, pixels_of, image_of};
+ghost use Rattle.pf_images.specs.Pgm.{IsPgm, sample_bytes};
+ghost use Rattle.pf_images.specs.Reading.{Gives, Answers, counted, parts_of, pairs, pixels_of, image_of};
 
 use crate::fault::{Fault, ImageFault, PgmKind};
 use crate::header::{Header, header_of};

@@ -68,6 +68,7 @@ fn push_samples(text: &mut Vec<u8>, ty: LaneType, pixels: &[u16]) -> Result<(), 
 /// The one PGM file that is written of the image: `P5`, LF, the width, a space, the height, LF,
 /// the greatest number of the type, LF, and the pixels in rows from top to bottom. A pixel of u16
 /// takes two bytes, the most significant first. Reading the file gives the image.
+#[tactic(auto, using(crate::proofs::Texts::written_is_pgm, crate::proofs::Texts::pixels_below))]
 pub fn write_pgm(alloc: Global, image: &Image) -> Result<Vec<u8>, Memory>
     ensures text { IfOk result (λ v. v.items ≡ pgm_text image.now) }
     ensures read { IfOk result (λ v. IsPgm v.items image.now.ty image.now) }
