@@ -1,6 +1,7 @@
 -- What stands at the first fault of bytes that are no file.
-use Rattle.std.specs.Prelude.{◌≡◌, ℕ, ◌+◌, ◌*◌, ◌<◌, ◌≤◌, List, [], ◌∷◌, ◌++◌, length, Bool, true, nat_le, codes}
+use Rattle.std.specs.Prelude.{◌≡◌, ℕ, ◌+◌, ◌*◌, ◌<◌, ◌≤◌, List, [], ◌∷◌, ◌++◌, length, Bool, true, nat_le, codes, Result, Ok, Err}
 use Rattle.pf_ints.specs.declared.lane.LaneType.{LaneType}
+use Rattle.pf_ints.specs.Images.{Picture}
 use Rattle.pf_images.specs.declared.fault.PgmKind.{PgmKind}
 use Rattle.pf_images.specs.declared.fault.PgmKind.TheVariants.{Magic, Number, Size, Maxval, Short, Extra}
 use Rattle.pf_images.specs.declared.fault.ImageFault.{ImageFault}
@@ -93,3 +94,9 @@ IsFaultAt ty bytes at kind = (before here : List ℕ) × (bytes ≡ before ++ he
 abbrev pub IsFault : LaneType → List ℕ → ImageFault → Type 0
 IsFault ty bytes (At at kind) = IsFaultAt ty bytes at kind
 IsFault ty bytes Memory = Unit {0}
+
+-- the answer is the image, unless memory ran out
+abbrev pub IsReadAs : Picture → Result Picture ImageFault → Type 0
+IsReadAs p (Ok q) = q ≡ p
+IsReadAs p (Err (At at kind)) = ⊥
+IsReadAs p (Err Memory) = Unit {0}

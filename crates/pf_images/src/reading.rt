@@ -1,8 +1,9 @@
 //! Images of PGM files.
 
-ghost use Rattle.std.specs.Prelude.{◌≡◌, ◌≤◌, ◌*◌, length, IfOk, Err, Result};
+ghost use Rattle.std.specs.Prelude.{◌≡◌, ◌-◌, ◌≤◌, ◌*◌, length, IfOk, IfErr};
 ghost use Rattle.pf_ints.specs.Images.{Picture, IsPixelType};
 ghost use Rattle.pf_images.specs.Pgm.{IsPgm, sample_bytes};
+ghost use Rattle.pf_images.specs.Faults.{IsReadAs, IsFault};
 ghost use Rattle.pf_images.specs.Reading.{Gives, Answers, counted, parts_of, pairs, pixels_of, image_of};
 
 use crate::fault::{Fault, ImageFault, PgmKind};
@@ -90,12 +91,53 @@ fn pixels_of(alloc: Global, maxval: u32, bytes: &[u8]) -> Result<PixelList, Memo
     Ok(Sequence::from_vec(pixels))
 }
 
-/// A fault with its place counted from the front.
+/// The fault with its place counted from the front.
 fn placed(fault: Fault, bytes: &[u8]) -> ImageFault
-    ensures { (read : Result Picture Fault) → read ≡ Err fault → fault.left ≤ length bytes.now → Answers bytes.now (Err result) read }
+    requires { fault.left ≤ length bytes.now }
+    ensures { result ≡ ImageFault.At (length bytes.now - fault.left) fault.kind }
 {
     ImageFault::At {
         at: (bytes.len() - fault.left) as u64,
         kind: fault.kind,
     }
+}
+
+/// The image, or the first fault.
+#[tactic(auto, unfolding(crate::specs::Reading::image_of))]
+fn image_of(alloc: Global, bytes: &[u8], ty: LaneType) -> Result<Image, ImageFault>
+    requires { IsPixelType ty }
+    ensures { Answers bytes.now result (image_of ty bytes.now) }
+{
+    match parts_of(bytes, ty) {
+        Ok((header, samples)) => {
+            let pixels = pixels_of(alloc, header.maxval, samples)?;
+            Ok(Image::new(header.width, header.height, ty, pixels))
+        }
+        Err(fault) => Err(placed(fault, bytes)),
+    }
+}
+
+/// The image of a PGM file with pixels of this type.
+///
+/// A file is `P5`, white space, the width, white space, the height, white space, maxval, one byte of
+/// white space, and the samples in rows from top to bottom. Up to maxval's first digit a `#` and all
+/// up to and with the next LF or CR count as white space. Samples have one byte where maxval is at
+/// most 255, else two, the most significant first. Width and height are at most 8,192 and have a
+/// product of at most 16,777,216; maxval is at most 255 for u8 and at most 65,535 for u16. Bytes
+/// behind the samples are refused.
+///
+/// A fault is the first one in the order in which reading meets them, with the number of bytes that
+/// stand before it.
+pub fn read_pgm(alloc: Global, bytes: &[u8], ty: LaneType) -> Result<Image, ImageFault>
+    requires { IsPixelType ty }
+    // What is read is spelled so.
+    ensures found { IfOk result (λ image. IsPgm bytes.now ty image) }
+    // What is spelled so is read, unless memory runs out.
+    ensures only { (p : Picture) → IsPgm bytes.now ty p → IsReadAs p result }
+    // A fault stands where it is told.
+    ensures fault { IfErr result (IsFault ty bytes.now) }
+    // Which fault it is.
+    ensures exact { Answers bytes.now result (image_of ty bytes.now) }
+{
+    image_of(alloc, bytes, ty)
 }
