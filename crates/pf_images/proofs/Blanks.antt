@@ -25,9 +25,11 @@ one_white c rest white s = ((c ∷ []) ∷ s.0, (inl (c, white, refl), s.1), ap 
 
 one_comment : (rest : List ℕ) → IsSpaceIn true rest → IsSpace (35 ∷ rest)
 one_comment rest s =
-    let behind = s.5 in
-    ((35 ∷ (s.0 ++ s.1 ∷ [])) ∷ behind.0, (inr (s.0, s.1, s.3, s.4, refl), behind.1),
-     ap (λ (t : List ℕ). 35 ∷ t) (s.6 ∙ ap (λ (t : List ℕ). s.0 ++ s.1 ∷ t) behind.2 ∙ sym (append_assoc s.0 (s.1 ∷ []) (concat behind.0))))
+    let behind = s.5 in (
+      (35 ∷ (s.0 ++ s.1 ∷ [])) ∷ behind.0,
+      (inr (s.0, s.1, s.3, s.4, refl), behind.1),
+      ap (λ (t : List ℕ). 35 ∷ t) (s.6 ∙ ap (λ (t : List ℕ). s.0 ++ s.1 ∷ t) behind.2 ∙ sym (append_assoc s.0 (s.1 ∷ []) (concat behind.0))),
+    )
 
 closes : (c : ℕ) (rest : List ℕ) → ends_comment c ≡ true → IsSpace rest → IsSpaceIn true (c ∷ rest)
 closes c rest e s = ([], c, rest, tt, e, s, refl)
@@ -51,10 +53,10 @@ counted_space false (c ∷ cs) left =
     elim (cases_Bool (eqb c 35)) [
       | inl e ↦ subst (λ (n : ℕ). 0 < length (drop (blank_count false (n ∷ cs)) (n ∷ cs)) → IsSpaceIn false (take (blank_count false (n ∷ cs)) (n ∷ cs))) (sym (eqb-true c 35 e)) (at_hash cs (counted_space true cs)) left
       | inr e ↦
-        elim (cases_Bool (is_white c)) [
-          | inl w ↦ rw (w, e) (one_white c _ w (counted_space false cs (rw (w, e) at left)))
-          | inr w ↦ rw (w, e) none
-        ]
+          elim (cases_Bool (is_white c)) [
+            | inl w ↦ rw (w, e) (one_white c _ w (counted_space false cs (rw (w, e) at left)))
+            | inr w ↦ rw (w, e) none
+          ]
     ]
 
 -- where white space stands in front, it is one piece or more

@@ -52,9 +52,18 @@ pub begun_blank : (comments : Bool) (blank : List ℕ) → IsBlank blank → IsB
 begun_blank comments blank b = (49, 32 ∷ [], (blank ++ 49 ∷ [], 1, 32, (blank, 49 ∷ [], b, one, refl), refl, sym (append_assoc blank (49 ∷ []) (32 ∷ []))))
 
 pub begun_open : (comments : Bool) (text : List ℕ) → IsBlank (text ++ 10 ∷ []) → IsBegun comments text
-begun_open comments text b =
-    (10, 49 ∷ 32 ∷ [], (text ++ 10 ∷ [] ++ 49 ∷ [], 1, 32, (text ++ 10 ∷ [], 49 ∷ [], b, one, refl), refl,
-     sym (append_assoc (text ++ 10 ∷ []) (49 ∷ []) (32 ∷ []) ∙ append_assoc text (10 ∷ []) (49 ∷ 32 ∷ []))))
+begun_open comments text b = (
+  10,
+  49 ∷ 32 ∷ [],
+  (
+    text ++ 10 ∷ [] ++ 49 ∷ [],
+    1,
+    32,
+    (text ++ 10 ∷ [], 49 ∷ [], b, one, refl),
+    refl,
+    sym (append_assoc (text ++ 10 ∷ []) (49 ∷ []) (32 ∷ []) ∙ append_assoc text (10 ∷ []) (49 ∷ 32 ∷ [])),
+  ),
+)
 
 pub begun_none : (comments : Bool) → IsBegun comments []
 begun_none comments = begun_open comments [] line_end
@@ -96,7 +105,7 @@ closed_blank bytes b e =
     let back : drop (blank_count false (bytes ++ 10 ∷ 49 ∷ [])) (bytes ++ 10 ∷ 49 ∷ []) ≡ 49 ∷ [] = rw (count, grouped) (drop_at (bytes ++ 10 ∷ []) (49 ∷ []) (suc (length bytes)) long) in
     let begins : bytes ++ 10 ∷ 49 ∷ [] ≡ b.0 ∷ (b.1 ++ 10 ∷ 49 ∷ []) = ap (λ (t : List ℕ). t ++ 10 ∷ 49 ∷ []) b.2 in
     let blank : 0 < length (drop (blank_count false (bytes ++ 10 ∷ 49 ∷ [])) (bytes ++ 10 ∷ 49 ∷ [])) → IsBlank (take (blank_count false (bytes ++ 10 ∷ 49 ∷ [])) (bytes ++ 10 ∷ 49 ∷ [])) =
-      subst (λ (t : List ℕ). 0 < length (drop (blank_count false t) t) → IsBlank (take (blank_count false t) t)) (sym begins) (counted_blank b.0 (b.1 ++ 10 ∷ 49 ∷ []) b.3) in
+    subst (λ (t : List ℕ). 0 < length (drop (blank_count false t) t) → IsBlank (take (blank_count false t) t)) (sym begins) (counted_blank b.0 (b.1 ++ 10 ∷ 49 ∷ []) b.3) in
     subst IsBlank front (blank (rw back (omega arith)))
 
 -- ---- what no number goes on with
@@ -208,7 +217,7 @@ no_number_end comments bytes rest f b some e fault stops =
     }
   where
     cut : (rest : List ℕ) → drop (digit_count (drop (blank_count false bytes) bytes)) (drop (blank_count false bytes) bytes) ≡ rest → ((c : ℕ) (cs : List ℕ) → rest ≡ c ∷ cs → begins_blank comments c ≡ false)
-      → (blank digits : List ℕ) → IsBlank blank → IsNumber digits (number_from 0 digits) → Stops comments (blank ++ digits) rest
+        → (blank digits : List ℕ) → IsBlank blank → IsNumber digits (number_from 0 digits) → Stops comments (blank ++ digits) rest
     cut [] e s blank digits is number = tt
     cut (c ∷ cs) e s blank digits is number = digits_cut comments blank digits (number_from 0 digits) c cs is number (digit_stops (drop (blank_count false bytes) bytes) c cs e) (s c cs refl)
 
@@ -222,10 +231,10 @@ field_stops comments bytes f b e =
     elim (test_err (eqb n 0) (at_these behind Number) (begun comments rest >>= both) f e) [
       | inl z ↦ no_number comments bytes behind f b refl (eqb-true _ _ z.0) z.1
       | inr s ↦
-        elim (bind_err (begun comments rest) both f s.1) [
-          | inl g ↦ let h = begun_stops comments rest f g in no_number_end comments bytes rest f b (eqb-false _ _ s.0) refl h.0 h.1
-          | inr g ↦ absurd (ok_no_err (take n behind, g.0) f g.2)
-        ]
+          elim (bind_err (begun comments rest) both f s.1) [
+            | inl g ↦ let h = begun_stops comments rest f g in no_number_end comments bytes rest f b (eqb-false _ _ s.0) refl h.0 h.1
+            | inr g ↦ absurd (ok_no_err (take n behind, g.0) f g.2)
+          ]
     ]
   where
     ok_no_err : (x : List ℕ × List ℕ) (d : Fault) → ◌≡◌ {A = Result (List ℕ × List ℕ) Fault} (Ok x) (Err d) → ⊥

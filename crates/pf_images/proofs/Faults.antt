@@ -32,7 +32,7 @@ told ty bytes before here kind f e parts is = subst (IsTold ty bytes) e (before,
 cut_told : (ty : LaneType) (bytes head rest numbers : List ℕ) (f : Fault) → IsHead numbers head → AreSizes numbers → bytes ≡ head ++ rest → FieldStops (may_comment numbers) rest f → IsTold ty bytes f
 cut_told ty bytes head rest numbers f is sizes parts s =
     told ty bytes (head ++ s.part) s.here Number f s.fault (parts_more bytes head rest s.part s.here parts s.parts)
-      (record { numbers = numbers; head = head; part = s.part; head_is = is; sizes = sizes; begun = s.begun; stops = s.stops; ended = λ e. absurd (none s.part s.some e); parts = refl })
+    (record { numbers = numbers; head = head; part = s.part; head_is = is; sizes = sizes; begun = s.begun; stops = s.stops; ended = λ e. absurd (none s.part s.some e); parts = refl })
   where
     none : (part : List ℕ) → 0 < length part → part ≡ [] → ⊥
     none part some e = omega (arith, ap length e)
@@ -73,9 +73,9 @@ no_height width field f e =
     elim (bind_err (side_of field) fits f e) [
       | inl a ↦ let s = no_side field f a in (s.0, λ h. s.1 h.1)
       | inr a ↦
-        let p = pass_err (leb (width * a.0) 16777216) (at_number field Size) a.0 f a.2 in
-        let is = side_takes field a.0 a.1 in
-        (p.1, λ h. clash (leb (width * a.0) 16777216) (le-leb _ _ (subst (λ (m : ℕ). width * m ≤ 16777216) is.0 h.2)) p.0)
+          let p = pass_err (leb (width * a.0) 16777216) (at_number field Size) a.0 f a.2 in
+          let is = side_takes field a.0 a.1 in
+          (p.1, λ h. clash (leb (width * a.0) 16777216) (le-leb _ _ (subst (λ (m : ℕ). width * m ≤ 16777216) is.0 h.2)) p.0)
     ]
 
 no_maxval : (ty : LaneType) (field : List ℕ × List ℕ) (f : Fault) → maxval_of ty field ≡ Err f → (at_number field Maxval ≡ f) × (IsMaxval ty (number_from 0 field.0) → ⊥)
@@ -106,13 +106,13 @@ third_told ty bytes head rest w h f is parts sizes b e =
     elim (bind_err (field_at false rest) (at_maxval ty w h) f e) [
       | inl a ↦ cut_told ty bytes head rest (h ∷ w ∷ []) f is sizes parts (field_stops false rest f b a)
       | inr a ↦
-        let last : ℕ → Result (Header × List ℕ) Fault = λ m. Ok (record { width = w; height = h; maxval = m }, drop 1 a.0.1) in
-        elim (bind_err (maxval_of ty a.0) last f a.2) [
-          | inl m ↦
-            let n = no_maxval ty a.0 f m in
-            number_told ty bytes head rest (h ∷ w ∷ []) a.0 Maxval f is sizes parts (field_takes false rest a.0 b a.1) n.0 (λ before here at. (h ∷ w ∷ [], number_from 0 a.0.0, at, refl, n.1))
-          | inr m ↦ absurd (ok_no_err (record { width = w; height = h; maxval = m.0 }, drop 1 a.0.1) f m.2)
-        ]
+          let last : ℕ → Result (Header × List ℕ) Fault = λ m. Ok (record { width = w; height = h; maxval = m }, drop 1 a.0.1) in
+          elim (bind_err (maxval_of ty a.0) last f a.2) [
+            | inl m ↦
+                let n = no_maxval ty a.0 f m in
+                number_told ty bytes head rest (h ∷ w ∷ []) a.0 Maxval f is sizes parts (field_takes false rest a.0 b a.1) n.0 (λ before here at. (h ∷ w ∷ [], number_from 0 a.0.0, at, refl, n.1))
+            | inr m ↦ absurd (ok_no_err (record { width = w; height = h; maxval = m.0 }, drop 1 a.0.1) f m.2)
+          ]
     ]
   where
     ok_no_err : (x : Header × List ℕ) (d : Fault) → ◌≡◌ {A = Result (Header × List ℕ) Fault} (Ok x) (Err d) → ⊥
@@ -123,16 +123,16 @@ second_told ty bytes head rest w f is parts sizes b e =
     elim (bind_err (field_at true rest) (at_height ty w) f e) [
       | inl a ↦ cut_told ty bytes head rest (w ∷ []) f is sizes parts (field_stops true rest f b a)
       | inr a ↦
-        let onward : ℕ → Result (Header × List ℕ) Fault = λ h. at_third ty w h a.0.1 in
-        let t = field_takes true rest a.0 b a.1 in
-        elim (bind_err (height_of w a.0) onward f a.2) [
-          | inl m ↦
-            let n = no_height w a.0 f m in
-            number_told ty bytes head rest (w ∷ []) a.0 Size f is sizes parts t n.0 (λ before here at. (w ∷ [], number_from 0 a.0.0, at, omega arith, n.1))
-          | inr m ↦
-            let v = height_takes w a.0 m.0 m.1 in
-            third_told ty bytes (head ++ t.text) a.0.1 w m.0 f (head_more (w ∷ []) m.0 head t.text is (subst (IsField t.text) v.0 t.field)) (parts_more bytes head rest t.text a.0.1 parts t.parts) (sizes, v.1, v.2) t.next m.2
-        ]
+          let onward : ℕ → Result (Header × List ℕ) Fault = λ h. at_third ty w h a.0.1 in
+          let t = field_takes true rest a.0 b a.1 in
+          elim (bind_err (height_of w a.0) onward f a.2) [
+            | inl m ↦
+                let n = no_height w a.0 f m in
+                number_told ty bytes head rest (w ∷ []) a.0 Size f is sizes parts t n.0 (λ before here at. (w ∷ [], number_from 0 a.0.0, at, omega arith, n.1))
+            | inr m ↦
+                let v = height_takes w a.0 m.0 m.1 in
+                third_told ty bytes (head ++ t.text) a.0.1 w m.0 f (head_more (w ∷ []) m.0 head t.text is (subst (IsField t.text) v.0 t.field)) (parts_more bytes head rest t.text a.0.1 parts t.parts) (sizes, v.1, v.2) t.next m.2
+          ]
     ]
 
 first_told : (ty : LaneType) (bytes head rest : List ℕ) (f : Fault) → IsHead [] head → bytes ≡ head ++ rest → BeginsBlank true rest → at_first ty rest ≡ Err f → IsTold ty bytes f
@@ -140,16 +140,16 @@ first_told ty bytes head rest f is parts b e =
     elim (bind_err (field_at true rest) (at_width ty) f e) [
       | inl a ↦ cut_told ty bytes head rest [] f is tt parts (field_stops true rest f b a)
       | inr a ↦
-        let onward : ℕ → Result (Header × List ℕ) Fault = λ w. at_second ty w a.0.1 in
-        let t = field_takes true rest a.0 b a.1 in
-        elim (bind_err (side_of a.0) onward f a.2) [
-          | inl m ↦
-            let n = no_side a.0 f m in
-            number_told ty bytes head rest [] a.0 Size f is tt parts t n.0 (λ before here at. ([], number_from 0 a.0.0, at, omega arith, n.1))
-          | inr m ↦
-            let v = side_takes a.0 m.0 m.1 in
-            second_told ty bytes (head ++ t.text) a.0.1 m.0 f (head_more [] m.0 head t.text is (subst (IsField t.text) v.0 t.field)) (parts_more bytes head rest t.text a.0.1 parts t.parts) v.1 t.next m.2
-        ]
+          let onward : ℕ → Result (Header × List ℕ) Fault = λ w. at_second ty w a.0.1 in
+          let t = field_takes true rest a.0 b a.1 in
+          elim (bind_err (side_of a.0) onward f a.2) [
+            | inl m ↦
+                let n = no_side a.0 f m in
+                number_told ty bytes head rest [] a.0 Size f is tt parts t n.0 (λ before here at. ([], number_from 0 a.0.0, at, omega arith, n.1))
+            | inr m ↦
+                let v = side_takes a.0 m.0 m.1 in
+                second_told ty bytes (head ++ t.text) a.0.1 m.0 f (head_more [] m.0 head t.text is (subst (IsField t.text) v.0 t.field)) (parts_more bytes head rest t.text a.0.1 parts t.parts) v.1 t.next m.2
+          ]
     ]
 
 -- no white space behind P5
@@ -157,7 +157,7 @@ start_told : (ty : LaneType) (bytes rest : List ℕ) (f : Fault) → bytes ≡ c
 start_told ty bytes rest f parts e =
     let s = begun_stops true rest f e in
     told ty bytes (codes "P5") rest Number f s.0 parts
-      (record { numbers = []; head = codes "P5"; part = []; head_is = refl; sizes = tt; begun = begun_none true; stops = cut rest s.1; ended = λ e. refl; parts = refl })
+    (record { numbers = []; head = codes "P5"; part = []; head_is = refl; sizes = tt; begun = begun_none true; stops = cut rest s.1; ended = λ e. refl; parts = refl })
   where
     cut : (rest : List ℕ) → ((c : ℕ) (cs : List ℕ) → rest ≡ c ∷ cs → begins_blank true c ≡ false) → Stops true [] rest
     cut [] s = tt
@@ -169,11 +169,11 @@ header_told ty bytes f e =
     elim (bind_err (magic_of bytes) (at_start ty) f e) [
       | inl a ↦ let m = no_magic bytes f a in told ty bytes [] bytes Magic f m.0 refl (refl, m.1)
       | inr a ↦
-        let p = magic_takes bytes a.0 a.1 in
-        elim (bind_err (begun true a.0) (at_first ty) f a.2) [
-          | inl s ↦ start_told ty bytes a.0 f p s
-          | inr s ↦ let b = begun_takes true a.0 s.0 s.1 in first_told ty bytes (codes "P5") a.0 f refl p b.1 (rw b.0 at s.2)
-        ]
+          let p = magic_takes bytes a.0 a.1 in
+          elim (bind_err (begun true a.0) (at_first ty) f a.2) [
+            | inl s ↦ start_told ty bytes a.0 f p s
+            | inr s ↦ let b = begun_takes true a.0 s.0 s.1 in first_told ty bytes (codes "P5") a.0 f refl p b.1 (rw b.0 at s.2)
+          ]
     ]
 
 -- ---- the samples
@@ -185,17 +185,17 @@ counted_told ty bytes h rest f t e =
     let more : Result (Header × List ℕ) Fault = cond (ltb need (length rest)) (Err (at_these (drop need rest) Extra)) (Ok (h, rest)) in
     elim (test_err (ltb (length rest) need) (at_these [] Short) more f e) [
       | inl s ↦
-        told ty bytes bytes [] Short f s.1 (sym (append-nil bytes)) (h, length rest, behind (length rest) rest bytes refl t.parts, ltb-true _ _ s.0, refl)
+          told ty bytes bytes [] Short f s.1 (sym (append-nil bytes)) (h, length rest, behind (length rest) rest bytes refl t.parts, ltb-true _ _ s.0, refl)
       | inr s ↦
-        elim (test_err (ltb need (length rest)) (at_these (drop need rest) Extra) (Ok (h, rest)) f s.1) [
-          | inl x ↦
-            let less : need < length rest = ltb-true _ _ x.0 in
-            let grouped : bytes ≡ (t.head ++ t.white ∷ take need rest) ++ drop need rest =
-              t.parts ∙ ap (λ (u : List ℕ). t.head ++ t.white ∷ u) (sym (take-append-drop need rest)) ∙ sym (append_assoc t.head (t.white ∷ take need rest) (drop need rest)) in
-            told ty bytes (t.head ++ t.white ∷ take need rest) (drop need rest) Extra f x.1 grouped
-              (h, behind need (take need rest) (t.head ++ t.white ∷ take need rest) (length-take-le need rest (omega arith)) refl, omega (arith, length-drop need rest))
-          | inr x ↦ absurd (ok_no_err (h, rest) f x.1)
-        ]
+          elim (test_err (ltb need (length rest)) (at_these (drop need rest) Extra) (Ok (h, rest)) f s.1) [
+            | inl x ↦
+                let less : need < length rest = ltb-true _ _ x.0 in
+                let grouped : bytes ≡ (t.head ++ t.white ∷ take need rest) ++ drop need rest =
+                t.parts ∙ ap (λ (u : List ℕ). t.head ++ t.white ∷ u) (sym (take-append-drop need rest)) ∙ sym (append_assoc t.head (t.white ∷ take need rest) (drop need rest)) in
+                told ty bytes (t.head ++ t.white ∷ take need rest) (drop need rest) Extra f x.1 grouped
+                (h, behind need (take need rest) (t.head ++ t.white ∷ take need rest) (length-take-le need rest (omega arith)) refl, omega (arith, length-drop need rest))
+            | inr x ↦ absurd (ok_no_err (h, rest) f x.1)
+          ]
     ]
   where
     ok_no_err : (x : Header × List ℕ) (d : Fault) → ◌≡◌ {A = Result (Header × List ℕ) Fault} (Ok x) (Err d) → ⊥

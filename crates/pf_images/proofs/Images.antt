@@ -73,21 +73,21 @@ pixels_take ty h bytes most fits long =
     let space = room ty.signed ty.bits h.maxval most.1 in
     elim (cases_lt h.maxval 256) [
       | inl lt ↦
-        let small : ltb h.maxval 256 ≡ true = lt-ltb _ _ lt in
-        record {
-          spelled = rw small refl;
-          count = rw small (rw small at long);
-          each = rw small (weaker (λ b. b < 256) (λ p. p < 2 ^ lane_width ty) (λ n b. omega (arith, space.0, b)) bytes fits);
-        }
+          let small : ltb h.maxval 256 ≡ true = lt-ltb _ _ lt in
+          record {
+            spelled = rw small refl;
+            count = rw small (rw small at long);
+            each = rw small (weaker (λ b. b < 256) (λ p. p < 2 ^ lane_width ty) (λ n b. omega (arith, space.0, b)) bytes fits);
+          }
       | inr le ↦
-        let large : ltb h.maxval 256 ≡ false = le-ltb _ _ le in
-        let even : length bytes ≡ 2 * (h.width * h.height) = rw large at long in
-        let most_of : 65536 ≤ 2 ^ lane_width ty = space.1 le in
-        record {
-          spelled = rw large (spelled_pairs (h.width * h.height) bytes fits even);
-          count = rw large (length-pairs (h.width * h.height) bytes even);
-          each = rw large (weaker (λ p. p < 65536) (λ p. p < 2 ^ lane_width ty) (λ n b. omega (arith, most_of, b)) (pairs bytes) (pairs_below bytes fits));
-        }
+          let large : ltb h.maxval 256 ≡ false = le-ltb _ _ le in
+          let even : length bytes ≡ 2 * (h.width * h.height) = rw large at long in
+          let most_of : 65536 ≤ 2 ^ lane_width ty = space.1 le in
+          record {
+            spelled = rw large (spelled_pairs (h.width * h.height) bytes fits even);
+            count = rw large (length-pairs (h.width * h.height) bytes even);
+            each = rw large (weaker (λ p. p < 65536) (λ p. p < 2 ^ lane_width ty) (λ n b. omega (arith, most_of, b)) (pairs bytes) (pairs_below bytes fits));
+          }
     ]
 
 counted_takes : (h : Header) (bytes : List ℕ) (x : Header × List ℕ) → counted h bytes ≡ Ok x → ((h, bytes) ≡ x) × (length bytes ≡ sample_bytes h)
@@ -172,8 +172,8 @@ image_again ty bytes p is =
     let type_is : IsPixelType p.ty = is.picture.ty in
     let fits : AllByRecursion (λ n. n < 2 ^ 16) p.pixels = weaker (λ n. IsIn p.ty (pos n)) (λ n. n < 2 ^ 16) (λ n i. narrow p.ty.bits n type_is.narrow (out_type p.ty n type_is i)) p.pixels each in
     let head : header_of ty bytes ≡ Ok (h, rest) = ap (header_of ty) is.parts ∙ header_again ty is.head p.width p.height is.maxval is.white rest is.head_is
-      (record { some = is.picture.wide; most = is.picture.most_wide }) (record { some = is.picture.high; most = is.picture.most_high }) is.picture.most is.maxval_is is.white_is in
+    (record { some = is.picture.wide; most = is.picture.most_wide }) (record { some = is.picture.high; most = is.picture.most_high }) is.picture.most is.maxval_is is.white_is in
     let made : picture_of ty (h, rest) ≡ p =
-      ap (λ (ps : List ℕ). let q : Picture = record { width = p.width; height = p.height; ty = ty; pixels = ps } in q) (samples_again is.maxval p.pixels fits)
-      ∙ ap (λ (t : LaneType). let q : Picture = record { width = p.width; height = p.height; ty = t; pixels = p.pixels } in q) (sym is.ty_is) in
+    ap (λ (ps : List ℕ). let q : Picture = record { width = p.width; height = p.height; ty = ty; pixels = ps } in q) (samples_again is.maxval p.pixels fits)
+    ∙ ap (λ (t : LaneType). let q : Picture = record { width = p.width; height = p.height; ty = t; pixels = p.pixels } in q) (sym is.ty_is) in
     rw (head, counted_again h rest (samples_long h p.pixels is.picture.count)) (ap (λ (q : Picture). Ok q) made)

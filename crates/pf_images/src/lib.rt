@@ -8,6 +8,8 @@ mod writing;
 
 pub use fault::{ImageFault, PgmKind};
 pub use pf_ints::{Image, ImageSet};
-
 pub use reading::read_pgm;
 pub use writing::write_pgm;
+
+#[cfg(test)]
+mod tests;
