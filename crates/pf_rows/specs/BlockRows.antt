@@ -1,0 +1,82 @@
+-- What a block makes of a row: which block gives which pixel.
+use Rattle.std.specs.Prelude.{◌≡◌, ℕ, pos, ◌+◌, ◌-◌, ◌*◌, ◌/◌, ◌<◌, ◌≤◌, List, [], length, map, take, drop, All, None, if◌then◌else◌, nat_lt, slice_index, slice_index_or}
+use Rattle.std.specs.List.{concat}
+use Rattle.pf_ints.specs.Images.{Picture, pixel}
+use Rattle.pf_terms.specs.declared.kernel.ImageDecl.{ImageDecl}
+use Rattle.pf_terms.specs.declared.names.Tap.{Tap}
+use Rattle.pf_terms.specs.Kernels.{no_picture, tap_row, tap_column}
+use Rattle.pf_isa.specs.declared.block.Item.{Item}
+use Rattle.pf_isa.specs.declared.block.Item.TheVariants.{Vector as Operation, TapLoad, OutStore, SlotLoad, SlotStore}
+use Rattle.pf_isa.specs.declared.program.Head.{Head}
+use Rattle.pf_isa.specs.declared.registers.RegFile.{RegFile}
+use Rattle.pf_isa.specs.Bytes.{bytes}
+use Rattle.pf_isa.specs.Blocks.{BVal}
+use Rattle.pf_isa.specs.Programs.{Text}
+use Rattle.pf_isa.specs.Runs.{pixel_bytes, columns}
+use Rattle.pf_isa.specs.RowEnds.{row_size}
+use Rattle.pf_isa.specs.Tables.{Table, IsFile}
+use Rattle.pf_rows.specs.RowCode.{row_code, row_labels}
+
+abbrev pub no_decl : ImageDecl
+no_decl = record { name = []; ty = no_picture.ty; lo = 0; hi = 0 }
+
+-- the bytes of a pixel of each tap
+abbrev pub tap_widths : Head → List ℕ
+tap_widths h = map (λ t. pixel_bytes (slice_index_or h.images t.image no_decl).ty) h.taps
+
+-- the program that runs a block over each row
+abbrev pub row_text : (I : Type 0) {O : Type 0} → Table O → Head → List (Item O) → Text I O
+row_text I table h block = record {
+  head = h;
+  code = row_code {I = I} table (tap_widths h) (pixel_bytes h.out_ty) block;
+  labels = row_labels I table (tap_widths h) (pixel_bytes h.out_ty) block;
+}
+
+-- of the places at which a block of so many pixels begins in a row of n pixels, the greatest one at most q
+abbrev pub start_of : (vector n q : ℕ) → ℕ
+start_of vector n q = if nat_lt q (n - vector) then vector * (q / vector) else n - vector
+
+-- the bytes of pixel k
+abbrev pub pixel_part : (width k : ℕ) → List ℕ → List ℕ
+pixel_part width k held = take width (drop (width * k) held)
+
+-- the number of tap k in column x of row y of the output
+abbrev pub tap_pixel : List Tap → List Picture → ℕ → ℕ → Tap → ℕ
+tap_pixel taps pictures x y t = pixel (slice_index_or pictures t.image no_picture) (tap_column taps x t) (tap_row taps y t)
+
+abbrev pub no_tap : Tap
+no_tap = record { image = 0; dx = pos 0; dy = pos 0 }
+
+-- the taps' pixels of row y from column x on, for a block; past the row's end they may be anything
+pub record AreBlocks (vector : ℕ) (h : Head) (pictures : List Picture) (y x : ℕ) (blocks : List (List ℕ)) : Type 0 where
+  pub sizes : (k : ℕ) → k < length h.taps → length (slice_index_or blocks k []) ≡ slice_index (tap_widths h) k * vector
+  pub each : (k j : ℕ) → k < length h.taps → j < vector → x + j < columns h pictures
+      → pixel_part (slice_index (tap_widths h) k) j (slice_index_or blocks k []) ≡ bytes (slice_index (tap_widths h) k) (tap_pixel h.taps pictures (x + j) y (slice_index_or h.taps k no_tap))
+
+-- the bytes are those that a block from column x on gives at pixel q, where these are bytes
+pub record IsGiven {O : Type 0} (t : Table O) (slots : ℕ) (block : List (Item O)) (h : Head) (pictures : List Picture) (y x q : ℕ) (held : List ℕ) : Type 0 where
+  pub blocks : List (List ℕ)
+  pub taps : AreBlocks t.vector h pictures y x blocks
+  pub given : (file : RegFile) (kept : List (List ℕ)) → IsFile t t.vectors file → length kept ≡ slots
+      → All (λ b. b < 256) (pixel_part (pixel_bytes h.out_ty) (q - x) (concat (BVal t (pixel_bytes h.out_ty) block blocks file kept)))
+      → held ≡ pixel_part (pixel_bytes h.out_ty) (q - x) (concat (BVal t (pixel_bytes h.out_ty) block blocks file kept))
+
+-- a row of the output: each pixel is the one that the last block gives that begins at it or before it
+pub record IsBlockRow {O : Type 0} (t : Table O) (slots : ℕ) (block : List (Item O)) (h : Head) (pictures : List Picture) (y : ℕ) (row : List ℕ) : Type 0 where
+  pub size : length row ≡ row_size h pictures
+  pub each : (q : ℕ) → q < columns h pictures → IsGiven t slots block h pictures y (start_of t.vector (columns h pictures) q) q (pixel_part (pixel_bytes h.out_ty) q row)
+
+-- each pixel that a block gives is a function of the taps' numbers at that pixel alone
+pub record IsLanewise {O : Type 0} (t : Table O) (slots : ℕ) (block : List (Item O)) (widths : List ℕ) (width : ℕ) (value : List ℕ → ℕ) : Type 0 where
+  pub each : (blocks : List (List ℕ)) (numbers : List ℕ) (file : RegFile) (kept : List (List ℕ)) (j : ℕ) → IsFile t t.vectors file → length kept ≡ slots → j < t.vector → length numbers ≡ length widths
+      → ((k : ℕ) → k < length widths → length (slice_index_or blocks k []) ≡ slice_index widths k * t.vector)
+      → ((k : ℕ) → k < length widths → pixel_part (slice_index widths k) j (slice_index_or blocks k []) ≡ bytes (slice_index widths k) (slice_index numbers k))
+      → pixel_part width j (concat (BVal t width block blocks file kept)) ≡ bytes width (value numbers)
+
+-- a step of a block is one that a program over these pixels may have: its tap and its part are there
+abbrev pub IsStep : (widths : List ℕ) (width : ℕ) {O : Type 0} → Item O → Type 0
+IsStep widths width (Operation op) = Unit {0}
+IsStep widths width (TapLoad to tap part) = (tap < length widths) × (part < slice_index widths tap)
+IsStep widths width (OutStore from part) = part < width
+IsStep widths width (SlotLoad to slot) = Unit {0}
+IsStep widths width (SlotStore from slot) = Unit {0}

@@ -1,0 +1,2 @@
+pub mod RowCode
+pub mod BlockRows

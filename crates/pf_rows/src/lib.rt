@@ -1,0 +1,2 @@
+//! Programs that make the output row by row.
+#![tactic(auto)]
