@@ -1,3 +1,5 @@
 pub mod Paths
 pub mod Pointers
 pub mod Steps
+pub mod Cells
+pub mod ScratchLaws

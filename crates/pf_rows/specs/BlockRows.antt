@@ -1,6 +1,6 @@
 -- What a block makes of a row: which block gives which pixel.
-use Rattle.std.specs.Prelude.{◌≡◌, ℕ, pos, ◌+◌, ◌-◌, ◌*◌, ◌/◌, ◌<◌, ◌≤◌, List, [], length, map, take, drop, All, None, if◌then◌else◌, nat_lt, slice_index, slice_index_or}
-use Rattle.std.specs.List.{concat}
+use Rattle.std.specs.Prelude.{◌≡◌, ℕ, pos, ◌+◌, ◌-◌, ◌*◌, ◌/◌, ◌<◌, ◌≤◌, List, [], length, map, take, drop, All, None, Bool, true, false, ◌==◌, if◌then◌else◌, nat_lt, slice_index, slice_index_or}
+use Rattle.std.specs.List.{concat, list_any}
 use Rattle.pf_ints.specs.Images.{Picture, pixel}
 use Rattle.pf_terms.specs.declared.kernel.ImageDecl.{ImageDecl}
 use Rattle.pf_terms.specs.declared.names.Tap.{Tap}
@@ -80,3 +80,12 @@ IsStep widths width (TapLoad to tap part) = (tap < length widths) × (part < sli
 IsStep widths width (OutStore from part) = part < width
 IsStep widths width (SlotLoad to slot) = Unit {0}
 IsStep widths width (SlotStore from slot) = Unit {0}
+
+-- an item stores this part of the output
+abbrev pub stores_part : {O : Type 0} → ℕ → Item O → Bool
+stores_part part (OutStore from k) = k == part
+stores_part part _ = false
+
+-- each part of the output is stored
+abbrev pub StoresEach : {O : Type 0} → ℕ → List (Item O) → Type 0
+StoresEach width block = (part : ℕ) → part < width → list_any (λ item. stores_part part item) block ≡ true
