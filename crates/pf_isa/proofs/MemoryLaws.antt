@@ -1,7 +1,7 @@
 -- What loads and stores give in regions that are apart.
-use Rattle.std.proofs.Common.{◌≡◌, ℕ, zero, suc, ◌+◌, ◌-◌, ◌*◌, ◌<◌, ◌≤◌, ◌⊎◌, inl, inr, ⊎_elim, List, [], ◌∷◌, ◌++◌, length, map, take, drop, set, get_or, Bool, true, false, ◌&&◌, Option, Some, None, ltb, refl, rules, arith, sym, ◌∙◌, ap, length-append, length-take, length-drop, append_assoc}
+use Rattle.std.proofs.Common.{◌≡◌, ℕ, zero, suc, ◌+◌, ◌-◌, ◌<◌, ◌≤◌, List, [], ◌∷◌, ◌++◌, length, take, drop, set, get_or, Bool, true, false, ◌&&◌, Some, None, ltb, refl, arith, sym, ◌∙◌, ap, length-append, length-take, length-drop, append_assoc}
 use Rattle.std.specs.List.{AllPairs, position, position_or_len}
-use Rattle.std.proofs.lemmas.List.{get_or-map, length-map, map-append, take_at, drop_at, drop-drop, drop-take, take-take, get_or_append_left, get_or_at, set_at}
+use Rattle.std.proofs.lemmas.List.{take_at, drop_at, drop-drop, drop-take, take-take, get_or_append_left, get_or_at, set_at}
 use Rattle.std.proofs.lemmas.List.Sums.{position_or_len_is}
 use Rattle.std.proofs.lemmas.Bool.Decides.{nat_tests}
 use Rattle.std.proofs.lemmas.Bool.{and_from, and_right, cond-true, lt-ltb}
@@ -46,22 +46,6 @@ stored-inside rs k address new apart some within allowed inside =
     let found : writable rs address (length new) ≡ Some k = position-holds (λ r. r.writes) rs k address (length new) apart some within allowed inside in
     rw found refl
 
--- where a region begins, and how long it is
-abbrev pub extent : Region → ℕ × ℕ
-extent r = (r.start, length r.bytes)
-
--- whether regions are apart is seen from their extents
-pub apart_by_extents : (rs qs : List Region) → map extent qs ≡ map extent rs → AllPairs Apart rs → AllPairs Apart qs
-apart_by_extents rs qs same apart i j d before within =
-    let count : length qs ≡ length rs = sym (length-map qs extent) ∙ ap length same ∙ length-map rs extent in
-    let one : extent (get_or qs i d) ≡ extent (get_or rs i d) = sym (get_or-map extent qs i d (0, 0) (omega arith)) ∙ ap (λ l. get_or l i (0, 0)) same ∙ get_or-map extent rs i d (0, 0) (omega arith) in
-    let two : extent (get_or qs j d) ≡ extent (get_or rs j d) = sym (get_or-map extent qs j d (0, 0) (omega arith)) ∙ ap (λ l. get_or l j (0, 0)) same ∙ get_or-map extent rs j d (0, 0) (omega arith) in
-    let start_i : (get_or qs i d).start ≡ (get_or rs i d).start = ap (λ e. e.0) one in
-    let long_i : length (get_or qs i d).bytes ≡ length (get_or rs i d).bytes = ap (λ e. e.1) one in
-    let start_j : (get_or qs j d).start ≡ (get_or rs j d).start = ap (λ e. e.0) two in
-    let long_j : length (get_or qs j d).bytes ≡ length (get_or rs j d).bytes = ap (λ e. e.1) two in
-    rw (start_i, long_i, start_j, long_j) (apart i j d before (omega arith))
-
 -- bytes with others from a place on
 abbrev pub overwritten : List ℕ → ℕ → List ℕ → List ℕ
 overwritten bs n new = take n bs ++ (new ++ drop (n + length new) bs)
@@ -95,7 +79,7 @@ take-drop-part bs off n x count inside =
     let front : drop x (take n (drop off bs)) ≡ take (n - x) (drop x (drop off bs)) = drop-take-sum (drop off bs) x n (n - x) (omega arith) in
     rw (front, drop-drop) (take-take count (n - x) (drop (off + x) bs) (omega arith))
 
-length-image_regions : (starts : List ℕ) (pictures : List Picture) → length starts ≡ length pictures → length (image_regions starts pictures) ≡ length pictures
+pub length-image_regions : (starts : List ℕ) (pictures : List Picture) → length starts ≡ length pictures → length (image_regions starts pictures) ≡ length pictures
 length-image_regions [] [] same = refl
 length-image_regions [] (p ∷ ps) same = absurd (omega arith)
 length-image_regions (start ∷ starts) [] same = absurd (omega arith)
@@ -113,15 +97,22 @@ get_or-image_regions (start ∷ starts) [] k same within = absurd (omega arith)
 get_or-image_regions (start ∷ starts) (p ∷ ps) zero same within = refl
 get_or-image_regions (start ∷ starts) (p ∷ ps) (suc k) same within = get_or-image_regions starts ps k (omega arith) (omega arith)
 
-extents-memory : (pictures : List Picture) (at : Places) (table other scratch kept output left : List ℕ) → length other ≡ length table → length kept ≡ length scratch → length left ≡ length output
-    → map extent (memory pictures at other kept left) ≡ map extent (memory pictures at table scratch output)
-extents-memory pictures at table other scratch kept output left one two three = rw (map-append extent, map-append extent, one, two, three) refl
+pub memory-image : (pictures : List Picture) (at : Places) (table scratch output : List ℕ) (k : ℕ) → length at.images ≡ length pictures → k < length pictures
+    → get_or (memory pictures at table scratch output) (suc (suc k)) nowhere ≡ region (get_or at.images k 0) (image_bytes pictures k) false
+memory-image pictures at table scratch output k same within =
+    let count : length (image_regions at.images pictures) ≡ length pictures = length-image_regions at.images pictures same in
+    get_or_append_left (image_regions at.images pictures) (region at.output output true ∷ []) nowhere k (omega arith) ∙ get_or-image_regions at.images pictures k same within
 
--- other bytes of the same sizes leave the regions of a run apart
-pub apart-memory : (pictures : List Picture) (at : Places) (table other scratch kept output left : List ℕ) → length other ≡ length table → length kept ≡ length scratch → length left ≡ length output
-    → AllPairs Apart (memory pictures at table scratch output) → AllPairs Apart (memory pictures at other kept left)
-apart-memory pictures at table other scratch kept output left one two three apart =
-    apart_by_extents (memory pictures at table scratch output) (memory pictures at other kept left) (extents-memory pictures at table other scratch kept output left one two three) apart
+-- where the output stands among the regions
+abbrev pub output_place : List Picture → Places → ℕ
+output_place pictures at = suc (suc (length (image_regions at.images pictures)))
+
+pub memory-output : (pictures : List Picture) (at : Places) (table scratch output : List ℕ) → get_or (memory pictures at table scratch output) (output_place pictures at) nowhere ≡ region at.output output true
+memory-output pictures at table scratch output =
+    get_or_at (region at.table table false ∷ region at.scratch scratch true ∷ image_regions at.images pictures) (region at.output output true) [] nowhere (output_place pictures at) refl
+
+pub length-memory : (pictures : List Picture) (at : Places) (table scratch output : List ℕ) → length at.images ≡ length pictures → length (memory pictures at table scratch output) ≡ length pictures + 3
+length-memory pictures at table scratch output same = let count = length-image_regions at.images pictures same in simp length-append (omega arith)
 
 module _ (pictures : List Picture) (at : Places) (table scratch output : List ℕ) (apart : AllPairs Apart (memory pictures at table scratch output)) where
   -- a load from the table
@@ -135,15 +126,13 @@ module _ (pictures : List Picture) (at : Places) (table scratch output : List �
   pub loaded-image : (k off n : ℕ) → length at.images ≡ length pictures → k < length pictures → 0 < n → off + n ≤ length (image_bytes pictures k)
       → loaded (memory pictures at table scratch output) (get_or at.images k 0 + off) n ≡ Some (take n (drop off (image_bytes pictures k)))
   loaded-image k off n same within some inside =
-      let count : length (image_regions at.images pictures) ≡ length pictures = length-image_regions at.images pictures same in
       let start = get_or at.images k 0 in
       let bytes = image_bytes pictures k in
       let here : start + off - start ≡ off = omega arith in
-      let found : get_or (memory pictures at table scratch output) (suc (suc k)) nowhere ≡ region start bytes false =
-      get_or_append_left (image_regions at.images pictures) _ nowhere k (omega arith) ∙ get_or-image_regions at.images pictures k same within in
+      let found : get_or (memory pictures at table scratch output) (suc (suc k)) nowhere ≡ region start bytes false = memory-image pictures at table scratch output k same within in
       let lies : LiesIn (get_or (memory pictures at table scratch output) (suc (suc k)) nowhere) (start + off) n = rw found (record { from = omega arith; to = omega arith }) in
       let read : (get_or (memory pictures at table scratch output) (suc (suc k)) nowhere).reads ≡ true = rw found refl in
-      let places : suc (suc k) < length (memory pictures at table scratch output) = simp length-append (omega arith) in
+      let places : suc (suc k) < length (memory pictures at table scratch output) = omega (arith, length-memory pictures at table scratch output same) in
       rw (loaded-inside (memory pictures at table scratch output) (suc (suc k)) (start + off) n apart some places read lies, found, here) refl
 
   -- a store to the output
@@ -151,13 +140,27 @@ module _ (pictures : List Picture) (at : Places) (table scratch output : List �
       → stored (memory pictures at table scratch output) (at.output + off) new ≡ Some (memory pictures at table scratch (overwritten output off new))
   stored-output off new some inside =
       let images = image_regions at.images pictures in
-      let k = suc (suc (length images)) in
+      let k = output_place pictures at in
       let here : at.output + off - at.output ≡ off = omega arith in
       let front = region at.table table false ∷ region at.scratch scratch true ∷ images in
-      let found : get_or (memory pictures at table scratch output) k nowhere ≡ region at.output output true = get_or_at front (region at.output output true) [] nowhere k refl in
+      let found : get_or (memory pictures at table scratch output) k nowhere ≡ region at.output output true = memory-output pictures at table scratch output in
       let lies : LiesIn (get_or (memory pictures at table scratch output) k nowhere) (at.output + off) (length new) = rw found (record { from = omega arith; to = omega arith }) in
       let written : (get_or (memory pictures at table scratch output) k nowhere).writes ≡ true = rw found refl in
       let places : k < length (memory pictures at table scratch output) = simp length-append (omega arith) in
       let after : set (memory pictures at table scratch output) k (region at.output (overwritten output off new) true) ≡ memory pictures at table scratch (overwritten output off new) =
       set_at front (region at.output output true) [] (region at.output (overwritten output off new) true) k refl in
       rw (stored-inside (memory pictures at table scratch output) k (at.output + off) new apart some places written lies, found, here) (ap (λ l. Some l) after)
+
+  -- a load from the scratch, and a store to it
+  pub loaded-scratch : (off n : ℕ) → 0 < n → off + n ≤ length scratch → loaded (memory pictures at table scratch output) (at.scratch + off) n ≡ Some (take n (drop off scratch))
+  loaded-scratch off n some inside =
+      let here : at.scratch + off - at.scratch ≡ off = omega arith in
+      let lies : LiesIn (region at.scratch scratch true) (at.scratch + off) n = record { from = omega arith; to = omega arith } in
+      rw (loaded-inside (memory pictures at table scratch output) 1 (at.scratch + off) n apart some (omega arith) refl lies, here) refl
+
+  pub stored-scratch : (off : ℕ) (new : List ℕ) → 0 < length new → off + length new ≤ length scratch
+      → stored (memory pictures at table scratch output) (at.scratch + off) new ≡ Some (memory pictures at table (overwritten scratch off new) output)
+  stored-scratch off new some inside =
+      let here : at.scratch + off - at.scratch ≡ off = omega arith in
+      let lies : LiesIn (region at.scratch scratch true) (at.scratch + off) (length new) = record { from = omega arith; to = omega arith } in
+      rw (stored-inside (memory pictures at table scratch output) 1 (at.scratch + off) new apart some (omega arith) refl lies, here) refl

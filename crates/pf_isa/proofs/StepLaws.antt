@@ -1,14 +1,17 @@
 -- How a row goes on from the outcome of a step, and numbers in general registers.
-use Rattle.std.proofs.Common.{◌≡◌, ℕ, zero, suc, ◌+◌, ◌*◌, ◌%◌, ◌^◌, ◌<◌, List, [], ◌∷◌, ◌++◌, length, Bool, true, false, Option, Some, None, refl, arith, ap, add-zero, add-suc, zero-add}
+use Rattle.std.proofs.Common.{◌≡◌, ℕ, zero, suc, ◌+◌, ◌^◌, ◌<◌, List, [], ◌∷◌, ◌++◌, length, true, false, Some, None, refl, arith}
 use Rattle.std.specs.Prelude.{slice_get}
 use Rattle.std.specs.Str.{bytes_eq}
 use Rattle.std.proofs.Math.Nat.{mod-eq_of_lt}
 use Rattle.pf_ints.specs.declared.target.Target.{Target}
 use Rattle.pf_ints.specs.declared.target.Target.TheVariants.{Neon, Avx2, Hvx}
+use Rattle.pf_isa.specs.declared.access.Access.{Access}
+use Rattle.pf_isa.specs.declared.control.Control.{Control}
 use Rattle.pf_isa.specs.declared.code.Line.{Line}
+use Rattle.pf_isa.specs.declared.code.Line.TheVariants.{Vector, Control as Controls}
 use Rattle.pf_isa.specs.declared.code.Label.{Label}
-use Rattle.pf_isa.specs.Tables.{Table}
-use Rattle.pf_isa.specs.Steps.{State, Outcome, Moved, Returned, Trapped, wrapped, place_of, step, End, Ended, Stopped, Spent, follow, run}
+use Rattle.pf_isa.specs.Tables.{Table, after}
+use Rattle.pf_isa.specs.Steps.{State, Outcome, Moved, Returned, Trapped, wrapped, place_of, control_step, access_step, step, End, Ended, Stopped, follow, run}
 
 -- a number below 2^32 fits every machine's registers
 pub wrapped_small : (target : Target) (n : ℕ) → n < 2 ^ 32 → wrapped target n ≡ n
@@ -31,6 +34,16 @@ pub place_of-later : (l : Label) (labels : List Label) (end : ℕ) (name : List 
 place_of-later l labels end name other = rw other refl
 
 module _ {I O : Type 0} (t : Table O) (code : List (Line I O)) (labels : List Label) where
+  -- a step is what its instruction does
+  pub step_control : (s : State) (c : Control) → slice_get code s.at ≡ Some (Controls c) → step t code labels s ≡ control_step t.target labels (length code) c s
+  step_control s c here = rw here refl
+
+  pub step_vector : (s : State) (op : O) → slice_get code s.at ≡ Some (Vector op) → t.access op ≡ None → step t code labels s ≡ Moved (record s { at = s.at + 1; file = after t op s.file })
+  step_vector s op here computes = rw (here, computes) refl
+
+  pub step_access : (s : State) (op : O) (a : Access) → slice_get code s.at ≡ Some (Vector op) → t.access op ≡ Some a → step t code labels s ≡ access_step t.target t.vector a s
+  step_access s op a here is = rw (here, is) refl
+
   pub run_moved : (n : ℕ) (s next : State) → step t code labels s ≡ Moved next → run t code labels (suc n) s ≡ run t code labels n next
   unfolding run
   run_moved n s next moved = rw moved refl

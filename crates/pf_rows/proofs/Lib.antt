@@ -2,4 +2,5 @@ pub mod Paths
 pub mod Pointers
 pub mod Steps
 pub mod Cells
-pub mod ScratchLaws
+pub mod Taps
+pub mod RowPlaces

@@ -1,9 +1,10 @@
 -- What a block makes of a row: which block gives which pixel.
-use Rattle.std.specs.Prelude.{◌≡◌, ℕ, pos, ◌+◌, ◌-◌, ◌*◌, ◌/◌, ◌<◌, ◌≤◌, List, [], length, map, take, drop, All, None, Bool, true, false, ◌==◌, if◌then◌else◌, nat_lt, slice_index, slice_index_or}
+use Rattle.std.specs.Prelude.{◌≡◌, ℕ, ◌+◌, ◌-◌, ◌*◌, ◌/◌, ◌<◌, ◌≤◌, List, [], length, map, take, drop, All, None, Bool, true, false, ◌==◌, if◌then◌else◌, nat_lt, slice_index, slice_index_or}
 use Rattle.std.specs.List.{concat, list_any}
 use Rattle.pf_ints.specs.Images.{Picture, pixel}
 use Rattle.pf_terms.specs.declared.kernel.ImageDecl.{ImageDecl}
 use Rattle.pf_terms.specs.declared.names.Tap.{Tap}
+use Rattle.pf_terms.specs.TermTexts.{no_tap}
 use Rattle.pf_terms.specs.Kernels.{no_picture, tap_row, tap_column}
 use Rattle.pf_isa.specs.declared.block.Item.{Item}
 use Rattle.pf_isa.specs.declared.block.Item.TheVariants.{Vector as Operation, TapLoad, OutStore, SlotLoad, SlotStore}
@@ -43,9 +44,6 @@ pixel_part width k held = take width (drop (width * k) held)
 -- the number of tap k in column x of row y of the output
 abbrev pub tap_pixel : List Tap → List Picture → ℕ → ℕ → Tap → ℕ
 tap_pixel taps pictures x y t = pixel (slice_index_or pictures t.image no_picture) (tap_column taps x t) (tap_row taps y t)
-
-abbrev pub no_tap : Tap
-no_tap = record { image = 0; dx = pos 0; dy = pos 0 }
 
 -- the taps' pixels of row y from column x on, for a block; past the row's end they may be anything
 pub record AreBlocks (vector : ℕ) (h : Head) (pictures : List Picture) (y x : ℕ) (blocks : List (List ℕ)) : Type 0 where
