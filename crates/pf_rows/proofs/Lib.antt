@@ -4,3 +4,4 @@ pub mod Steps
 pub mod Cells
 pub mod Taps
 pub mod RowPlaces
+pub mod Wide
