@@ -5,3 +5,4 @@ pub mod Cells
 pub mod Taps
 pub mod RowPlaces
 pub mod Wide
+pub mod Ways
