@@ -6,3 +6,4 @@ pub mod Taps
 pub mod RowPlaces
 pub mod Wide
 pub mod Ways
+pub mod WideRow

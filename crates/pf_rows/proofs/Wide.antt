@@ -36,7 +36,7 @@ module _ {O : Type 0} (t : Table O) (pictures : List Picture) (at : Places) (ent
   pub wide_tap : (x k : ℕ) → k < length widths → get_or (wide_taps x) k [] ≡ tap_block x k
   wide_tap x k known = get_or-map-range_with_len (tap_block x) 0 (length widths) k k [] known (omega arith)
 
-  abbrev mem : List ℕ → List ℕ → List Region
+  abbrev pub mem : List ℕ → List ℕ → List Region
   mem scratch output = holding t.vector pictures at entries widths width slots n scratch_size output_size row image place placed scratch output
 
   abbrev pub SlotsIn : List (List ℕ) → List ℕ → Type 0
