@@ -7,3 +7,4 @@ pub mod RowPlaces
 pub mod Wide
 pub mod Ways
 pub mod WideRow
+pub mod Copies
