@@ -12,7 +12,7 @@ use Rattle.pf_isa.specs.declared.code.Label.{Label}
 use Rattle.pf_isa.specs.Bytes.{number, bytes}
 use Rattle.pf_isa.specs.Memory.{loaded, stored}
 use Rattle.pf_isa.specs.Tables.{Table}
-use Rattle.pf_isa.specs.Steps.{wrapped, place_of}
+use Rattle.pf_isa.specs.Steps.{wrapped, pointer_bytes, place_of}
 use Rattle.pf_isa.proofs.StepLaws.{wrapped_small}
 use Rattle.pf_rows.specs.RowCode.{pixel_lines, load_value, store_value, copy_turn}
 use Rattle.pf_rows.proofs.Paths.{Stands, stands-front, stands-back, now, Comes, comes-none, comes-on, comes-one}
@@ -23,6 +23,31 @@ le_of x n less = omega arith
 
 count_more : (c m : ℕ) → c * suc m ≡ c + c * m
 count_more c m = omega arith
+
+-- the parts of a copy's loop
+module _ {I O : Type 0} (code : List (Line I O)) (from to : List (Line I O)) (a width : ℕ) (label : List ℕ) (there : Stands code a (copy_turn from to width label)) where
+  pub from_stands : Stands code a from
+  from_stands =
+      let rest : List (Line I O) = pixel_lines 5 width ++ (load_value width ∷ (to ++ (pixel_lines 7 width ++ (store_value width ∷ Controls (AddImm 3 3 false 1) ∷ Controls (Compare 3 1) ∷ Controls (Below label) ∷ [])))) in
+      stands-front code a from rest there
+
+  pub to_stands : Stands code (a + length from + width + 1) to
+  to_stands =
+      let last : List (Line I O) = pixel_lines 7 width ++ (store_value width ∷ Controls (AddImm 3 3 false 1) ∷ Controls (Compare 3 1) ∷ Controls (Below label) ∷ []) in
+      let rest : List (Line I O) = load_value width ∷ (to ++ last) in
+      let at2 = stands-back code a from (pixel_lines 5 width ++ rest) there in
+      let at3 : Stands code (a + length from + width) rest = subst (λ m. Stands code (a + length from + m) rest) (length-pixel_lines I O 5 width) (stands-back code (a + length from) (pixel_lines 5 width) rest at2) in
+      stands-front code (a + length from + width + 1) to last at3.1
+
+pub length-copy_turn : (I O : Type 0) (from to : List (Line I O)) (width : ℕ) (label : List ℕ) → length (copy_turn from to width label) ≡ length from + (width + (1 + (length to + (width + 4))))
+length-copy_turn I O from to width label =
+    let end : List (Line I O) = store_value width ∷ Controls (AddImm 3 3 false 1) ∷ Controls (Compare 3 1) ∷ Controls (Below label) ∷ [] in
+    let last : List (Line I O) = pixel_lines 7 width ++ end in
+    let rest : List (Line I O) = load_value width ∷ (to ++ last) in
+    let one : length last ≡ width + 4 = length-append (pixel_lines 7 width) end ∙ ap (λ m. m + 4) (length-pixel_lines I O 7 width) in
+    let two : length rest ≡ suc (length to + length last) = ap suc (length-append to last) in
+    let three : length (pixel_lines {I = I} {O = O} 5 width ++ rest) ≡ width + length rest = length-append (pixel_lines 5 width) rest ∙ ap (λ m. m + length rest) (length-pixel_lines I O 5 width) in
+    length-append from (pixel_lines 5 width ++ rest) ∙ omega arith
 
 module _ {I O : Type 0} (t : Table O) (code : List (Line I O)) (labels : List Label) where
   -- a pixel is loaded
@@ -40,6 +65,13 @@ module _ {I O : Type 0} (t : Table O) (code : List (Line I O)) (labels : List La
   value_stored (suc zero) a tb n s x u p v e flag f rs next some few there store = comes-one t code labels (Controls (StoreByte 7 6)) _ _ there (rw store refl)
   value_stored (suc (suc zero)) a tb n s x u p v e flag f rs next some few there store = comes-one t code labels (Controls (StoreHalf 7 6)) _ _ there (rw store refl)
   value_stored (suc (suc (suc width))) a tb n s x u p v e flag f rs next some few there store = absurd (omega arith)
+
+  -- an address is kept in the scratch's table
+  pub pointer_stored : (k a tb n s x u p v e : ℕ) (flag : Bool) (f : RegFile) (rs next : List Region) → s + 8 * k < 2 ^ 32 → slice_get code a ≡ Some (Controls (StorePtr 2 k 7)) → stored rs (s + 8 * k) (bytes (pointer_bytes t.target) e) ≡ Some next
+      → Comes t code labels 1 (now a (tb ∷ n ∷ s ∷ x ∷ u ∷ p ∷ v ∷ e ∷ []) flag f rs) (now (a + 1) (tb ∷ n ∷ s ∷ x ∷ u ∷ p ∷ v ∷ e ∷ []) flag f next)
+  pointer_stored k a tb n s x u p v e flag f rs next low there store =
+      let small : wrapped t.target (s + 8 * k) ≡ s + 8 * k = wrapped_small t.target (s + 8 * k) low in
+      comes-one t code labels (Controls (StorePtr 2 k 7)) _ _ there (rw (small, store) refl)
 
   -- A loop that copies n pixels of so many bytes from one address to another: memory before and after each, and the instructions that set p and e.
   pub record Copy (from to : List (Line I O)) (a tb n s u width source target : ℕ) (f : RegFile) (rs : ℕ → List Region) (held : ℕ → List ℕ) : Type 0 where

@@ -8,3 +8,4 @@ pub mod Wide
 pub mod Ways
 pub mod WideRow
 pub mod Copies
+pub mod Buffers
