@@ -9,3 +9,4 @@ pub mod Ways
 pub mod WideRow
 pub mod Copies
 pub mod Buffers
+pub mod Prepared
