@@ -10,3 +10,5 @@ pub mod WideRow
 pub mod Copies
 pub mod Buffers
 pub mod Prepared
+pub mod Narrow
+pub mod NarrowRow
