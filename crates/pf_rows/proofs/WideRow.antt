@@ -142,7 +142,7 @@ module _ {I O : Type 0} (t : Table O) (is_op : O → Type 0) (laws : IsTable t i
       pub back : Agree (row + width * n) output_size before left
       pub given : (q : ℕ) → q < n → Given (start_of t.vector n q) q (part (row + width * q) width left)
 
-    longer : (budget more : ℕ) (state : State) (before : List ℕ) → budget ≤ more → RowLeft budget state before → RowLeft more state before
+    pub longer : (budget more : ℕ) (state : State) (before : List ℕ) → budget ≤ more → RowLeft budget state before → RowLeft more state before
     longer budget more state before less left =
         let sum : budget + (more - budget) ≡ more = omega arith in
         let ends = left.ends in
