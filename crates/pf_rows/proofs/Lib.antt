@@ -12,3 +12,4 @@ pub mod Buffers
 pub mod Prepared
 pub mod Narrow
 pub mod NarrowRow
+pub mod Parts
