@@ -13,3 +13,4 @@ pub mod Prepared
 pub mod Narrow
 pub mod NarrowRow
 pub mod Parts
+pub mod Placed
