@@ -14,3 +14,4 @@ pub mod Narrow
 pub mod NarrowRow
 pub mod Parts
 pub mod Placed
+pub mod BlockRowLaws

@@ -293,7 +293,7 @@ module _ {I O : Type 0} (t : Table O) (is_op : O → Type 0) (laws : IsTable t i
 
   module _ (Given : ℕ → ℕ → List ℕ → Type 0)
       (gives : (x : ℕ) → x + t.vector ≤ n → (f : RegFile) (kept : List (List ℕ)) → IsFile t t.vectors f → length kept ≡ slots → (q : ℕ) → x ≤ q → q < x + t.vector → Given x q (part (width * (q - x)) width (given_by t is_op laws code labels pictures at entries widths width slots n scratch_size output_size row image place placed block laid ones within steps stores x f kept)))
-      (narrow_gives : (blocks : List (List ℕ)) → Finds t.vector n pictures widths image place 0 blocks → (f : RegFile) (kept : List (List ℕ)) → IsFile t t.vectors f → length kept ≡ slots → (q : ℕ) → q < n → Given 0 q (bytes width (number (part (width * q) width (given_from blocks f kept))))) where
+      (narrow_gives : (blocks : List (List ℕ)) → Finds t.vector n pictures widths image place 0 blocks → (f : RegFile) (kept : List (List ℕ)) → IsFile t t.vectors f → length kept ≡ slots → (q : ℕ) → q < n → length (part (width * q) width (given_from blocks f kept)) ≡ width → Given 0 q (bytes width (number (part (width * q) width (given_from blocks f kept))))) where
     abbrev Left : ℕ → State → List ℕ → Type 0
     Left = RowLeft t is_op laws code labels pictures at entries widths width slots n scratch_size output_size row image place placed block laid ones within steps stores Given gives
 
@@ -342,8 +342,10 @@ module _ {I O : Type 0} (t : Table O) (is_op : O → Type 0) (laws : IsTable t i
               let one : part (width * q) width (part buffer (width * n) ran.kept) ≡ part (buffer + width * q) width ran.kept = take-drop-part ran.kept buffer (width * n) (width * q) width (omega arith) in
               let two : part (width * q) width (part buffer (t.vector * width) ran.kept) ≡ part (buffer + width * q) width ran.kept = take-drop-part ran.kept buffer (t.vector * width) (width * q) width (omega arith) in
               let same : part (width * q) width (part buffer (width * n) ran.kept) ≡ part (width * q) width (given_from (narrow_taps_of prepared.left) f (slots_of prepared.left)) = one ∙ sym two ∙ ap (λ l. part (width * q) width l) ran.gives_it in
+              let inner : length (part buffer (width * n) ran.kept) ≡ width * n = let fits = room_of_row in let end = room_of in let kept_long = ran.kept_long in length-part buffer (width * n) ran.kept (omega arith) in
+              let size : length (part (width * q) width (given_from (narrow_taps_of prepared.left) f (slots_of prepared.left))) ≡ width = sym (ap length same) ∙ length-part (width * q) width (part buffer (width * n) ran.kept) (omega arith) in
               let here : bytes width (number (part (width * q) width (given_from (narrow_taps_of prepared.left) f (slots_of prepared.left)))) ≡ part (row + width * q) width ended.left = ap (λ l. bytes width (number l)) (sym same) ∙ sym (ended.pixels q inside) in
-              let given = narrow_gives (narrow_taps_of prepared.left) (finds_of prepared.left prepared.left_long prepared.filled) f (slots_of prepared.left) is_file (length-cells_of (buffer_at t.vector taps (taps + 1)) t.vector slots prepared.left) q inside in
+              let given = narrow_gives (narrow_taps_of prepared.left) (finds_of prepared.left prepared.left_long prepared.filled) f (slots_of prepared.left) is_file (length-cells_of (buffer_at t.vector taps (taps + 1)) t.vector slots prepared.left) q inside size in
               subst (λ s. Given s q (part (row + width * q) width ended.left)) (sym first) (subst (λ l. Given 0 q l) here given);
         } in
         longer t is_op laws code labels pictures at entries widths width slots n scratch_size output_size row image place placed block laid ones within steps stores Given gives (6 + (prepared.count + (many + 3)) + ended.cost) (many + 4096 * (taps + 1)) start held budget left

@@ -1,22 +1,25 @@
 -- What a block makes of a row: which block gives which pixel.
-use Rattle.std.specs.Prelude.{◌≡◌, ℕ, ◌+◌, ◌-◌, ◌*◌, ◌/◌, ◌<◌, ◌≤◌, List, [], length, map, take, drop, All, None, Bool, true, false, ◌==◌, if◌then◌else◌, nat_lt, slice_index, slice_index_or}
+use Rattle.std.specs.Prelude.{◌≡◌, ℕ, pos, ◌+◌, ◌-◌, ◌*◌, ◌/◌, ◌<◌, ◌≤◌, List, [], length, map, take, drop, All, None, Bool, true, false, ◌==◌, if◌then◌else◌, nat_lt, slice_index, slice_index_or}
 use Rattle.std.specs.List.{concat, list_any}
 use Rattle.pf_ints.specs.Images.{Picture, pixel}
 use Rattle.pf_terms.specs.declared.kernel.ImageDecl.{ImageDecl}
 use Rattle.pf_terms.specs.declared.names.Tap.{Tap}
 use Rattle.pf_terms.specs.TermTexts.{no_tap}
-use Rattle.pf_terms.specs.Kernels.{no_picture, tap_row, tap_column}
+use Rattle.pf_terms.specs.declared.term.Leaf.TheVariants.{Tap as TapLeaf}
+use Rattle.pf_terms.specs.declared.term.Term.TheVariants.{Leaf}
+use Rattle.pf_terms.specs.Kernels.{Source, Keeps, Out, out_value, no_picture, tap_row, tap_column}
 use Rattle.pf_isa.specs.declared.block.Item.{Item}
 use Rattle.pf_isa.specs.declared.block.Item.TheVariants.{Vector as Operation, TapLoad, OutStore, SlotLoad, SlotStore}
 use Rattle.pf_isa.specs.declared.program.Head.{Head}
 use Rattle.pf_isa.specs.declared.registers.RegFile.{RegFile}
 use Rattle.pf_isa.specs.Bytes.{bytes}
-use Rattle.pf_isa.specs.Blocks.{BVal}
+use Rattle.pf_isa.specs.Blocks.{BVal, IsClean}
+use Rattle.pf_isa.specs.Heads.{IsHead}
 use Rattle.pf_isa.specs.Programs.{Text}
-use Rattle.pf_isa.specs.Runs.{pixel_bytes, columns}
-use Rattle.pf_isa.specs.RowEnds.{row_size}
+use Rattle.pf_isa.specs.Runs.{Places, IsPlaced, Leaves, pixel_bytes, columns, rows}
+use Rattle.pf_isa.specs.RowEnds.{row_size, RowDone}
 use Rattle.pf_isa.specs.Tables.{Table, IsFile}
-use Rattle.pf_rows.specs.RowCode.{row_code, row_labels}
+use Rattle.pf_rows.specs.RowCode.{row_code, row_labels, scratch_bytes}
 
 abbrev pub no_decl : ImageDecl
 no_decl = record { name = []; ty = no_picture.ty; lo = 0; hi = 0 }
@@ -87,3 +90,31 @@ stores_part part _ = false
 -- each part of the output is stored
 abbrev pub StoresEach : {O : Type 0} → ℕ → List (Item O) → Type 0
 StoresEach width block = (part : ℕ) → part < width → list_any (λ item. stores_part part item) block ≡ true
+
+-- A block that a row's program may have: it names the machine's vectors and the head's taps alone, its slots and parts are there, it stores each part of the output, and what it stores depends on the taps alone.
+pub record IsRowBlock {O : Type 0} (t : Table O) (h : Head) (slots : ℕ) (block : List (Item O)) : Type 0 where
+  pub head : IsHead h
+  pub scratch : h.scratch ≡ scratch_bytes t.vector (length h.taps) slots
+  pub clean : IsClean t t.vectors slots (pixel_bytes h.out_ty) block
+  pub steps : All (IsStep (tap_widths h) (pixel_bytes h.out_ty)) block
+  pub stores : StoresEach (pixel_bytes h.out_ty) block
+  pub some : 1 ≤ t.vector
+  pub most : t.vector ≤ 128
+
+-- the images are those that the head asks for, and the output has a pixel
+abbrev pub KeepsHead : Head → List Picture → Type 0
+KeepsHead h pictures = Keeps (record { images = h.images; taps = h.taps; defs = []; out_ty = h.out_ty; out = Leaf (TapLeaf 0) h.out_ty }) pictures
+
+-- under every placement and in every row, the program ends within its steps and without a trap, and has then written a row of the block's pixels and nothing else of the output
+abbrev pub RunsBlock : {I O : Type 0} → Table O → ℕ → List (Item O) → Text I O → Type 0
+RunsBlock t slots block p =
+    (pictures : List Picture) → KeepsHead p.head pictures → (at : Places) (scratch output : List ℕ) → IsPlaced p.head pictures at scratch output → (y : ℕ) → y < rows p.head pictures
+    → (row : List ℕ) × IsBlockRow t slots block p.head pictures y row × RowDone t p pictures at y row scratch output
+
+-- where each of the block's pixels is a function of the taps' numbers there, and the function gives the values of a kernel's output, the program's runs leave the kernel's output
+abbrev pub LeavesLanes : {I O : Type 0} → Table O → ℕ → List (Item O) → Text I O → Type 0
+LeavesLanes t slots block p =
+    (value : List ℕ → ℕ) → IsLanewise t slots block (tap_widths p.head) (pixel_bytes p.head.out_ty) value
+    → (s : Source) (pictures : List Picture) → s.images ≡ p.head.images → s.taps ≡ p.head.taps → s.out_ty ≡ p.head.out_ty → Keeps s pictures
+    → ((x y : ℕ) → x < columns p.head pictures → y < rows p.head pictures → pos (value (map (tap_pixel p.head.taps pictures x y) p.head.taps)) ≡ out_value s pictures x y)
+    → (o : Picture) × Out s pictures o × ((at : Places) (scratch output : List ℕ) → IsPlaced p.head pictures at scratch output → Leaves t p pictures at scratch output o)
