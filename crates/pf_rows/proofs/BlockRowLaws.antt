@@ -49,7 +49,7 @@ code_long I O t widths width block =
     omega arith
 
 -- the registers in which a row begins
-started_file : {O : Type 0} (t : Table O) → IsFile t t.vectors (record { vectors = replicate t.vectors (replicate t.vector 0); k = 0; q = replicate t.vector false })
+pub started_file : {O : Type 0} (t : Table O) → IsFile t t.vectors (record { vectors = replicate t.vectors (replicate t.vector 0); k = 0; q = replicate t.vector false })
 started_file t = record {
   count = length-replicate t.vectors (replicate t.vector 0);
   vectors = All-replicate (λ v. length v ≡ t.vector) t.vectors (replicate t.vector 0) (length-replicate t.vector 0);

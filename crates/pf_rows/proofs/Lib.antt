@@ -15,3 +15,4 @@ pub mod NarrowRow
 pub mod Parts
 pub mod Placed
 pub mod BlockRowLaws
+pub mod Lanewise
