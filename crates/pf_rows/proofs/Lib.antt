@@ -16,3 +16,4 @@ pub mod Parts
 pub mod Placed
 pub mod BlockRowLaws
 pub mod Lanewise
+pub mod Moves
