@@ -17,3 +17,4 @@ pub mod Placed
 pub mod BlockRowLaws
 pub mod Lanewise
 pub mod Moves
+pub mod RowWork

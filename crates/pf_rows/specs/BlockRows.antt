@@ -1,5 +1,5 @@
 -- What a block makes of a row: which block gives which pixel.
-use Rattle.std.specs.Prelude.{◌≡◌, ℕ, pos, ◌+◌, ◌-◌, ◌*◌, ◌/◌, ◌<◌, ◌≤◌, List, [], length, map, take, drop, All, None, Bool, true, false, ◌==◌, if◌then◌else◌, nat_lt, slice_index, slice_index_or}
+use Rattle.std.specs.Prelude.{◌≡◌, ℕ, pos, ◌+◌, ◌-◌, ◌*◌, ◌/◌, ◌<◌, ◌≤◌, List, [], length, map, sum, take, drop, All, None, Bool, true, false, ◌==◌, if◌then◌else◌, nat_lt, slice_index, slice_index_or}
 use Rattle.std.specs.List.{concat, list_any}
 use Rattle.pf_ints.specs.Images.{Picture, pixel}
 use Rattle.pf_terms.specs.declared.kernel.ImageDecl.{ImageDecl}
@@ -118,3 +118,11 @@ LeavesLanes t slots block p =
     → (s : Source) (pictures : List Picture) → s.images ≡ p.head.images → s.taps ≡ p.head.taps → s.out_ty ≡ p.head.out_ty → Keeps s pictures
     → ((x y : ℕ) → x < columns p.head pictures → y < rows p.head pictures → pos (value (map (tap_pixel p.head.taps pictures x y) p.head.taps)) ≡ out_value s pictures x y)
     → (o : Picture) × Out s pictures o × ((at : Places) (scratch output : List ℕ) → IsPlaced p.head pictures at scratch output → Leaves t p pictures at scratch output o)
+
+-- what a block's operations cost together
+abbrev pub item_cost : {O : Type 0} → Table O → Item O → ℕ
+item_cost t (Operation op) = t.cost op
+item_cost t _ = 0
+
+abbrev pub block_cost : {O : Type 0} → Table O → List (Item O) → ℕ
+block_cost t block = sum (map (item_cost t) block)
