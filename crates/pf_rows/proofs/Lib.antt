@@ -18,3 +18,5 @@ pub mod BlockRowLaws
 pub mod Lanewise
 pub mod Moves
 pub mod RowWork
+pub mod LabelLaws
+pub mod Instructions
