@@ -20,3 +20,4 @@ pub mod Moves
 pub mod RowWork
 pub mod LabelLaws
 pub mod Instructions
+pub mod RowTexts
