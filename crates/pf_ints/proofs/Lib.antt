@@ -1,4 +1,5 @@
 pub mod Ring
 pub mod Floor
 pub mod LaneLaws
+pub mod RangeLaws
 pub mod NameLaws

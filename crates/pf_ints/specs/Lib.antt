@@ -1,5 +1,6 @@
 pub mod Whole
 pub mod Lanes
+pub mod Ranges
 pub mod Names
 pub mod Images
 pub mod Targets

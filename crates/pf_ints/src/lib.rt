@@ -2,6 +2,7 @@
 #![tactic(auto)]
 
 mod image;
+mod interval;
 mod lane;
 mod name;
 mod sequence;
@@ -9,6 +10,7 @@ mod target;
 mod word;
 
 pub use image::{Image, ImageSet, MOST_PIXELS, MOST_SIDE};
+pub use interval::{FURTHEST, Interval, IntervalList};
 pub use lane::{Bits, LaneType, sat, wrap};
 pub use name::Name;
 pub use sequence::{

@@ -1,5 +1,13 @@
+pub mod Fronts
+pub mod ScanLaws
+pub mod TightLaws
+pub mod QuietLaws
 pub mod ByteLaws
 pub mod MemoryLaws
 pub mod StepLaws
 pub mod RowLaws
 pub mod TextLaws
+pub mod TermLaws
+pub mod WrittenLaws
+pub mod MachineLaws
+pub mod RunLaws

@@ -1,14 +1,12 @@
 -- The lines of a text that is written line by line.
-use Rattle.std.proofs.Common.{◌≡◌, refl, sym, ap, ◌∙◌, ℕ, suc, ◌+◌, ◌-◌, ◌%◌, ◌^◌, ◌<◌, ◌≤◌, Bool, true, false, not, ◌&&◌, ◌||◌, cond, List, [], ◌∷◌, ◌++◌, length, drop, get_or, add-one, arith, append_assoc, drop-cons, All, ◌==◌, ⊎_elim, ℤ, pos, negsuc, ◌≤ℤ◌}
-use Rattle.std.specs.Prelude.{decimal, nat_le, neg_ℤ}
-use Rattle.std.specs.Fmt.{signed_decimal}
+use Rattle.std.proofs.Common.{◌≡◌, refl, sym, ap, ◌∙◌, ℕ, suc, ◌+◌, ◌-◌, ◌/◌, ◌%◌, ◌<◌, ◌≤◌, zero, Bool, true, false, not, ◌&&◌, ◌||◌, cond, List, [], ◌∷◌, ◌++◌, length, drop, get_or, add-one, arith, append_assoc, drop-cons, All, ◌==◌, ⊎_elim, ℤ, pos, negsuc}
+use Rattle.std.specs.Prelude.{decimal, nat_le, if◌then◌else◌}
+use Rattle.std.specs.Fmt.{signed_decimal, digits, digits_onto, digit_glyph}
 use Rattle.std.specs.List.{list_all, AllByRecursion, slice_split, onto_first}
 use Rattle.std.specs.Str.Lines.{lines, lines_of_parts, strip_carriage_return}
-use Rattle.std.proofs.lemmas.Bool.{and_parts, not-true, ne_eqb, cases_eq, cases_lt, le-leb, lt-leb}
+use Rattle.std.proofs.lemmas.Bool.{and_parts, not-true, ne_eqb, cases_eq, cases_lt, le-leb, lt-leb, lt-ltb}
 use Rattle.std.proofs.lemmas.Bool.Decides.{nat_tests}
-use Rattle.std.proofs.lemmas.Fmt.{decimal_by_steps}
 use Rattle.std.proofs.lemmas.Grind.{flat_map-append}
-use Rattle.std.proofs.lemmas.Int.{ints}
 use Rattle.std.proofs.lemmas.List.Folds.{list_all-append}
 use Rattle.std.proofs.lemmas.List.Sums.{AllPass-from_list_all}
 use Rattle.std.proofs.lemmas.List.Splits.{slice_split_at}
@@ -21,6 +19,10 @@ use Rattle.pf_isa.specs.Texts.{Said, Nothing, Named, Does, printed, line_text, l
 
 pub printed-append : (a b : List (List ℕ)) → printed (a ++ b) ≡ printed a ++ printed b
 printed-append a b = flat_map-append (λ l. l ++ 10 ∷ []) a b
+
+-- lines that are appended in front of the rest
+pub joined_lines : (t u v : List ℕ) (a rest : List (List ℕ)) → u ≡ t ++ printed a → v ≡ u ++ printed rest → v ≡ t ++ printed (a ++ rest)
+joined_lines t u v a rest one two = rw (two, one, printed-append a rest) (append_assoc t (printed a) (printed rest))
 
 -- what is left to write from instruction i on: the labels there, the instruction, and the rest
 pub code_lines-drop : {I O : Type 0} (t : Table O) (n i : ℕ) (code : List (Line I O)) (labels : List Label) (line : Line I O) → i < length code → line ≡ get_or code i line
@@ -100,7 +102,7 @@ solid c = not (is_blank c) && not (c == 44) && not (c == 47)
 name_byte_inner : (c : ℕ) → is_name_byte c ≡ true → inner c ≡ true
 name_byte_inner c h = rw (apart_from c 10 h refl, apart_from c 13 h refl) refl
 
-name_byte_solid : (c : ℕ) → is_name_byte c ≡ true → solid c ≡ true
+pub name_byte_solid : (c : ℕ) → is_name_byte c ≡ true → solid c ≡ true
 name_byte_solid c h = rw (apart_from c 32 h refl, apart_from c 9 h refl, apart_from c 44 h refl, apart_from c 47 h refl) refl
 
 -- a test that holds of each byte for which another does
@@ -127,24 +129,33 @@ inner_name name h = all-weaker is_name_byte inner name_byte_inner name (name_byt
 is_digit-digit : (n : ℕ) → n < 10 → is_digit (48 + n) ≡ true
 is_digit-digit n small = grind (arith, nat_tests)
 
-one_digit : (n : ℕ) → n < 10 → list_all is_digit ((48 + n) ∷ []) ≡ true
-one_digit n small = rw (is_digit-digit n small) refl
+glyph : (n : ℕ) → is_digit (digit_glyph false (n % 10)) ≡ true
+glyph n = let below : n % 10 < 10 = omega arith in rw (lt-ltb (n % 10) 10 below) (is_digit-digit (n % 10) below)
+
+digits_before : (k n : ℕ) (behind : List ℕ) → list_all is_digit behind ≡ true → list_all is_digit (digits_onto k 10 false n behind) ≡ true
+digits_before zero n behind h = h
+digits_before (suc k) n behind h =
+    let more : list_all is_digit (digit_glyph false (n % 10) ∷ behind) ≡ true = rw (glyph n) h in
+    elim (n / 10 == 0) as (λ b. list_all is_digit (if b then digit_glyph false (n % 10) ∷ behind else digits_onto k 10 false (n / 10) (digit_glyph false (n % 10) ∷ behind)) ≡ true) [
+      | true ↦ more
+      | false ↦ digits_before k (n / 10) (digit_glyph false (n % 10) ∷ behind) more
+    ]
 
 -- a printed number is made of digits
-pub decimal_digits : (n : ℕ) → n < 2 ^ 64 → list_all is_digit (decimal n) ≡ true
-decimal_digits n small =
-    decimal_by_steps (λ m ds. list_all is_digit ds ≡ true) one_digit (λ m ds big h. all-append is_digit ds _ h (one_digit (m % 10) (omega arith))) n small
+pub decimal_digits : (n : ℕ) → list_all is_digit (decimal n) ≡ true
+unfolding digits
+decimal_digits n = digits_before 64 n [] refl
 
 -- a digit may stand in a name
 digit_name_byte : (c : ℕ) → is_digit c ≡ true → is_name_byte c ≡ true
 digit_name_byte c h = elim (is_letter c) as (λ b. (b || is_digit c || c == 95) ≡ true) [ true ↦ refl | false ↦ rw h refl ]
 
-pub inner_decimal : (n : ℕ) → n < 2 ^ 64 → is_inner (decimal n) ≡ true
-inner_decimal n small = all-weaker is_digit inner (λ c h. name_byte_inner c (digit_name_byte c h)) (decimal n) (decimal_digits n small)
+pub inner_decimal : (n : ℕ) → is_inner (decimal n) ≡ true
+inner_decimal n = all-weaker is_digit inner (λ c h. name_byte_inner c (digit_name_byte c h)) (decimal n) (decimal_digits n)
 
-pub inner_signed : (z : ℤ) → neg_ℤ (pos 64) ≤ℤ z → z ≤ℤ pos 64 → is_inner (signed_decimal z) ≡ true
-inner_signed (pos n) low high = inner_decimal n (omega (arith, ints, high))
-inner_signed (negsuc n) low high = inner_decimal (suc n) (omega (arith, ints, low))
+pub inner_signed : (z : ℤ) → is_inner (signed_decimal z) ≡ true
+inner_signed (pos n) = inner_decimal n
+inner_signed (negsuc n) = inner_decimal (suc n)
 
 -- ---- what the lines of code say
 
@@ -169,7 +180,7 @@ abbrev pub Ascend : ℕ → ℕ → List Label → Type 0
 Ascend low high [] = Unit {0}
 Ascend low high (l ∷ ls) = (low ≤ l.before) × (l.before ≤ high) × Ascend l.before high ls
 
-labels_of-named : {I O : Type 0} (n : ℕ) (labels : List Label) (more : List (Said I O)) → Ascend n n labels → labels_of n (named labels ++ more) ≡ labels ++ labels_of n more
+pub labels_of-named : {I O : Type 0} (n : ℕ) (labels : List Label) (more : List (Said I O)) → Ascend n n labels → labels_of n (named labels ++ more) ≡ labels ++ labels_of n more
 labels_of-named n [] more h = refl
 labels_of-named n (l ∷ ls) more h =
     let here : l.before ≡ n = omega (arith, h.0, h.1) in
@@ -177,7 +188,7 @@ labels_of-named n (l ∷ ls) more h =
     rw (labels_of-named n ls more rest) (ap (λ k. k ∷ ls ++ labels_of n more) (ap (λ b. record l { before = b }) (sym here)))
 
 -- those at n, and those behind n
-ascend_at : (n high : ℕ) (labels : List Label) → Ascend n high labels → (labels_at n labels ++ labels_behind n labels ≡ labels) × Ascend n n (labels_at n labels) × Ascend (n + 1) high (labels_behind n labels)
+pub ascend_at : (n high : ℕ) (labels : List Label) → Ascend n high labels → (labels_at n labels ++ labels_behind n labels ≡ labels) × Ascend n n (labels_at n labels) × Ascend (n + 1) high (labels_behind n labels)
 ascend_at n high [] h = (refl, tt, tt)
 ascend_at n high (l ∷ ls) h =
     ⊎_elim
@@ -187,3 +198,29 @@ ascend_at n high (l ∷ ls) h =
     let rest = ascend_at n high ls (rw here at h.2) in
     rw (le-leb l.before n le) (ap (λ k. l ∷ k) rest.0, (h.0, le, rw here rest.1), rest.2))
     (cases_lt n l.before)
+
+-- a name is solid
+pub is_solid_name : (name : List ℕ) → is_name name ≡ true → list_all solid name ≡ true
+is_solid_name name h = all-weaker is_name_byte solid name_byte_solid name (name_bytes name h)
+
+-- solid text is tight, and has no comment
+pub tight-solid : (free : Bool) (cs : List ℕ) → list_all solid cs ≡ true → tight_on free cs ≡ cs
+tight-solid free [] h = refl
+tight-solid free (c ∷ cs) h =
+    let both = and_parts (solid c) (list_all solid cs) h in
+    let parts = and_parts (not (is_blank c) && not (c == 44)) (not (c == 47)) both.0 in
+    let two = and_parts (not (is_blank c)) (not (c == 44)) parts.0 in
+    rw (not-true (is_blank c) two.0, not-true (c == 44) two.1) (ap (λ k. c ∷ k) (tight-solid false cs both.1))
+
+abbrev pub no_slash : ℕ → Bool
+no_slash c = not (c == 47)
+
+pub uncommented-no_slash : (cs : List ℕ) → list_all no_slash cs ≡ true → uncommented cs ≡ cs
+uncommented-no_slash [] h = refl
+uncommented-no_slash (c ∷ []) h = refl
+uncommented-no_slash (c ∷ d ∷ cs) h =
+    let both = and_parts (no_slash c) (list_all no_slash (d ∷ cs)) h in
+    rw (not-true (c == 47) both.0) (ap (λ k. c ∷ k) (uncommented-no_slash (d ∷ cs) both.1))
+
+pub solid_no_slash : (c : ℕ) → solid c ≡ true → no_slash c ≡ true
+solid_no_slash c h = (and_parts (not (is_blank c) && not (c == 44)) (not (c == 47)) h).1

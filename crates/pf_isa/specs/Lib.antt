@@ -1,6 +1,7 @@
 pub mod Bytes
 pub mod Files
 pub mod Lines
+pub mod Scan
 pub mod Control
 pub mod Tables
 pub mod Memory
@@ -12,3 +13,5 @@ pub mod Blocks
 pub mod Runs
 pub mod RowEnds
 pub mod Moved
+pub mod Spans
+pub mod Machines

@@ -46,8 +46,11 @@ out_line ty = codes ".out " ++ type_word ty
 abbrev pub scratch_line : ℕ → List ℕ
 scratch_line n = codes ".scratch " ++ decimal n
 
+abbrev pub typed_term_text : Names → Definition → List ℕ
+typed_term_text names d = codes " " ++ type_word d.ty ++ codes " = " ++ term_text names d.term
+
 abbrev pub lifted_line : Names → Definition → List ℕ
-lifted_line names d = codes ".lifted " ++ d.name ++ codes " " ++ type_word d.ty ++ codes " = " ++ term_text names d.term
+lifted_line names d = codes ".lifted " ++ d.name ++ typed_term_text names d
 
 abbrev pub lifted_lines : Names → List Definition → List (List ℕ)
 lifted_lines names [] = []

@@ -1,16 +1,16 @@
 ghost use Rattle.std.specs.Prelude.{◌≡◌, ◌+◌, ◌<◌, ◌≤◌, ◌^◌, [], ◌∷◌, ◌++◌, length, map, drop, take, IfOk, OnOk, All, decimal};
 ghost use Rattle.std.specs.Fmt.{signed_decimal};
 ghost use Rattle.pf_terms.specs.TermTexts.{type_word};
-ghost use Rattle.pf_isa.specs.Heads.{IsHead, names_of, AreLifted};
+ghost use Rattle.pf_isa.specs.Heads.{IsHead, names_of, AreLifted, IsLifted};
 ghost use Rattle.pf_isa.specs.Programs.{IsInstructionOf};
-ghost use Rattle.pf_isa.specs.Texts.{IsText, IsOpOf, printed, target_line, range_text, image_line, offsets_text, tap_line, out_line, scratch_line, lifted_lines, cost_line, head_lines, label_text, label_lines, line_text, labels_at, labels_behind, code_lines};
+ghost use Rattle.pf_isa.specs.Texts.{IsText, IsOpOf, printed, target_line, range_text, image_line, offsets_text, tap_line, out_line, scratch_line, lifted_line, lifted_lines, typed_term_text, cost_line, head_lines, label_text, label_lines, line_text, labels_at, labels_behind, code_lines};
 
 use crate::code::{Label, Line};
 use crate::isa::Isa;
 use crate::program::{Head, Program};
 use itoa::Buffer;
-use pf_ints::{LaneType, Memory, Name, Sequence, Target};
-use pf_terms::{DefName, Definition, ImageDecl, ImageName, Names, Tap};
+use pf_ints::{Duplicate, LaneType, Memory, Name, Sequence, Target};
+use pf_terms::{DefName, Definition, ImageDecl, ImageName, Names, Tap, write_term, write_type};
 use std::alloc::Global;
 
 /// Appends the number in decimal digits.
@@ -28,14 +28,6 @@ fn push_signed(text: &mut Vec<u8>, n: i16) -> Result<(), Memory>
     text.extend_from_slice(buffer.format(n).as_bytes())
 }
 
-fn push_type(text: &mut Vec<u8>, ty: LaneType) -> Result<(), Memory>
-    ensures { OnOk result (text.new.items ≡ text.old.items ++ type_word ty) }
-{
-    let letter: &[u8] = if ty.signed { b"i" } else { b"u" };
-    text.extend_from_slice(letter)?;
-    push_number(text, u64::from(ty.width()))
-}
-
 fn push_target_line(text: &mut Vec<u8>, target: Target) -> Result<(), Memory>
     ensures { OnOk result (text.new.items ≡ text.old.items ++ printed (target_line target ∷ [])) }
 {
@@ -47,7 +39,7 @@ fn push_target_line(text: &mut Vec<u8>, target: Target) -> Result<(), Memory>
 fn push_range(text: &mut Vec<u8>, image: &ImageDecl) -> Result<(), Memory>
     ensures { OnOk result (text.new.items ≡ text.old.items ++ range_text image.now) }
 {
-    push_type(text, image.ty)?;
+    write_type(text, image.ty)?;
     text.extend_from_slice(b" ")?;
     push_number(text, u64::from(image.lo))?;
     text.extend_from_slice(b" ")?;
@@ -102,11 +94,76 @@ fn push_tap_lines(text: &mut Vec<u8>, images: &[ImageName], taps: &[Tap]) -> Res
     Ok(())
 }
 
+/// Appends a line for each lifted term, whose leaves have these names and those of the terms before it.
+fn push_lifted_lines(
+    text: &mut Vec<u8>,
+    names: &mut Names,
+    lifted: &[Definition],
+) -> Result<(), Memory>
+    requires { AreLifted names.old lifted.now }
+    ensures { OnOk result (text.new.items ≡ text.old.items ++ printed (lifted_lines names.old lifted.now)) }
+{
+    match lifted {
+        [] => Ok(()),
+        [definition, rest @ ..] => {
+            push_lifted_line(text, names, definition)?;
+            let name = DefName {
+                name: definition.name,
+                ty: definition.ty,
+            };
+            names.defs.push(name)?;
+            push_lifted_lines(text, names, rest)
+        }
+    }
+}
+
+fn push_lifted_line(
+    text: &mut Vec<u8>,
+    names: &Names,
+    definition: &Definition,
+) -> Result<(), Memory>
+    requires { IsLifted names.now definition.now }
+    ensures { OnOk result (text.new.items ≡ text.old.items ++ printed (lifted_line names.now definition.now ∷ [])) }
+{
+    text.extend_from_slice(b".lifted ")?;
+    text.extend_from_slice(definition.name.as_slice())?;
+    push_term(text, names, definition)?;
+    text.extend_from_slice(b"\n")
+}
+
+fn push_term(text: &mut Vec<u8>, names: &Names, definition: &Definition) -> Result<(), Memory>
+    requires { IsLifted names.now definition.now }
+    ensures { OnOk result (text.new.items ≡ text.old.items ++ typed_term_text names.now definition.now) }
+{
+    text.extend_from_slice(b" ")?;
+    write_type(text, definition.ty)?;
+    text.extend_from_slice(b" = ")?;
+    write_term(text, &definition.term, names)
+}
+
+/// The names of the images and the taps.
+fn names_of(alloc: Global, head: &Head) -> Result<Names, Memory>
+    ensures { IfOk result (λ names. names ≡ names_of head.now.images head.now.taps) }
+{
+    let mut images = Sequence::new(alloc);
+    for image in head.images.as_slice() {
+        images.push(ImageName {
+            name: image.name,
+            ty: image.ty,
+        })?;
+    }
+    Ok(Names {
+        images,
+        taps: head.taps.copy(alloc)?,
+        defs: Sequence::new(alloc),
+    })
+}
+
 fn push_out_line(text: &mut Vec<u8>, ty: LaneType) -> Result<(), Memory>
     ensures { OnOk result (text.new.items ≡ text.old.items ++ printed (out_line ty ∷ [])) }
 {
     text.extend_from_slice(b".out ")?;
-    push_type(text, ty)?;
+    write_type(text, ty)?;
     text.extend_from_slice(b"\n")
 }
 
@@ -189,4 +246,48 @@ fn push_code<I: Isa>(
     }
     push_all_labels(text, rest)?;
     Ok(())
+}
+
+fn push_head(alloc: Global, text: &mut Vec<u8>, target: Target, head: &Head) -> Result<(), Memory>
+    requires { IsHead head.now }
+    ensures { OnOk result (text.new.items ≡ text.old.items ++ printed (head_lines target head.now)) }
+{
+    let mut names = names_of(alloc, head)?;
+    push_target_line(text, target)?;
+    push_image_lines(text, head.images.as_slice())?;
+    push_tap_lines(text, names.images.as_slice(), head.taps.as_slice())?;
+    push_out_line(text, head.out_ty)?;
+    push_scratch_line(text, head.scratch)?;
+    push_lifted_lines(text, &mut names, head.lifted.as_slice())?;
+    push_cost_line(text, head.cost)?;
+    Ok(())
+}
+
+fn program_text<I: Isa>(
+    alloc: Global,
+    head: &Head,
+    code: &[Line<I>],
+    labels: &[Label],
+) -> Result<Vec<u8>, Memory>
+    requires { IsHead head.now }
+    ensures written { IfOk result (λ text. text.items ≡ printed (head_lines I.TARGET head.now ++ code_lines I.table 0 code.now labels.now)) }
+    ensures known { OnOk result (All (IsOpOf I.is_op) code.now) }
+{
+    let mut text = Vec::new(alloc);
+    push_head(alloc, &mut text, I::TARGET, head)?;
+    push_code::<I>(alloc, &mut text, code, labels)?;
+    Ok(text)
+}
+
+/// The text of a program: the lines of its head, and then those of its code, each label on a line of
+/// its own before the instruction that it stands before. It ends in LF.
+pub fn write_text<I: Isa>(alloc: Global, program: &Program<I>) -> Result<Vec<u8>, Memory>
+    ensures text { IfOk result (λ text. IsText I.table I.is_op text.items program.now) }
+    ensures written { IfOk result (λ text. text.items ≡ printed (head_lines I.TARGET program.now.head ++ code_lines I.table 0 program.now.code program.now.labels)) }
+{
+    let head = program.head();
+    let code = program.code().as_slice();
+    let labels = program.labels().as_slice();
+    let text = program_text::<I>(alloc, head, code, labels)?;
+    Ok(text)
 }

@@ -21,3 +21,10 @@ pub mod RowWork
 pub mod LabelLaws
 pub mod Instructions
 pub mod RowTexts
+pub mod Turns
+pub mod Blocks
+pub mod LeastRow
+pub mod LeastValues
+pub mod LeastProgram
+pub mod LeastCode
+pub mod SampleHead

@@ -2,3 +2,5 @@ pub mod Operators
 pub mod Terms
 pub mod Kernels
 pub mod TermTexts
+pub mod Pieces
+pub mod Small

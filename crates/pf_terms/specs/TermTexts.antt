@@ -10,6 +10,8 @@ use Rattle.pf_terms.specs.declared.names.ImageName.{ImageName}
 use Rattle.pf_terms.specs.declared.names.DefName.{DefName}
 use Rattle.pf_terms.specs.declared.op.Op.{Op}
 use Rattle.pf_terms.specs.declared.op.Op.TheVariants.{Cast, Add, Sub, Mul, ShiftLeft, ShiftRight, Min, Max, SelectGreater, SelectEqual, Abs, WideningAdd, WideningSub, WideningMul, ExtendingAdd, HalvingAdd, RoundingHalvingAdd, HalvingSub, SaturatingAdd, SaturatingSub, SaturatingCast, Absd, RoundingShr, MulShr, RoundingMulShr}
+use Rattle.pf_terms.specs.declared.row.Spelling.{Spelling}
+use Rattle.pf_terms.specs.declared.row.Spelling.TheVariants.{TypeCall, Infix, ShiftBy, Call, CallWithType, CallWithAmount, Select}
 use Rattle.pf_terms.specs.declared.term.Leaf.{Leaf as LeafOf}
 use Rattle.pf_terms.specs.declared.term.Leaf.TheVariants.{Tap, Const, Def}
 use Rattle.pf_terms.specs.declared.term.Term.{Term}
@@ -44,9 +46,11 @@ abbrev pub is_named_tap : List ImageName → TapOf → LaneType → Bool
 is_named_tap images t ty = nat_lt t.image (length images) && same_type (slice_index_or images t.image no_image).ty ty
 
 -- a tap's text: its image's name and its offsets, as a[-1,0]
+abbrev pub placed_text : List ℕ → TapOf → List ℕ
+placed_text name t = name ++ codes "[" ++ signed_decimal t.dx ++ codes "," ++ signed_decimal t.dy ++ codes "]"
+
 abbrev pub tap_text : List ImageName → TapOf → List ℕ
-tap_text images t =
-    (slice_index_or images t.image no_image).name ++ codes "[" ++ signed_decimal t.dx ++ codes "," ++ signed_decimal t.dy ++ codes "]"
+tap_text images t = placed_text (slice_index_or images t.image no_image).name t
 
 abbrev pub leaf_text : Names → LeafOf → LaneType → List ℕ
 leaf_text names (Tap n) ty = tap_text names.images (slice_index_or names.taps n no_tap)
@@ -63,41 +67,82 @@ joined separator (x ∷ y ∷ xs) = x ++ separator ++ joined separator (y ∷ xs
 abbrev pub called : List ℕ → List (List ℕ) → List ℕ
 called word args = word ++ codes "(" ++ joined (codes ", ") args ++ codes ")"
 
--- a sign between its operands, in brackets
-abbrev pub bracketed : List ℕ → List (List ℕ) → List ℕ
-bracketed sign args = codes "(" ++ joined sign args ++ codes ")"
+-- a sign between its operands, with a space on each side
+abbrev pub signed_by : List ℕ → List (List ℕ) → List ℕ
+signed_by sign args = joined (codes " " ++ sign ++ codes " ") args
 
--- a choice by the comparison of the first two
-abbrev pub selected : List ℕ → List (List ℕ) → List ℕ
-selected sign args = called (codes "select") (joined sign (take 2 args) ∷ drop 2 args)
+-- the same in brackets
+abbrev pub bracketed : List ℕ → List (List ℕ) → List ℕ
+bracketed sign args = codes "(" ++ signed_by sign args ++ codes ")"
+
+-- an operator's sign or word, as it is spelled
+abbrev pub op_word : Op → List ℕ
+op_word Cast = []
+op_word Add = codes "+"
+op_word Sub = codes "-"
+op_word Mul = codes "*"
+op_word ShiftLeft = codes "<<"
+op_word ShiftRight = codes ">>"
+op_word Min = codes "min"
+op_word Max = codes "max"
+op_word SelectGreater = codes ">"
+op_word SelectEqual = codes "=="
+op_word Abs = codes "abs"
+op_word WideningAdd = codes "widening_add"
+op_word WideningSub = codes "widening_sub"
+op_word WideningMul = codes "widening_mul"
+op_word ExtendingAdd = codes "extending_add"
+op_word HalvingAdd = codes "halving_add"
+op_word RoundingHalvingAdd = codes "rounding_halving_add"
+op_word HalvingSub = codes "halving_sub"
+op_word SaturatingAdd = codes "saturating_add"
+op_word SaturatingSub = codes "saturating_sub"
+op_word SaturatingCast = codes "saturating_cast"
+op_word Absd = codes "absd"
+op_word RoundingShr = codes "rounding_shr"
+op_word MulShr = codes "mul_shr"
+op_word RoundingMulShr = codes "rounding_mul_shr"
+
+-- how each operator is written
+abbrev pub spelling_of : Op → Spelling
+spelling_of Cast = TypeCall
+spelling_of Add = Infix
+spelling_of Sub = Infix
+spelling_of Mul = Infix
+spelling_of ShiftLeft = ShiftBy
+spelling_of ShiftRight = ShiftBy
+spelling_of Min = Call
+spelling_of Max = Call
+spelling_of SelectGreater = Select
+spelling_of SelectEqual = Select
+spelling_of Abs = Call
+spelling_of WideningAdd = Call
+spelling_of WideningSub = Call
+spelling_of WideningMul = Call
+spelling_of ExtendingAdd = Call
+spelling_of HalvingAdd = Call
+spelling_of RoundingHalvingAdd = Call
+spelling_of HalvingSub = Call
+spelling_of SaturatingAdd = Call
+spelling_of SaturatingSub = Call
+spelling_of SaturatingCast = CallWithType
+spelling_of Absd = Call
+spelling_of RoundingShr = CallWithAmount
+spelling_of MulShr = CallWithAmount
+spelling_of RoundingMulShr = CallWithAmount
 
 -- a node's text, by its operands' texts
+abbrev pub spelled : Spelling → List ℕ → LaneType → ℕ → List (List ℕ) → List ℕ
+spelled TypeCall word ty k args = called (type_word ty) args
+spelled Infix word ty k args = bracketed word args
+spelled ShiftBy word ty k args = bracketed word (args ++ decimal k ∷ [])
+spelled Call word ty k args = called word args
+spelled CallWithType word ty k args = called word (type_word ty ∷ args)
+spelled CallWithAmount word ty k args = called word (args ++ decimal k ∷ [])
+spelled Select word ty k args = called (codes "select") (signed_by word (take 2 args) ∷ drop 2 args)
+
 abbrev pub node_text : Op → LaneType → ℕ → List (List ℕ) → List ℕ
-node_text Cast ty k args = called (type_word ty) args
-node_text Add ty k args = bracketed (codes " + ") args
-node_text Sub ty k args = bracketed (codes " - ") args
-node_text Mul ty k args = bracketed (codes " * ") args
-node_text ShiftLeft ty k args = bracketed (codes " << ") (args ++ decimal k ∷ [])
-node_text ShiftRight ty k args = bracketed (codes " >> ") (args ++ decimal k ∷ [])
-node_text Min ty k args = called (codes "min") args
-node_text Max ty k args = called (codes "max") args
-node_text SelectGreater ty k args = selected (codes " > ") args
-node_text SelectEqual ty k args = selected (codes " == ") args
-node_text Abs ty k args = called (codes "abs") args
-node_text WideningAdd ty k args = called (codes "widening_add") args
-node_text WideningSub ty k args = called (codes "widening_sub") args
-node_text WideningMul ty k args = called (codes "widening_mul") args
-node_text ExtendingAdd ty k args = called (codes "extending_add") args
-node_text HalvingAdd ty k args = called (codes "halving_add") args
-node_text RoundingHalvingAdd ty k args = called (codes "rounding_halving_add") args
-node_text HalvingSub ty k args = called (codes "halving_sub") args
-node_text SaturatingAdd ty k args = called (codes "saturating_add") args
-node_text SaturatingSub ty k args = called (codes "saturating_sub") args
-node_text SaturatingCast ty k args = called (codes "saturating_cast") (type_word ty ∷ args)
-node_text Absd ty k args = called (codes "absd") args
-node_text RoundingShr ty k args = called (codes "rounding_shr") (args ++ decimal k ∷ [])
-node_text MulShr ty k args = called (codes "mul_shr") (args ++ decimal k ∷ [])
-node_text RoundingMulShr ty k args = called (codes "rounding_mul_shr") (args ++ decimal k ∷ [])
+node_text op ty k args = spelled (spelling_of op) (op_word op) ty k args
 
 abbrev pub text_step : Names → Term-F (List ℕ) → List ℕ
 text_step names (Leaf leaf ty) = leaf_text names leaf ty

@@ -1,5 +1,6 @@
 -- What terms mean, and which are well-formed and well-typed.
 use Rattle.std.specs.Prelude.{nat_lt, not, IsTrue, option_map, ◌≡◌, ℕ, ℤ, pos, ◌+◌, ◌-◌, ◌*◌, max, Bool, true, false, ◌&&◌, ◌||◌, ◌==◌, nat_le, if◌then◌else◌, int_le, List, [], ◌∷◌, ◌++◌, length, map, sum, slice_index_or, Option, Some, None, Result, Ok, Err}
+use Rattle.std.specs.Option.{option_or}
 use Rattle.pf_ints.specs.declared.lane.LaneType.{LaneType}
 use Rattle.pf_ints.specs.declared.lane.Bits.{Bits}
 use Rattle.pf_ints.specs.declared.lane.Bits.TheVariants.{Eight, Sixteen, ThirtyTwo}
@@ -103,13 +104,17 @@ has_amount RoundingShift = true
 has_amount Product = true
 has_amount RoundingProduct = true
 
+-- the number is a member of the type
+abbrev pub is_in : LaneType → ℤ → Bool
+is_in t n = int_le (least t) n && int_le n (greatest t)
+
 abbrev pub all_true : List Bool → Bool
 all_true [] = true
 all_true (b ∷ bs) = b && all_true bs
 
 abbrev pub is_formed_leaf : LeafOf → LaneType → Bool
 is_formed_leaf (Tap n) ty = true
-is_formed_leaf (Const n) ty = int_le (least ty) n && int_le n (greatest ty)
+is_formed_leaf (Const n) ty = is_in ty n
 is_formed_leaf (Def n) ty = true
 
 -- the node has as many operands as its operator, and the amount 0 where that has none
@@ -201,10 +206,13 @@ first_width (t ∷ _) = lane_width t
 abbrev pub is_amount : Amounts → ℕ → ℕ → Bool
 is_amount a w k = nat_le (least_amount a) k && nat_le k (greatest_amount a w)
 
+-- the operand's type, or else the stated type, that isn't the wanted one
+abbrev pub type_fault : Row → LaneType → List LaneType → Option (LaneType × LaneType)
+type_fault r ty types =
+    option_or (first_difference (wanted r.operands types) types) (first_difference (result_type r.gives ty types ∷ []) (ty ∷ []))
+
 abbrev pub node_type : Row → LaneType → ℕ → List LaneType → Result LaneType TermFault
-node_type r ty k types =
-    unless_differs (first_difference (wanted r.operands types ++ result_type r.gives ty types ∷ []) (types ++ ty ∷ []))
-    (is_amount r.amounts (first_width types) k) ty k
+node_type r ty k types = unless_differs (type_fault r ty types) (is_amount r.amounts (first_width types) k) ty k
 
 -- the fault as the parent of its child n tells it
 abbrev pub fault_below : ℕ → TermFault → TermFault
@@ -238,3 +246,24 @@ typing = fold-Term (Result LaneType TermFault) typing_step
 pub record IsWellTyped (t : Term) : Type 0 where
   pub formed : is_well_formed t ≡ true
   pub typed : typing t ≡ Ok (stated_type t)
+
+-- what the leaf stands for is there, and lies in the leaf's type
+abbrev pub is_env_leaf : Env → LeafOf → LaneType → Bool
+is_env_leaf env (Tap n) ty = nat_lt n (length env.taps) && is_in ty (slice_index_or env.taps n (pos 0))
+is_env_leaf env (Const n) ty = true
+is_env_leaf env (Def n) ty = nat_lt n (length env.defs) && is_in ty (slice_index_or env.defs n (pos 0))
+
+abbrev pub env_step : Env → Term-F Bool → Bool
+env_step env (Leaf leaf ty) = is_env_leaf env leaf ty
+env_step env (Node op ty k args) = all_true args
+
+-- the environment has a number of the right type for each leaf of the term
+abbrev pub is_env_of : Env → Term → Bool
+is_env_of env = fold-Term Bool (env_step env)
+
+-- the answer of a call that may want memory and else tells the term's type or its fault
+abbrev pub Tells : Result LaneType TermFault → Result LaneType TermFault → Type 0
+Tells (Ok t) told = told ≡ Ok t
+Tells (Err Memory) told = Unit {0}
+Tells (Err (Types path want got)) told = told ≡ Err (Types path want got)
+Tells (Err (Amount path amount)) told = told ≡ Err (Amount path amount)

@@ -1,4 +1,7 @@
+ghost use Rattle.std.specs.Prelude.{◌≡◌};
+
 use pf_ints::{LaneType, Path};
+use std::alloc::{AllocError, AllocFailed};
 
 /// Why a term has no type.
 #[derive(Debug, Drop)]
@@ -16,4 +19,24 @@ pub enum TermFault {
     },
     /// Want of memory.
     Memory,
+}
+
+impl From<AllocError> for TermFault {
+    ghost use Rattle.pf_terms.specs.declared.fault.TermFault.TheVariants.{Memory};
+
+    ghost from_gives = { λ _ e. e ≡ Memory };
+
+    fn from(_error: AllocError) -> TermFault {
+        TermFault::Memory
+    }
+}
+
+impl<T: Drop> From<AllocFailed<T>> for TermFault {
+    ghost use Rattle.pf_terms.specs.declared.fault.TermFault.TheVariants.{Memory};
+
+    ghost from_gives = { λ _ e. e ≡ Memory };
+
+    fn from(_error: AllocFailed<T>) -> TermFault {
+        TermFault::Memory
+    }
 }

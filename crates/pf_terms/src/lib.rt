@@ -5,12 +5,22 @@ mod fault;
 mod kernel;
 mod names;
 mod op;
+mod print;
 mod row;
 mod term;
+#[cfg(test)]
+mod tests;
+mod types;
+mod values;
+mod weights;
 
 pub use fault::TermFault;
 pub use kernel::{Definition, Definitions, ImageDecl, ImageList};
 pub use names::{DefName, DefNames, ImageName, ImageNames, Names, Tap, TapList};
 pub use op::Op;
-pub use row::{Amounts, Gives, Operands};
+pub use print::{print_term, write_term, write_type};
+pub use row::{Amounts, Gives, Operands, Spelling};
 pub use term::{Env, Leaf, Term, Terms};
+pub use types::type_of;
+pub use values::value;
+pub use weights::weight;

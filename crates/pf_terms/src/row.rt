@@ -46,3 +46,22 @@ pub enum Amounts {
     /// 1 to 2w - 1.
     RoundingProduct,
 }
+
+/// How an operator is written around its operands.
+#[derive(Clone, Copy, Debug, PartialEq, Eq)]
+pub enum Spelling {
+    /// As a call of the stated type: `u8(x)`.
+    TypeCall,
+    /// `(x + y)`.
+    Infix,
+    /// `(x >> k)`.
+    ShiftBy,
+    /// `min(x, y)`.
+    Call,
+    /// `saturating_cast(u8, x)`.
+    CallWithType,
+    /// `rounding_shr(x, k)`.
+    CallWithAmount,
+    /// `select(a > b, x, y)`.
+    Select,
+}

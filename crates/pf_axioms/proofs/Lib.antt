@@ -1,0 +1,3 @@
+pub mod WrapLaws
+pub mod RowLaws
+pub mod StepLaws

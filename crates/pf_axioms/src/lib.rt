@@ -1,0 +1,12 @@
+//! Axioms: a form rewritten at its root by a law that keeps its value.
+#![tactic(auto)]
+
+mod fault;
+mod folds;
+mod rows;
+mod steps;
+#[cfg(test)]
+mod tests;
+
+pub use fault::StepFault;
+pub use steps::apply;

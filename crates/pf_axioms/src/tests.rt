@@ -1,0 +1,198 @@
+ghost use Rattle.std.specs.Prelude.{◌≡◌, ◌<◌, IfOk, length};
+ghost use Rattle.pf_forms.specs.Shapes.{shape};
+ghost use Rattle.pf_forms.specs.Values.{IsFormOver};
+
+use super::*;
+use pf_forms::{Axiom, Form, print_form};
+use pf_ints::{Bits, FURTHEST, Interval, IntervalList, LaneType, Name, NameList};
+use std::alloc::Global;
+use std::test::Fail;
+
+/// Reads a form in which each operator stands before its parts.
+fn read(alloc: Global, text: &[u8]) -> Result<(Box<Form>, &[u8]), Fail>
+    ensures form { IfOk result (λ p. IsFormOver 2 (shape p.0.value)) }
+    ensures shorter { IfOk result (λ p. length p.1.now < length text.now) }
+{
+    let [first, rest @ ..] = text else {
+        return Err(Fail::from("no form"));
+    };
+    match *first {
+        b'8' | b'6' | b'a' | b'/' | b's' => {
+            let (x, rest) = read(alloc, rest)?;
+            Ok((Box::new(alloc, unary(*first, x))?, rest))
+        }
+        b'+' | b'-' | b'*' | b'<' | b'>' => {
+            let (x, rest) = read(alloc, rest)?;
+            let (y, rest) = read(alloc, rest)?;
+            Ok((Box::new(alloc, binary(*first, x, y))?, rest))
+        }
+        b'?' => {
+            let (a, rest) = read(alloc, rest)?;
+            let (b, rest) = read(alloc, rest)?;
+            let (x, rest) = read(alloc, rest)?;
+            let (y, rest) = read(alloc, rest)?;
+            Ok((Box::new(alloc, Form::Sel(a, b, x, y))?, rest))
+        }
+        _ => Ok((Box::new(alloc, leaf(*first))?, rest)),
+    }
+}
+
+fn leaf(word: u8) -> Form
+    ensures { IsFormOver 2 (shape result) }
+{
+    match word {
+        b'x' => Form::Var(0),
+        b'y' => Form::Var(1),
+        b'0' => Form::Num(0),
+        b'1' => Form::Num(1),
+        b'n' => Form::Num(-1),
+        b'L' => Form::Num(FURTHEST - 1),
+        b'M' => Form::Num(FURTHEST),
+        _ => Form::Num(-FURTHEST),
+    }
+}
+
+fn unary(word: u8, x: Box<Form>) -> Form
+    requires { IsFormOver 2 (shape x.value) }
+    ensures { IsFormOver 2 (shape result) }
+{
+    match word {
+        b'8' => Form::Wrap(unsigned(Bits::Eight), x),
+        b'6' => Form::Wrap(unsigned(Bits::Sixteen), x),
+        b's' => Form::Sat(unsigned(Bits::Eight), x),
+        b'a' => Form::Abs(x),
+        _ => Form::FloorDiv(x, 1),
+    }
+}
+
+fn unsigned(bits: Bits) -> LaneType {
+    LaneType {
+        signed: false,
+        bits,
+    }
+}
+
+fn binary(word: u8, x: Box<Form>, y: Box<Form>) -> Form
+    requires left { IsFormOver 2 (shape x.value) }
+    requires right { IsFormOver 2 (shape y.value) }
+    ensures { IsFormOver 2 (shape result) }
+{
+    match word {
+        b'+' => Form::Add(x, y),
+        b'-' => Form::Sub(x, y),
+        b'*' => Form::Mul(x, y),
+        b'<' => Form::Min(x, y),
+        _ => Form::Max(x, y),
+    }
+}
+
+fn names(alloc: Global) -> Result<NameList, Fail>
+    ensures { IfOk result (λ names. length names ≡ 2) }
+{
+    let mut names = NameList::new(alloc);
+    names.push(Name::new(b"x").ok_or("no name")?)?;
+    names.push(Name::new(b"y").ok_or("no name")?)?;
+    Ok(names)
+}
+
+/// x is 0 to 255, and y is 0 to 300.
+fn ranges(alloc: Global) -> Result<IntervalList, Fail>
+    ensures { IfOk result (λ ranges. length ranges ≡ 2) }
+{
+    let mut ranges = IntervalList::new(alloc);
+    ranges.push(Interval::new(0, 255).ok_or("no interval")?)?;
+    ranges.push(Interval::new(0, 300).ok_or("no interval")?)?;
+    Ok(ranges)
+}
+
+/// The text of the form that the axiom makes of a form, or of its fault.
+fn after(alloc: Global, axiom: &str, form: &str) -> Result<Vec<u8>, Fail> {
+    let (form, _) = read(alloc, form.as_bytes())?;
+    let axiom = Axiom::from_name(axiom.as_bytes()).ok_or("no axiom")?;
+    match apply(alloc, axiom, &form, &ranges(alloc)?) {
+        Ok(new) => Ok(print_form(alloc, &new, &names(alloc)?)?),
+        Err(fault) => Ok(Vec::from_slice(alloc, text_of(&fault))?),
+    }
+}
+
+fn text_of(fault: &StepFault) -> &'static [u8] {
+    match fault {
+        StepFault::NoMatch => b"no match",
+        StepFault::TooWide => b"too wide",
+        StepFault::NotGranted { got } if got.lo() == 0 && got.hi() == 300 => b"got 0 to 300",
+        StepFault::NotGranted { got: _ } => b"got another interval",
+        StepFault::Memory => b"memory",
+    }
+}
+
+#[test]
+fn rewrites_by_each_axiom(rt: HostRuntime) -> Result<(), Fail> {
+    let cases = [
+        ("add_comm", "+xy", "add(y,x)"),
+        ("add_comm", "*xy", "no match"),
+        ("add_assoc", "++xyx", "add(x,add(y,x))"),
+        ("add_assoc", "+x+yx", "no match"),
+        ("add_back", "+x+yx", "add(add(x,y),x)"),
+        ("add_back", "++xyx", "no match"),
+        ("add_zero", "+x0", "x"),
+        ("add_zero", "+x1", "no match"),
+        ("sub_add", "-xy", "add(x,mul(-1,y))"),
+        ("sub_add", "+xy", "no match"),
+        ("cancel", "+x*nx", "0"),
+        ("cancel", "+y*nx", "no match"),
+        ("mul_comm", "*xy", "mul(y,x)"),
+        ("mul_comm", "+xy", "no match"),
+        ("mul_assoc", "**xyx", "mul(x,mul(y,x))"),
+        ("mul_assoc", "*x*yx", "no match"),
+        ("mul_back", "*x*yx", "mul(mul(x,y),x)"),
+        ("mul_back", "**xyx", "no match"),
+        ("mul_one", "*1x", "x"),
+        ("mul_one", "*x1", "no match"),
+        ("distribute", "*x+y1", "add(mul(x,y),mul(x,1))"),
+        ("distribute", "*+xyy", "no match"),
+        ("drop_wrap", "8x", "x"),
+        ("drop_wrap", "8y", "got 0 to 300"),
+        ("drop_wrap", "8+xM", "too wide"),
+        ("drop_wrap", "x", "no match"),
+        ("wrap_wrap", "86y", "wrap_u8(y)"),
+        ("wrap_wrap", "68y", "no match"),
+        ("wrap_add", "8+8xy", "wrap_u8(add(x,y))"),
+        ("wrap_add", "6+8xy", "no match"),
+        ("wrap_mul", "8*6xy", "wrap_u8(mul(x,y))"),
+        ("wrap_mul", "6*8xy", "no match"),
+    ];
+    for (axiom, before, expected) in cases {
+        let text = after(rt.alloc(), axiom, before)?;
+        assert!(rt;
+            text.as_slice() == expected.as_bytes(),
+            "{axiom} at {before}"
+        );
+    }
+    Ok(())
+}
+
+#[test]
+fn folds_numbers(rt: HostRuntime) -> Result<(), Fail> {
+    let cases = [
+        ("+L1", "1329227995784915872903807060280344576"),
+        ("+M1", "too wide"),
+        ("-N1", "too wide"),
+        ("*MM", "too wide"),
+        ("*nN", "1329227995784915872903807060280344576"),
+        ("/n", "-1"),
+        ("<n1", "-1"),
+        (">n1", "1"),
+        ("aN", "1329227995784915872903807060280344576"),
+        ("8n", "255"),
+        ("sn", "0"),
+        ("?1n0M", "0"),
+        ("?nn0M", "1329227995784915872903807060280344576"),
+        ("+x1", "no match"),
+        ("1", "no match"),
+    ];
+    for (before, expected) in cases {
+        let text = after(rt.alloc(), "fold", before)?;
+        assert!(rt; text.as_slice() == expected.as_bytes(), "fold at {before}");
+    }
+    Ok(())
+}

@@ -1,0 +1,3 @@
+mod AxiomPlaces
+pub mod BoundLaws
+pub mod EqualityLaws

@@ -1,0 +1,4 @@
+pub mod Words
+pub mod Pgm
+pub mod Reading
+pub mod Faults

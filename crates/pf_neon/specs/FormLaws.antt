@@ -1,0 +1,133 @@
+-- A printed vector instruction is read back, and is short.
+use Rattle.std.proofs.Common.{◌≡◌, ℕ, ◌*◌, ◌/◌, ◌^◌, ◌<◌, ◌≤◌, List, [], ◌++◌, Bool, false, length, Some, None, refl, arith, ap, append_assoc, length-append}
+use Rattle.std.specs.Prelude.{codes}
+use Rattle.std.specs.Fmt.{decimal}
+use Rattle.std.proofs.lemmas.Bool.{lt-ltb}
+use Rattle.std.proofs.lemmas.Fmt.{length-decimal-le}
+use Rattle.pf_isa.specs.declared.registers.Reg.TheVariants.{V}
+use Rattle.pf_isa.specs.Lines.{tight, tight_on}
+use Rattle.pf_isa.specs.Tables.{IsOver, MeansOp}
+use Rattle.pf_isa.proofs.ScanLaws.{NoDigit}
+use Rattle.pf_isa.proofs.TightLaws.{next_tight, next_tight_last, length-tight}
+use Rattle.pf_neon.specs.declared.op.Form.{Form}
+use Rattle.pf_neon.specs.declared.op.Form.TheVariants.{Load, Store, Copy, Lanewise}
+use Rattle.pf_neon.specs.declared.op.Lanes.{Lanes}
+use Rattle.pf_neon.specs.declared.op.Lanes.TheVariants.{Bytes, Halves, Words}
+use Rattle.pf_neon.specs.declared.op.Mnemonic.TheVariants.{Umin}
+use Rattle.pf_neon.specs.Forms.{IsForm}
+use Rattle.pf_neon.specs.Lines.{suffix, vector_text, place_text, text}
+use Rattle.pf_neon.specs.Neon.{table}
+use Rattle.pf_neon.specs.Reads.{below, place_read, form_read}
+
+-- a number below the limit is read from a tight line
+pub below_tight : (limit : ℕ) (free : Bool) (n : ℕ) (t : List ℕ) → n < limit → limit ≤ 2 ^ 32 → NoDigit (tight_on false t) → below limit (tight_on free (decimal n ++ t)) ≡ Some (n, tight_on false t)
+below_tight limit free n t h small d = rw (next_tight free n t (omega arith) d, lt-ltb n limit h) refl
+
+pub below_last : (limit : ℕ) (free : Bool) (n : ℕ) → n < limit → limit ≤ 2 ^ 32 → below limit (tight_on free (decimal n)) ≡ Some (n, [])
+below_last limit free n h small = rw (next_tight_last free n (omega arith), lt-ltb n limit h) refl
+
+-- an operand of a load or a store is read
+place_back : (n j : ℕ) → n < 32 → j ≤ 7 → place_read (tight_on false (decimal n ++ (codes ", " ++ place_text 5 (16 * j)))) ≡ Some (n, j)
+place_back n j h k =
+    let back : (16 * j) / 16 ≡ j = omega arith in
+    rw (below_tight 32 false n (codes ", " ++ place_text 5 (16 * j)) h (omega arith) refl, below_tight 8 false 5 (codes ", #" ++ (decimal (16 * j) ++ codes "]")) (omega arith) (omega arith) refl, below_tight 128 false (16 * j) (codes "]") (omega arith) (omega arith) refl, back) refl
+
+load_back : (to j : ℕ) → to < 32 → j ≤ 7 → form_read (tight (text (Load to j))) ≡ Some (Load to j)
+unfolding tight
+load_back to j h k = rw (place_back to j h k) refl
+
+store_back : (from j : ℕ) → from < 32 → j ≤ 7 → form_read (tight (text (Store from j))) ≡ Some (Store from j)
+unfolding tight
+store_back from j h k = rw (place_back from j h k) refl
+
+no_digit : (lanes : Lanes) (t : List ℕ) → NoDigit (tight_on false (suffix lanes ++ t))
+no_digit Bytes t = refl
+no_digit Halves t = refl
+no_digit Words t = refl
+
+no_digit_last : (lanes : Lanes) → NoDigit (tight_on false (suffix lanes))
+no_digit_last Bytes = refl
+no_digit_last Halves = refl
+no_digit_last Words = refl
+
+-- a vector is read
+vector_back : (lanes : Lanes) (n : ℕ) (t : List ℕ) → n < 32 → below 32 (tight_on false ((decimal n ++ suffix lanes) ++ t)) ≡ Some (n, tight_on false (suffix lanes ++ t))
+vector_back lanes n t h = rw (append_assoc (decimal n) (suffix lanes) t) (below_tight 32 false n (suffix lanes ++ t) h (omega arith) (no_digit lanes t))
+
+vector_last : (lanes : Lanes) (n : ℕ) → n < 32 → below 32 (tight_on false (decimal n ++ suffix lanes)) ≡ Some (n, tight_on false (suffix lanes))
+vector_last lanes n h = below_tight 32 false n (suffix lanes) h (omega arith) (no_digit_last lanes)
+
+copy_back : (to from : ℕ) → to < 32 → from < 32 → form_read (tight (text (Copy to from))) ≡ Some (Copy to from)
+unfolding tight
+copy_back to from h k = rw (vector_back Bytes to (codes ", " ++ vector_text Bytes from) h, vector_last Bytes from k) refl
+
+umin_back : (lanes : Lanes) (to left right : ℕ) → to < 32 → left < 32 → right < 32 → form_read (tight (text (Lanewise Umin lanes to left right))) ≡ Some (Lanewise Umin lanes to left right)
+unfolding tight
+umin_back Bytes to left right h k l =
+    rw (vector_back Bytes to (codes ", " ++ (vector_text Bytes left ++ (codes ", " ++ vector_text Bytes right))) h, vector_back Bytes left (codes ", " ++ vector_text Bytes right) k, vector_last Bytes right l) refl
+umin_back Halves to left right h k l =
+    rw (vector_back Halves to (codes ", " ++ (vector_text Halves left ++ (codes ", " ++ vector_text Halves right))) h, vector_back Halves left (codes ", " ++ vector_text Halves right) k, vector_last Halves right l) refl
+umin_back Words to left right h k l =
+    rw (vector_back Words to (codes ", " ++ (vector_text Words left ++ (codes ", " ++ vector_text Words right))) h, vector_back Words left (codes ", " ++ vector_text Words right) k, vector_last Words right l) refl
+
+-- a printed instruction over the machine's vectors is read back
+pub form_back : (op : Form) → IsForm op → IsOver table op → form_read (tight (text op)) ≡ Some op
+form_back (Load to j) is over = load_back to j (over.defs 0 (V to) (omega arith)) is
+form_back (Store from j) is over = store_back from j (over.uses 0 (V from) (omega arith)) is
+form_back (Copy to from) is over = copy_back to from (over.defs 0 (V to) (omega arith)) (over.uses 0 (V from) (omega arith))
+form_back (Lanewise Umin lanes to left right) is over = umin_back lanes to left right (over.defs 0 (V to) (omega arith)) (over.uses 0 (V left) (omega arith)) (over.uses 1 (V right) (omega arith))
+
+few_digits : (n : ℕ) → n < 2 ^ 32 → length (decimal n) ≤ 10
+few_digits n h = length-decimal-le 10 n (omega arith) (omega arith) (omega arith)
+
+length-suffix : (lanes : Lanes) → length (suffix lanes) ≤ 4
+length-suffix Bytes = omega arith
+length-suffix Halves = omega arith
+length-suffix Words = omega arith
+
+length-vector_text : (lanes : Lanes) (n : ℕ) → n < 2 ^ 32 → length (vector_text lanes n) ≤ 15
+length-vector_text lanes n h = rw (length-append (decimal n) (suffix lanes)) (omega (arith, few_digits n h, length-suffix lanes))
+
+-- a printed instruction over the machine's vectors is short
+pub length-text : (op : Form) → IsForm op → IsOver table op → length (text op) ≤ 80
+length-text (Load to j) is over =
+    let vector : to < 32 = over.defs 0 (V to) (omega arith) in
+    simp length-append (omega (arith, few_digits to (omega arith), few_digits 5 (omega arith), few_digits (16 * j) (omega arith)))
+length-text (Store from j) is over =
+    let vector : from < 32 = over.uses 0 (V from) (omega arith) in
+    simp length-append (omega (arith, few_digits from (omega arith), few_digits 5 (omega arith), few_digits (16 * j) (omega arith)))
+length-text (Copy to from) is over =
+    let first : to < 32 = over.defs 0 (V to) (omega arith) in
+    let second : from < 32 = over.uses 0 (V from) (omega arith) in
+    omega (arith, length-append (vector_text Bytes to) (codes ", " ++ vector_text Bytes from), length-vector_text Bytes to (omega arith), length-vector_text Bytes from (omega arith))
+length-text (Lanewise Umin lanes to left right) is over =
+    let first : to < 32 = over.defs 0 (V to) (omega arith) in
+    let second : left < 32 = over.uses 0 (V left) (omega arith) in
+    let third : right < 32 = over.uses 1 (V right) (omega arith) in
+    omega (arith, length-append (vector_text lanes to) (codes ", " ++ (vector_text lanes left ++ (codes ", " ++ vector_text lanes right))), length-append (vector_text lanes left) (codes ", " ++ vector_text lanes right), length-vector_text lanes to (omega arith), length-vector_text lanes left (omega arith), length-vector_text lanes right (omega arith))
+
+-- no instruction is too long a line
+pub no_long_form : (line : List ℕ) (op : Form) → IsForm op → IsOver table op → MeansOp table line op → 80 < length (tight line) → ⊥
+no_long_form line op is over means long =
+    let short = length-text op is over in
+    let tighter = length-tight (text op) in
+    let same : length (tight line) ≡ length (tight (text op)) = ap length means in
+    absurd (omega arith)
+
+-- what is read is what the line means
+pub form_is : (line : List ℕ) (op other : Form) → IsForm op → IsOver table op → MeansOp table line op → form_read (tight line) ≡ Some other → op ≡ other
+form_is line op other is over means e =
+    let back = form_back op is over in
+    let here : form_read (tight (text op)) ≡ Some other = rw (← means) e in
+    cc
+
+pub no_form : (line : List ℕ) (op : Form) → IsForm op → IsOver table op → MeansOp table line op → form_read (tight line) ≡ None → ⊥
+no_form line op is over means e =
+    let back = form_back op is over in
+    let here : form_read (tight (text op)) ≡ None = rw (← means) e in
+    cc
+
+pub no_other_form : (line : List ℕ) (op other : Form) → IsForm op → IsOver table op → MeansOp table line op → form_read (tight line) ≡ Some other → (tight (text other) ≡ tight line → ⊥) → ⊥
+no_other_form line op other is over means e differs =
+    let same : op ≡ other = form_is line op other is over means e in
+    differs (rw (← same, means) refl)

@@ -1,0 +1,83 @@
+-- The vector instructions of A64 Advanced SIMD: their operands, and what they do to lanes.
+use Rattle.std.specs.Prelude.{ℕ, ◌*◌, ◌≤◌, List, [], ◌∷◌, Bool, true, false, IsTrue, Option, Some, None, min, slice_index_or}
+use Rattle.pf_isa.specs.declared.registers.Reg.{Reg}
+use Rattle.pf_isa.specs.declared.registers.Reg.TheVariants.{V}
+use Rattle.pf_isa.specs.declared.access.Access.{Access}
+use Rattle.pf_isa.specs.Files.{renamed_vector}
+use Rattle.pf_isa.specs.Bytes.{lanes as lanes_of, packed, map2}
+use Rattle.pf_neon.specs.declared.op.Form.{Form}
+use Rattle.pf_neon.specs.declared.op.Form.TheVariants.{Load, Store, Copy, Lanewise}
+use Rattle.pf_neon.specs.declared.op.Lanes.{Lanes}
+use Rattle.pf_neon.specs.declared.op.Lanes.TheVariants.{Bytes, Halves, Words}
+use Rattle.pf_neon.specs.declared.op.Mnemonic.{Mnemonic}
+use Rattle.pf_neon.specs.declared.op.Mnemonic.TheVariants.{Umin}
+
+-- bytes of a lane
+abbrev pub width : Lanes → ℕ
+width Bytes = 1
+width Halves = 2
+width Words = 4
+
+-- lanes of a vector
+abbrev pub count : Lanes → ℕ
+count Bytes = 16
+count Halves = 8
+count Words = 4
+
+-- an instruction has these lanes
+abbrev pub is_row : Mnemonic → Lanes → Bool
+is_row Umin lanes = true
+
+-- what becomes of two lanes of so many bytes
+abbrev pub lane_function : Mnemonic → ℕ → ℕ → ℕ → ℕ
+lane_function Umin bytes x y = min x y
+
+abbrev pub name_cost : Mnemonic → ℕ
+name_cost Umin = 1
+
+-- the forms that are instructions
+abbrev pub IsForm : Form → Type 0
+IsForm (Load to j) = j ≤ 7
+IsForm (Store from j) = j ≤ 7
+IsForm (Copy to from) = Unit {0}
+IsForm (Lanewise name lanes to left right) = IsTrue (is_row name lanes)
+
+abbrev pub uses : Form → List Reg
+uses (Load to j) = []
+uses (Store from j) = V from ∷ []
+uses (Copy to from) = V from ∷ []
+uses (Lanewise name lanes to left right) = V left ∷ V right ∷ []
+
+abbrev pub defs : Form → List Reg
+defs (Load to j) = V to ∷ []
+defs (Store from j) = []
+defs (Copy to from) = V to ∷ []
+defs (Lanewise name lanes to left right) = V to ∷ []
+
+-- lane by lane, on vectors
+abbrev pub lanewise : Lanes → (ℕ → ℕ → ℕ) → List ℕ → List ℕ → List ℕ
+lanewise lanes f a b = packed (width lanes) (map2 f (lanes_of (width lanes) (count lanes) a) (lanes_of (width lanes) (count lanes) b))
+
+abbrev pub outcome : Form → List (List ℕ) → List (List ℕ)
+outcome (Load to j) held = []
+outcome (Store from j) held = []
+outcome (Copy to from) held = slice_index_or held 0 [] ∷ []
+outcome (Lanewise name lanes to left right) held = lanewise lanes (lane_function name (width lanes)) (slice_index_or held 0 []) (slice_index_or held 1 []) ∷ []
+
+abbrev pub access : Form → Option Access
+access (Load to j) = Some (record { load = true; vector = to; base = 5; offset = j * 16 })
+access (Store from j) = Some (record { load = false; vector = from; base = 5; offset = j * 16 })
+access (Copy to from) = None
+access (Lanewise name lanes to left right) = None
+
+abbrev pub cost : Form → ℕ
+cost (Load to j) = 0
+cost (Store from j) = 0
+cost (Copy to from) = 0
+cost (Lanewise name lanes to left right) = name_cost name
+
+abbrev pub renamed : Form → ℕ → ℕ → Form
+renamed (Load r j) from to = Load (renamed_vector from to r) j
+renamed (Store r j) from to = Store (renamed_vector from to r) j
+renamed (Copy r s) from to = Copy (renamed_vector from to r) (renamed_vector from to s)
+renamed (Lanewise name lanes r s t) from to = Lanewise name lanes (renamed_vector from to r) (renamed_vector from to s) (renamed_vector from to t)

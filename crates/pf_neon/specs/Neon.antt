@@ -1,0 +1,27 @@
+-- The instructions of A64 Advanced SIMD as one table.
+use Rattle.std.specs.Prelude.{false}
+use Rattle.pf_ints.specs.declared.target.Target.TheVariants.{Neon}
+use Rattle.pf_isa.specs.Tables.{Table}
+use Rattle.pf_neon.specs.declared.op.Form.{Form}
+use Rattle.pf_neon.specs.declared.op.Form.TheVariants.{Load, Store}
+use Rattle.pf_neon.specs.Forms.{uses, defs, outcome, access, cost, renamed}
+use Rattle.pf_neon.specs.Lines.{text, control_text}
+
+abbrev pub table : Table Form
+table = record {
+  target = Neon;
+  vector = 16;
+  names = 28;
+  vectors = 32;
+  uses = uses;
+  defs = defs;
+  outcome = outcome;
+  access = access;
+  cost = cost;
+  renamed = renamed;
+  fixed = λ n. false;
+  load = λ to j. Load to j;
+  store = λ from j. Store from j;
+  text = text;
+  control_text = control_text;
+}

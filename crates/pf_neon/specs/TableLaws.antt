@@ -1,0 +1,216 @@
+-- The table meets the laws of every set of instructions.
+use Rattle.std.proofs.Common.{◌≡◌, ◌≢◌, ℕ, ◌*◌, ◌/◌, ◌^◌, ◌<◌, List, [], ◌++◌, true, false, nat_le, length, map, Some, None, MatchOption, refl, arith, sym, ⊎_elim}
+use Rattle.std.specs.Prelude.{codes, slice_index_or}
+use Rattle.std.specs.Fmt.{decimal}
+use Rattle.std.specs.Option.{option_map}
+use Rattle.std.proofs.lemmas.Bool.{cases_Bool}
+use Rattle.std.proofs.lemmas.List.{length-set}
+use Rattle.std.proofs.lemmas.List.Elements.{All-set, All-get_or}
+use Rattle.std.proofs.lemmas.List.Folds.{list_all-append}
+use Rattle.pf_isa.specs.declared.registers.RegFile.{RegFile}
+use Rattle.pf_isa.specs.declared.registers.Reg.TheVariants.{V}
+use Rattle.pf_isa.specs.declared.control.Control.{Control}
+use Rattle.pf_isa.specs.declared.control.Control.TheVariants.{LoadPtr, StorePtr, Imm, AddImm, AddReg, LoadByte, LoadHalf, StoreByte, StoreHalf, Compare, Below, Jump, Return}
+use Rattle.pf_isa.specs.Control.{IsControl}
+use Rattle.pf_isa.specs.Files.{renamed_register}
+use Rattle.pf_isa.specs.Lines.{tight, IsInstruction}
+use Rattle.pf_isa.specs.Tables.{IsTable, IsOver, IsFile, CanRun, MeansOp, MeansControl, Accesses, renamed_access, after}
+use Rattle.pf_isa.proofs.QuietLaws.{is_quiet, are_quiet, quiet_number, quiet_before, quiet_label, instruction}
+use Rattle.pf_neon.specs.declared.op.Form.{Form}
+use Rattle.pf_neon.specs.declared.op.Form.TheVariants.{Load, Store, Copy, Lanewise}
+use Rattle.pf_neon.specs.declared.op.Lanes.{Lanes}
+use Rattle.pf_neon.specs.declared.op.Lanes.TheVariants.{Bytes, Halves, Words}
+use Rattle.pf_neon.specs.declared.op.Mnemonic.TheVariants.{Umin}
+use Rattle.pf_neon.specs.Forms.{IsForm, width, lane_function, uses, defs, outcome, access, cost, renamed}
+use Rattle.pf_neon.specs.Lines.{suffix, vector_text, place_text, offset_text, text, control_text}
+use Rattle.pf_neon.specs.Neon.{table}
+use Rattle.pf_neon.specs.Reads.{form_read}
+use Rattle.pf_neon.specs.LaneLengths.{length-lanewise}
+use Rattle.pf_neon.specs.FormLaws.{form_back, form_is}
+use Rattle.pf_neon.specs.ControlLaws.{control_back, control_is, offset_most}
+
+sized : (op : Form) (f : RegFile) → IsForm op → CanRun table op f → IsFile table (length f.vectors) (after table op f)
+sized (Load to j) f is c = absurd (let e = c.computes in cc)
+sized (Store from j) f is c = absurd (let e = c.computes in cc)
+sized (Copy to from) f is c =
+    record {
+      count = length-set f.vectors to _;
+      vectors = All-set (λ v. length v ≡ 16) f.vectors to (slice_index_or f.vectors from []) (All-get_or (λ v. length v ≡ 16) f.vectors from [] (c.uses 0 (V from) (omega arith)) c.file.vectors) c.file.vectors;
+      predicate = c.file.predicate;
+    }
+sized (Lanewise name lanes to left right) f is c =
+    record {
+      count = length-set f.vectors to _;
+      vectors = All-set (λ v. length v ≡ 16) f.vectors to _ (length-lanewise lanes (lane_function name (width lanes)) (slice_index_or f.vectors left []) (slice_index_or f.vectors right [])) c.file.vectors;
+      predicate = c.file.predicate;
+    }
+
+rename_uses : (op : Form) (from to : ℕ) → uses (renamed op from to) ≡ map (λ r. renamed_register from to r) (uses op)
+rename_uses (Load r j) from to = refl
+rename_uses (Store r j) from to = refl
+rename_uses (Copy r s) from to = refl
+rename_uses (Lanewise name lanes r s t) from to = refl
+
+rename_defs : (op : Form) (from to : ℕ) → defs (renamed op from to) ≡ map (λ r. renamed_register from to r) (defs op)
+rename_defs (Load r j) from to = refl
+rename_defs (Store r j) from to = refl
+rename_defs (Copy r s) from to = refl
+rename_defs (Lanewise name lanes r s t) from to = refl
+
+rename_outcome : (op : Form) (from to : ℕ) (held : List (List ℕ)) → outcome (renamed op from to) held ≡ outcome op held
+rename_outcome (Load r j) from to held = refl
+rename_outcome (Store r j) from to held = refl
+rename_outcome (Copy r s) from to held = refl
+rename_outcome (Lanewise name lanes r s t) from to held = refl
+
+rename_access : (op : Form) (from to : ℕ) → access (renamed op from to) ≡ option_map (λ a. renamed_access from to a) (access op)
+rename_access (Load r j) from to = refl
+rename_access (Store r j) from to = refl
+rename_access (Copy r s) from to = refl
+rename_access (Lanewise name lanes r s t) from to = refl
+
+rename_cost : (op : Form) (from to : ℕ) → cost (renamed op from to) ≡ cost op
+rename_cost (Load r j) from to = refl
+rename_cost (Store r j) from to = refl
+rename_cost (Copy r s) from to = refl
+rename_cost (Lanewise name lanes r s t) from to = refl
+
+accesses : (op : Form) → IsForm op → MatchOption (access op) (Unit {0}) (λ a. Accesses (uses op) (defs op) a)
+accesses (Load to j) is = (omega arith, λ l. (0, omega arith, refl), λ l. cc)
+accesses (Store from j) is = (omega arith, λ l. cc, λ l. (0, omega arith, refl))
+accesses (Copy to from) is = tt
+accesses (Lanewise name lanes to left right) is = tt
+
+one_op : (op other : Form) → IsForm op → IsForm other → IsOver table op → IsOver table other → MeansOp table (text op) other → op ≡ other
+one_op op other is other_is over other_over means = sym (form_is (text op) other op other_is other_over means (form_back op is over))
+
+one_control : (c d : Control) → IsControl c → IsControl d → MeansControl table (control_text c) d → c ≡ d
+one_control c d is other_is means = sym (control_is (control_text c) d c other_is means (control_back c is))
+
+-- no control instruction's line begins as a vector instruction's
+no_form_read : (c : Control) → form_read (tight (control_text c)) ≡ None
+unfolding tight
+no_form_read (LoadPtr to base entry) = refl
+no_form_read (StorePtr base entry from) = refl
+no_form_read (Imm to n) = refl
+no_form_read (AddImm to from true by) = refl
+no_form_read (AddImm to from false by) = refl
+no_form_read (AddReg to left right) = refl
+no_form_read (LoadByte to at) = refl
+no_form_read (LoadHalf to at) = refl
+no_form_read (StoreByte at from) = refl
+no_form_read (StoreHalf at from) = refl
+no_form_read (Compare left right) = refl
+no_form_read (Below label) = refl
+no_form_read (Jump label) = refl
+no_form_read Return = refl
+
+apart : (op : Form) (c : Control) → IsForm op → IsOver table op → IsControl c → MeansControl table (text op) c → ⊥
+apart op c is over control means =
+    let back = form_back op is over in
+    let here : form_read (tight (control_text c)) ≡ Some op = rw (← means) back in
+    let none = no_form_read c in
+    cc
+
+quiet_suffix : (lanes : Lanes) → are_quiet (suffix lanes) ≡ true
+quiet_suffix Bytes = refl
+quiet_suffix Halves = refl
+quiet_suffix Words = refl
+
+quiet_vector : (lanes : Lanes) (n : ℕ) → n < 32 → are_quiet (vector_text lanes n) ≡ true
+quiet_vector lanes n h = quiet_before n (suffix lanes) (omega arith) (quiet_suffix lanes)
+
+quiet_vector_before : (lanes : Lanes) (n : ℕ) (t : List ℕ) → n < 32 → are_quiet t ≡ true → are_quiet (vector_text lanes n ++ t) ≡ true
+quiet_vector_before lanes n t h q = rw (list_all-append is_quiet (vector_text lanes n) t, quiet_vector lanes n h) q
+
+quiet_place : (base offset : ℕ) → base < 2 ^ 32 → offset < 2 ^ 32 → are_quiet (place_text base offset) ≡ true
+quiet_place base offset h k = quiet_before base _ (omega arith) (quiet_before offset (codes "]") (omega arith) refl)
+
+quiet_text : (op : Form) → IsForm op → IsOver table op → are_quiet (text op) ≡ true
+quiet_text (Load to j) is over = quiet_before to _ (let h : to < 32 = over.defs 0 (V to) (omega arith) in omega arith) (quiet_place 5 (16 * j) (omega arith) (omega arith))
+quiet_text (Store from j) is over = quiet_before from _ (let h : from < 32 = over.uses 0 (V from) (omega arith) in omega arith) (quiet_place 5 (16 * j) (omega arith) (omega arith))
+quiet_text (Copy to from) is over = quiet_vector_before Bytes to _ (over.defs 0 (V to) (omega arith)) (quiet_vector Bytes from (over.uses 0 (V from) (omega arith)))
+quiet_text (Lanewise Umin lanes to left right) is over =
+    quiet_vector_before lanes to _ (over.defs 0 (V to) (omega arith)) (quiet_vector_before lanes left _ (over.uses 0 (V left) (omega arith)) (quiet_vector lanes right (over.uses 1 (V right) (omega arith))))
+
+some_text : (op : Form) → tight (text op) ≢ []
+unfolding tight
+some_text (Load to j) = λ e. cc
+some_text (Store from j) = λ e. cc
+some_text (Copy to from) = λ e. cc
+some_text (Lanewise Umin lanes to left right) = λ e. cc
+
+op_instruction : (op : Form) → IsForm op → IsOver table op → IsInstruction (text op)
+op_instruction op is over = instruction (text op) (quiet_text op is over) (some_text op)
+
+quiet_register : (n : ℕ) (t : List ℕ) → n < 8 → are_quiet t ≡ true → are_quiet (decimal n ++ t) ≡ true
+quiet_register n t h q = quiet_before n t (omega arith) q
+
+quiet_last : (n : ℕ) → n < 8 → are_quiet (decimal n) ≡ true
+quiet_last n h = quiet_number n (omega arith)
+
+quiet_offset : (by : ℕ) → by < 2 ^ 32 → are_quiet (offset_text by) ≡ true
+quiet_offset by h =
+    ⊎_elim
+    (λ (small : nat_le by 4095 ≡ true). rw small (quiet_number by (omega arith)))
+    (λ (large : nat_le by 4095 ≡ false). rw large (quiet_before (by / 4096) (codes ", lsl #12") (omega arith) refl))
+    (cases_Bool (nat_le by 4095))
+
+quiet_control : (c : Control) → IsControl c → are_quiet (control_text c) ≡ true
+quiet_control (LoadPtr to base entry) is = quiet_register to _ is.0 (quiet_place base (8 * entry) (omega arith) (omega arith))
+quiet_control (StorePtr base entry from) is = quiet_register from _ is.2 (quiet_place base (8 * entry) (omega arith) (omega arith))
+quiet_control (Imm to n) is = quiet_register to _ is.0 (quiet_number n (omega arith))
+quiet_control (AddImm to from true by) is = quiet_register to _ is.0 (quiet_register from _ is.1 (quiet_offset by (offset_most true by is.2)))
+quiet_control (AddImm to from false by) is = quiet_register to _ is.0 (quiet_register from _ is.1 (quiet_offset by (offset_most false by is.2)))
+quiet_control (AddReg to left right) is = quiet_register to _ is.0 (quiet_register left _ is.1 (quiet_last right is.2))
+quiet_control (LoadByte to at) is = quiet_register to _ is.0 (quiet_register at (codes "]") is.1 refl)
+quiet_control (LoadHalf to at) is = quiet_register to _ is.0 (quiet_register at (codes "]") is.1 refl)
+quiet_control (StoreByte at from) is = quiet_register from _ is.1 (quiet_register at (codes "]") is.0 refl)
+quiet_control (StoreHalf at from) is = quiet_register from _ is.1 (quiet_register at (codes "]") is.0 refl)
+quiet_control (Compare left right) is = quiet_register left _ is.0 (quiet_last right is.1)
+quiet_control (Below label) is = quiet_label label is
+quiet_control (Jump label) is = quiet_label label is
+quiet_control Return is = refl
+
+some_control : (c : Control) → tight (control_text c) ≢ []
+unfolding tight
+some_control (LoadPtr to base entry) = λ e. cc
+some_control (StorePtr base entry from) = λ e. cc
+some_control (Imm to n) = λ e. cc
+some_control (AddImm to from true by) = λ e. cc
+some_control (AddImm to from false by) = λ e. cc
+some_control (AddReg to left right) = λ e. cc
+some_control (LoadByte to at) = λ e. cc
+some_control (LoadHalf to at) = λ e. cc
+some_control (StoreByte at from) = λ e. cc
+some_control (StoreHalf at from) = λ e. cc
+some_control (Compare left right) = λ e. cc
+some_control (Below label) = λ e. cc
+some_control (Jump label) = λ e. cc
+some_control Return = λ e. cc
+
+control_instruction : (c : Control) → IsControl c → IsInstruction (control_text c)
+control_instruction c is = instruction (control_text c) (quiet_control c is) (some_control c)
+
+pub is_table : IsTable table IsForm
+is_table = record {
+  sized = sized;
+  rename_uses = λ op from to free other. rename_uses op from to;
+  rename_defs = λ op from to free other. rename_defs op from to;
+  rename_outcome = rename_outcome;
+  rename_access = rename_access;
+  rename_cost = rename_cost;
+  room = omega arith;
+  free = λ n h. refl;
+  inside = λ n h. absurd (cc);
+  accesses = accesses;
+  load_access = λ to j h. refl;
+  store_access = λ from j h. refl;
+  load_cost = λ to j. refl;
+  store_cost = λ from j. refl;
+  one_op = one_op;
+  one_control = one_control;
+  apart = apart;
+  instruction = op_instruction;
+  control_instruction = control_instruction;
+}

@@ -1,0 +1,140 @@
+ghost use Rattle.std.specs.Prelude.{◌≡◌, ◌≤◌, IsTrue};
+ghost use Rattle.pf_neon.specs.Forms.{IsForm, is_row, name_cost};
+
+use std::marker::Model;
+
+/// How a vector is divided into lanes.
+#[derive(Clone, Copy, Debug, PartialEq, Eq)]
+pub enum Lanes {
+    /// Sixteen lanes of 8 bits.
+    Bytes,
+    /// Eight lanes of 16 bits.
+    Halves,
+    /// Four lanes of 32 bits.
+    Words,
+}
+
+/// The names of instructions that make each lane of a vector from the same lanes of two others.
+#[derive(Clone, Copy, Debug, PartialEq, Eq)]
+pub enum Mnemonic {
+    /// The lesser number, without signs.
+    Umin,
+}
+
+impl Mnemonic {
+    /// What an instruction of this name costs.
+    pub fn cost(self) -> u32
+        ensures { result ≡ name_cost self }
+    {
+        match self {
+            Mnemonic::Umin => 1,
+        }
+    }
+}
+
+/// Vector instructions, by the shape of their operands.
+#[derive(Clone, Copy, Debug, PartialEq, Eq)]
+pub enum Form {
+    /// Loads a vector through the pointer register, at `j` vectors behind it.
+    Load {
+        to: u32,
+        j: u8,
+    },
+    /// Stores a vector through the pointer register, at `j` vectors behind it.
+    Store {
+        from: u32,
+        j: u8,
+    },
+    /// Copies a vector.
+    Copy {
+        to: u32,
+        from: u32,
+    },
+    /// Lane by lane, what the name says of the lanes of `left` and `right`.
+    Lanewise {
+        name: Mnemonic,
+        lanes: Lanes,
+        to: u32,
+        left: u32,
+        right: u32,
+    },
+}
+
+/// A vector instruction of the table: its name goes with its lanes, and a load or store has one of
+/// the places 0 to 7.
+#[derive(Clone, Copy, Debug, PartialEq, Eq)]
+pub struct Op {
+    pub(crate) form: Form,
+}
+
+impl Model for Op {
+    ghost use Rattle.pf_neon.specs.declared.op.Form.{Form};
+
+    ghost Value = { Form };
+
+    ghost use Rattle.pf_neon.specs.Forms.{IsForm};
+
+    ghost view = { λ o. o.form };
+
+    ghost invariant = { λ o. IsForm o.form };
+
+    ghost inverse = { λ f. record { form = f } };
+}
+
+impl Op {
+    /// `ldr`: loads the vector `to` at `j` vectors behind the pointer register.
+    pub fn load(to: u32, j: u8) -> Op
+        requires { j ≤ 7 }
+        ensures { result ≡ Form.Load to j }
+    {
+        let form = Form::Load { to, j };
+        Op { form }
+    }
+
+    /// `str`: stores the vector `from` at `j` vectors behind the pointer register.
+    pub fn store(from: u32, j: u8) -> Op
+        requires { j ≤ 7 }
+        ensures { result ≡ Form.Store from j }
+    {
+        let form = Form::Store { from, j };
+        Op { form }
+    }
+
+    /// `mov`: copies the vector `from` to `to`.
+    pub fn copy(to: u32, from: u32) -> Op
+        ensures { result ≡ Form.Copy to from }
+    {
+        let form = Form::Copy { to, from };
+        Op { form }
+    }
+
+    /// The instruction of this name on these lanes.
+    pub fn lanewise(name: Mnemonic, lanes: Lanes, to: u32, left: u32, right: u32) -> Op
+        requires { IsTrue (is_row name lanes) }
+        ensures { result ≡ Form.Lanewise name lanes to left right }
+    {
+        let form = Form::Lanewise {
+            name,
+            lanes,
+            to,
+            left,
+            right,
+        };
+        Op { form }
+    }
+
+    /// `umin`: the lesser of each two lanes, without signs.
+    pub fn umin(lanes: Lanes, to: u32, left: u32, right: u32) -> Op
+        ensures { result ≡ Form.Lanewise Mnemonic.Umin lanes to left right }
+    {
+        Op::lanewise(Mnemonic::Umin, lanes, to, left, right)
+    }
+
+    /// The shape of the instruction, with its operands.
+    pub fn form(&self) -> Form
+        ensures value { result ≡ self.now }
+        ensures kept { IsForm self.now }
+    {
+        self.form
+    }
+}

@@ -1,0 +1,80 @@
+-- The statuses of the program and the lines that it puts.
+use Rattle.std.specs.Prelude.{◌≡◌, ℕ, List, [], ◌++◌, codes, Option, ◌⊎◌}
+use Rattle.pf_ints.specs.Targets.{target_word}
+use Rattle.pf_top.specs.declared.verdict.Verdict.{Verdict}
+use Rattle.pf_top.specs.declared.verdict.Verdict.TheVariants.{Done, TargetNotBuilt, NotBuilt, Missing, ReadFailed, WriteFailed, Memory}
+use Rattle.pf_top.specs.Counts.{raised, Rose}
+use Rattle.pf_top.specs.LeastKernels.{line_end}
+use Rattle.pf_top.specs.Outside.{Changes, Appends, AppendsPart}
+use Rattle.pf_top.specs.Selections.{Select, file_name, RaisedUpTo}
+
+-- what is due: a status with its line, and the status and the line where memory is wanting for it
+pub record Due : Type 0 where
+  pub status : ℕ
+  pub line : List ℕ
+  pub poor_status : ℕ
+  pub poor_line : List ℕ
+
+unfoldable pub memory_line : List ℕ
+memory_line = codes "out of memory" ++ line_end
+
+-- a status with the line of a name
+abbrev pub due : ℕ → List ℕ → Due
+due status line = record { status = status; line = line; poor_status = 13; poor_line = memory_line }
+
+-- a line that ends with a name
+abbrev pub named_line : List ℕ → List ℕ → List ℕ
+named_line head name = head ++ (name ++ line_end)
+
+-- what is due where the words are of no form
+unfoldable pub usage : Due
+usage = due 2 (codes "usage: pitchfork select|check|run|eval|explain|demo" ++ line_end)
+
+-- what is due where memory is wanting
+unfoldable pub wanting : Due
+wanting = record { status = 13; line = memory_line; poor_status = 13; poor_line = [] }
+
+-- what is due where the write of the text failed: 4, also where memory is wanting for its line
+unfoldable pub write_failed : List ℕ → Due
+write_failed name = record { status = 4; line = named_line (codes "write failed: ") name; poor_status = 4; poor_line = [] }
+
+-- what is seen of an output at a moment
+pub record Output : Type 0 where
+  pub written : Option (List ℕ)
+  pub faults : ℕ
+  pub calls : ℕ
+
+-- the status was answered, and its line was put
+pub record Said (d : Due) (before : Output) (answer : ℕ) (after : Output) : Type 0 where
+  pub status : answer ≡ d.status
+  pub written : Changes (Appends d.line) before.written after.written
+  pub faults : after.faults ≡ before.faults
+  pub calls : after.calls ≡ raised before.calls
+
+-- the output failed: 4 was answered, and a prefix of what was due was put
+pub record OutputFailed (d : Due) (before : Output) (answer : ℕ) (after : Output) : Type 0 where
+  pub status : answer ≡ 4
+  pub written : Changes (λ old new. AppendsPart d.line old new ⊎ AppendsPart d.poor_line old new) before.written after.written
+  pub faults : Rose before.faults after.faults
+  pub calls : RaisedUpTo 2 before.calls after.calls
+
+-- memory was wanting for the line
+pub record MemoryWanted (d : Due) (before : Output) (answer : ℕ) (after : Output) : Type 0 where
+  pub status : answer ≡ d.poor_status
+  pub written : Changes (λ old new. Appends [] old new ⊎ Appends d.poor_line old new) before.written after.written
+  pub faults : after.faults ≡ before.faults
+  pub calls : RaisedUpTo 2 before.calls after.calls
+
+-- what is due was told, or the output failed, or memory was wanting
+abbrev pub Told : Due → Output → ℕ → Output → Type 0
+Told d before answer after = Said d before answer after ⊎ OutputFailed d before answer after ⊎ MemoryWanted d before answer after
+
+-- what is answered and put at each verdict of `select`; at Done it is 0, and nothing is put
+abbrev pub Tells : Select → Verdict → Output → ℕ → Output → Type 0
+Tells s Done before answer after = (answer ≡ 0) × (after ≡ before)
+Tells s TargetNotBuilt before answer after = Told (due 8 (named_line (codes "not built: ") (target_word s.target))) before answer after
+Tells s (NotBuilt w) before answer after = Told (due 8 (named_line (codes "not built: ") (file_name s w))) before answer after
+Tells s (Missing w) before answer after = Told (due 3 (named_line (codes "no file: ") (file_name s w))) before answer after
+Tells s (ReadFailed w) before answer after = Told (due 3 (named_line (codes "read failed: ") (file_name s w))) before answer after
+Tells s WriteFailed before answer after = Told (write_failed s.out) before answer after
+Tells s Memory before answer after = Told wanting before answer after

@@ -1,0 +1,29 @@
+//! The commands of `pitchfork` over any store of files and any output.
+#![tactic(auto)]
+
+mod command;
+mod files;
+mod least;
+mod mem_files;
+mod mem_sink;
+mod real_files;
+mod real_sink;
+mod report;
+mod select;
+mod selected;
+mod sink;
+mod top;
+mod verdict;
+
+pub use files::{Files, FilesFault};
+pub use least::{LeastKernel, Side};
+pub use mem_files::{FileMap, MemFiles};
+pub use mem_sink::MemSink;
+pub use real_files::RealFiles;
+pub use real_sink::RealSink;
+pub use report::tell_want;
+pub use sink::Sink;
+pub use top::pitchfork;
+
+#[cfg(test)]
+mod tests;

@@ -1,0 +1,111 @@
+ghost use Rattle.std.specs.Prelude.{◌≡◌, IfOk};
+ghost use Rattle.pf_top.specs.Counts.{raised};
+ghost use Rattle.pf_top.specs.Statuses.{due, named_line, memory_line, wanting, write_failed, usage, Told, Tells};
+ghost use Rattle.pf_top.specs.Selections.{file_name};
+ghost use Rattle.pf_top.specs.Steps.{the_words, seen_output};
+
+use crate::command::Selection;
+use crate::files::FilesFault;
+use crate::sink::Sink;
+use crate::verdict::{FileWord, Verdict};
+use pf_ints::Memory;
+use std::alloc::Global;
+
+/// A line that ends with a name.
+fn named_line(alloc: Global, head: &[u8], name: &[u8]) -> Result<Vec<u8>, Memory>
+    ensures { IfOk result (λ line. line.items ≡ named_line head.now name.now) }
+{
+    let mut line = Vec::new(alloc);
+    line.extend_from_slice(head)?;
+    line.extend_from_slice(name)?;
+    line.extend_from_slice(b"\n")?;
+    Ok(line)
+}
+
+/// Puts that memory is wanting, and answers 13, or 4 where the output failed.
+#[tactic(auto, unfolding(crate::specs::Statuses::wanting, crate::specs::Statuses::memory_line))]
+pub fn tell_want<S: Sink>(alloc: Global, out: &mut S) -> u8
+    ensures told { Told wanting (seen_output S.written S.faults S.calls out.old) result
+        (seen_output S.written S.faults S.calls out.new) }
+    ensures calls { S.calls out.new ≡ raised (S.calls out.old) }
+{
+    match out.put(alloc, b"out of memory\n") {
+        Err(FilesFault::Failed) => 4,
+        _ => 13,
+    }
+}
+
+/// Puts the line, and answers the status, 4 where the output failed, or 13 where memory is wanting.
+fn tell<S: Sink>(alloc: Global, out: &mut S, status: u8, head: &[u8], name: &[u8]) -> u8
+    ensures { Told (due status (named_line head.now name.now)) (seen_output S.written S.faults S.calls out.old)
+        result (seen_output S.written S.faults S.calls out.new) }
+{
+    let Ok(line) = named_line(alloc, head, name) else {
+        return tell_want(alloc, out);
+    };
+    match out.put(alloc, line.as_slice()) {
+        Ok(()) => status,
+        Err(FilesFault::Failed) => 4,
+        Err(FilesFault::Memory) => tell_want(alloc, out),
+        Err(FilesFault::Missing) => unreachable!(),
+    }
+}
+
+/// Puts that the write of the text failed, and answers 4 in every case.
+#[tactic(auto, unfolding(crate::specs::Statuses::write_failed))]
+fn tell_write_failed<S: Sink>(alloc: Global, out: &mut S, name: &[u8]) -> u8
+    ensures { Told (write_failed name.now) (seen_output S.written S.faults S.calls out.old) result
+        (seen_output S.written S.faults S.calls out.new) }
+{
+    if let Ok(line) = named_line(alloc, b"write failed: ", name) {
+        let _ = out.put(alloc, line.as_slice());
+    }
+    4
+}
+
+/// Puts the line on the words that are of no form.
+#[tactic(auto, unfolding(crate::specs::Statuses::usage))]
+pub fn tell_usage<S: Sink>(alloc: Global, out: &mut S) -> u8
+    ensures { Told usage (seen_output S.written S.faults S.calls out.old) result
+        (seen_output S.written S.faults S.calls out.new) }
+{
+    tell(
+        alloc,
+        out,
+        2,
+        b"usage: pitchfork select|check|run|eval|explain|demo",
+        b"",
+    )
+}
+
+/// The name of a file that is read.
+fn file_name<'a>(words: &Selection<'a>, word: FileWord) -> &'a [u8]
+    ensures { result.now ≡ file_name (the_words words.now) word }
+{
+    match word {
+        FileWord::Kernel => words.kernel.as_bytes(),
+        FileWord::Lift => words.lift.as_bytes(),
+        FileWord::Lower => words.lower.as_bytes(),
+    }
+}
+
+/// Puts the line of the verdict where it has one, and answers the status.
+pub fn tell_verdict<S: Sink>(
+    alloc: Global,
+    words: &Selection<'_>,
+    verdict: Verdict,
+    out: &mut S,
+) -> u8
+    ensures { Tells (the_words words.now) verdict (seen_output S.written S.faults S.calls out.old) result
+        (seen_output S.written S.faults S.calls out.new) }
+{
+    match verdict {
+        Verdict::Done => 0,
+        Verdict::TargetNotBuilt => tell(alloc, out, 8, b"not built: ", words.target.word()),
+        Verdict::NotBuilt(word) => tell(alloc, out, 8, b"not built: ", file_name(words, word)),
+        Verdict::Missing(word) => tell(alloc, out, 3, b"no file: ", file_name(words, word)),
+        Verdict::ReadFailed(word) => tell(alloc, out, 3, b"read failed: ", file_name(words, word)),
+        Verdict::WriteFailed => tell_write_failed(alloc, out, words.out.as_bytes()),
+        Verdict::Memory => tell_want(alloc, out),
+    }
+}

@@ -1,0 +1,189 @@
+use crate::{Files, MemFiles, MemSink, RealFiles, RealSink, Sink, pitchfork};
+use pf_ints::Sequence;
+use std::alloc::Global;
+use std::process::Abort;
+use std::test::Fail;
+
+const KERNEL: &[u8] = b"kernel m\nimage a u8\nimage b u8\nout u8 = min(a[0,0], b[0,0])\n";
+
+const LIFT: &[u8] = b"rules 1 lift\n";
+
+const LOWER: &[u8] =
+    b"rules 1 neon\nrule least\nwidths 8 16 32\nvar x u1\nvar y u1\nleft min(x, y)\nright @min(x, y)\nend\n";
+
+/// A call that is tried, and what it has to answer and to put.
+#[derive(Clone, Copy)]
+struct Case {
+    words: [&'static str; 6],
+    kernel: &'static [u8],
+    failing_file: i128,
+    failing_put: i128,
+    status: u8,
+    put: &'static [u8],
+    calls: u64,
+}
+
+/// A selection that goes well.
+const WELL: Case = Case {
+    words: ["select", "neon", "m.kern", "e.rules", "min.rules", "m.s"],
+    kernel: KERNEL,
+    failing_file: 0,
+    failing_put: 0,
+    status: 0,
+    put: b"",
+    calls: 4,
+};
+
+fn hold(alloc: Global, files: &mut MemFiles, name: &str, bytes: &[u8]) -> Result<(), Fail> {
+    let name = String::from_str(alloc, name)?;
+    let bytes = Sequence::from_slice(alloc, bytes)?;
+    files.held.insert(name, bytes)?;
+    Ok(())
+}
+
+fn texts(alloc: Global, words: &[&str]) -> Result<Vec<String>, Fail> {
+    let mut texts = Vec::new(alloc);
+    for word in words {
+        texts.push(String::from_str(alloc, word)?)?;
+    }
+    Ok(texts)
+}
+
+fn try_case<R: Abort + AllocGlobal>(rt: &R, case: Case) -> Result<(), Fail> {
+    let alloc = rt.alloc();
+    let mut files = MemFiles::new(alloc);
+    hold(alloc, &mut files, "m.kern", case.kernel)?;
+    hold(alloc, &mut files, "e.rules", LIFT)?;
+    hold(alloc, &mut files, "min.rules", LOWER)?;
+    files.fails.push(case.failing_file)?;
+    let mut out = MemSink::new(alloc);
+    out.fails.push(case.failing_put)?;
+    let words = texts(alloc, &case.words)?;
+    let status = pitchfork(alloc, &words, &mut files, &mut out);
+    assert_eq!(rt; status, case.status);
+    assert_eq!(rt; out.written.as_slice(), case.put);
+    assert_eq!(rt; files.calls, case.calls);
+    assert_eq!(rt; files.held.contains_key("m.s"), status == 0);
+    Ok(())
+}
+
+#[test]
+fn selects_or_says_why_not(rt: HostRuntime) -> Result<(), Fail> {
+    let cases = [
+        WELL,
+        Case {
+            words: ["select", "hvx", "m.kern", "e.rules", "min.rules", "m.s"],
+            status: 8,
+            put: b"not built: hvx\n",
+            calls: 0,
+            ..WELL
+        },
+        Case {
+            words: ["select", "hvx", "m.kern", "e.rules", "min.rules", "m.s"],
+            failing_put: 1,
+            status: 4,
+            calls: 0,
+            ..WELL
+        },
+        Case {
+            words: ["select", "sse", "m.kern", "e.rules", "min.rules", "m.s"],
+            status: 2,
+            put: b"usage: pitchfork select|check|run|eval|explain|demo\n",
+            calls: 0,
+            ..WELL
+        },
+    ];
+    for case in cases {
+        try_case(&rt, case)?;
+    }
+    Ok(())
+}
+
+#[test]
+fn judges_each_file_before_the_next(rt: HostRuntime) -> Result<(), Fail> {
+    let cases = [
+        Case {
+            words: ["select", "neon", "x.kern", "e.rules", "min.rules", "m.s"],
+            status: 3,
+            put: b"no file: x.kern\n",
+            calls: 1,
+            ..WELL
+        },
+        Case {
+            kernel: b"kernel m\n",
+            status: 8,
+            put: b"not built: m.kern\n",
+            calls: 1,
+            ..WELL
+        },
+        Case {
+            words: ["select", "neon", "m.kern", "min.rules", "min.rules", "m.s"],
+            status: 8,
+            put: b"not built: min.rules\n",
+            calls: 2,
+            ..WELL
+        },
+        Case {
+            words: ["select", "neon", "m.kern", "e.rules", "e.rules", "m.s"],
+            status: 8,
+            put: b"not built: e.rules\n",
+            calls: 3,
+            ..WELL
+        },
+    ];
+    for case in cases {
+        try_case(&rt, case)?;
+    }
+    Ok(())
+}
+
+#[test]
+fn tells_each_call_that_failed(rt: HostRuntime) -> Result<(), Fail> {
+    let lines: [&[u8]; 4] = [
+        b"read failed: m.kern\n",
+        b"read failed: e.rules\n",
+        b"read failed: min.rules\n",
+        b"write failed: m.s\n",
+    ];
+    for (i, put) in lines.iter().enumerate() {
+        let case = Case {
+            failing_file: i as i128 + 1,
+            status: if i < 3 { 3 } else { 4 },
+            put,
+            calls: i as u64 + 1,
+            ..WELL
+        };
+        try_case(&rt, case)?;
+    }
+    Ok(())
+}
+
+#[test]
+fn words_of_no_form(rt: HostRuntime) -> Result<(), Fail> {
+    let alloc = rt.alloc();
+    let mut files = MemFiles::new(alloc);
+    let mut out = MemSink::new(alloc);
+    let words = texts(alloc, &["select", "neon"])?;
+    assert_eq!(rt; pitchfork(alloc, &words, &mut files, &mut out), 2);
+    assert_eq!(rt;
+        out.written.as_slice(),
+        b"usage: pitchfork select|check|run|eval|explain|demo\n".as_slice()
+    );
+    Ok(())
+}
+
+#[test]
+fn real_files_hold_what_was_written(rt: HostRuntime) -> Result<(), Fail> {
+    let alloc = rt.alloc();
+    let mut files = RealFiles::new(&rt);
+    files.write(alloc, "a", b"twelve bytes")?;
+    assert_eq!(rt; files.read(alloc, "a", 6)?.as_slice(), b"twelve".as_slice());
+    assert_eq!(rt;
+        files.read(alloc, "a", 99)?.as_slice(),
+        b"twelve bytes".as_slice()
+    );
+    assert!(rt; files.read(alloc, "b", 99).is_err());
+    let mut out = RealSink::new(&rt);
+    out.put(alloc, b"a line\n")?;
+    Ok(())
+}

@@ -1,0 +1,40 @@
+ghost use Rattle.std.specs.Prelude.{◌≡◌};
+
+use std::alloc::AllocError;
+
+/// A word of `select` that names a file to be read.
+#[derive(Clone, Copy, Debug, PartialEq, Eq)]
+pub enum FileWord {
+    Kernel,
+    Lift,
+    Lower,
+}
+
+/// What a call of `select` comes to.
+#[derive(Clone, Copy, Debug, PartialEq, Eq)]
+pub enum Verdict {
+    /// The text was written.
+    Done,
+    /// No text is selected for the target.
+    TargetNotBuilt,
+    /// The file does not have the form that is built.
+    NotBuilt(FileWord),
+    /// There is no such file.
+    Missing(FileWord),
+    /// The file could not be read.
+    ReadFailed(FileWord),
+    /// The text could not be written.
+    WriteFailed,
+    /// Memory was wanting.
+    Memory,
+}
+
+impl From<AllocError> for Verdict {
+    ghost use Rattle.pf_top.specs.declared.verdict.Verdict.TheVariants.{Memory};
+
+    ghost from_gives = { λ _ verdict. verdict ≡ Memory };
+
+    fn from(_want: AllocError) -> Verdict {
+        Verdict::Memory
+    }
+}
