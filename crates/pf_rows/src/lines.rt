@@ -1,6 +1,7 @@
 ghost use Rattle.std.specs.Prelude.{◌≡◌, ◌+◌, ◌*◌, ◌/◌, ◌%◌, ◌^◌, ◌<◌, ◌≤◌, ◌++◌, [], ◌∷◌, length, IsTrue, OnOk, codes, false, true, List, ℕ};
 ghost use Rattle.pf_ints.specs.Words.{is_name};
 ghost use Rattle.pf_isa.specs.Control.{IsControl, is_offset};
+ghost use Rattle.pf_isa.specs.declared.control.Control.TheVariants.{Below};
 ghost use Rattle.pf_rows.specs.RowCode.{copy_label, last_lines, next_lines, page_lines, pixel_lines, scratch_lines, tail_lines};
 
 use pf_ints::{Memory, Name};
@@ -43,7 +44,7 @@ pub fn pointer<I: Isa>(code: &mut Code<I>, to: u8, base: u8, entry: u8) -> Resul
 /// Appends a jump that is taken where the flag is set.
 pub fn below<I: Isa>(code: &mut Code<I>, label: Name) -> Result<(), Memory>
     requires { IsTrue (is_name label) }
-    ensures { OnOk result (code.new ≡ code.old ++ Line.Control (Control.Below label) ∷ []) }
+    ensures { OnOk result (code.new ≡ code.old ++ Line.Control (Below label) ∷ []) }
 {
     control(code, Control::Below { label })
 }
@@ -65,6 +66,21 @@ pub fn set<I: Isa>(code: &mut Code<I>, to: u8, n: u16) -> Result<(), Memory>
     control(code, Control::Imm { to, n })
 }
 
+/// Appends that the register goes on by x.
+fn pixel<I: Isa>(code: &mut Code<I>, register: u8) -> Result<(), Memory>
+    requires { register < 8 }
+    ensures { OnOk result (code.new ≡ code.old ++ pixel_lines register 1) }
+{
+    control(
+        code,
+        Control::AddReg {
+            to: register,
+            left: register,
+            right: role::PIXEL,
+        },
+    )
+}
+
 /// Appends that the register goes on by x pixels of one byte or two.
 pub fn pixels<I: Isa>(code: &mut Code<I>, register: u8, width: u8) -> Result<(), Memory>
     requires register { register < 8 }
@@ -72,14 +88,9 @@ pub fn pixels<I: Isa>(code: &mut Code<I>, register: u8, width: u8) -> Result<(),
     requires few { width ≤ 2 }
     ensures { OnOk result (code.new ≡ code.old ++ pixel_lines register width) }
 {
-    let step = Control::AddReg {
-        to: register,
-        left: register,
-        right: role::PIXEL,
-    };
-    control(code, step)?;
+    pixel(code, register)?;
     if width == 2 {
-        control(code, step)?;
+        pixel(code, register)?;
     }
     Ok(())
 }
