@@ -2,6 +2,8 @@
 #![tactic(auto)]
 
 mod least;
+mod copies;
+mod items;
 mod lines;
 
 pub use least::least_program;

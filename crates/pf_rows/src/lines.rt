@@ -114,3 +114,67 @@ pub fn scratch<I: Isa>(code: &mut Code<I>, register: u8, offset: u32) -> Result<
     add(code, register, role::SCRATCH, offset % 4096)?;
     pages(code, register, offset / 4096)
 }
+
+/// Before the block.
+#[tactic(auto, using(crate::proofs::LabelLaws::block_named))]
+pub fn block_name() -> Name
+    ensures value { result ≡ codes "block" }
+    ensures named { IsTrue (is_name result) }
+{
+    Name::new(b"block").unwrap()
+}
+
+/// Where less than a block is left.
+#[tactic(auto, using(crate::proofs::LabelLaws::tail_named))]
+pub fn tail_name() -> Name
+    ensures value { result ≡ codes "tail" }
+    ensures named { IsTrue (is_name result) }
+{
+    Name::new(b"tail").unwrap()
+}
+
+/// Where the last block of a row is begun.
+#[tactic(auto, using(crate::proofs::LabelLaws::last_named))]
+pub fn last_name() -> Name
+    ensures value { result ≡ codes "last" }
+    ensures named { IsTrue (is_name result) }
+{
+    Name::new(b"last").unwrap()
+}
+
+/// Where a narrow row is copied into the scratch.
+#[tactic(auto, using(crate::proofs::LabelLaws::narrow_named))]
+pub fn narrow_name() -> Name
+    ensures value { result ≡ codes "narrow" }
+    ensures named { IsTrue (is_name result) }
+{
+    Name::new(b"narrow").unwrap()
+}
+
+/// Where a narrow row is copied back.
+#[tactic(auto, using(crate::proofs::LabelLaws::back_named))]
+pub fn back_name() -> Name
+    ensures value { result ≡ codes "back" }
+    ensures named { IsTrue (is_name result) }
+{
+    Name::new(b"back").unwrap()
+}
+
+/// Where a pixel is copied back.
+#[tactic(auto, using(crate::proofs::LabelLaws::loop_named))]
+pub fn loop_name() -> Name
+    ensures value { result ≡ codes "loop" }
+    ensures named { IsTrue (is_name result) }
+{
+    Name::new(b"loop").unwrap()
+}
+
+/// Where a pixel of tap number `k` is copied.
+#[tactic(auto, using(crate::proofs::LabelLaws::copy_named))]
+pub fn copy_name(k: u8) -> Name
+    requires { k < 64 }
+    ensures value { result ≡ copy_label k }
+    ensures named { IsTrue (is_name result) }
+{
+    Name::new(&[b'c', b'0' + k / 10, b'0' + k % 10]).unwrap()
+}
