@@ -26,10 +26,9 @@ use Rattle.pf_isa.proofs.ByteLaws.{length-packed, bytes-number, length-bytes, by
 use Rattle.pf_isa.proofs.MemoryLaws.{image_bytes, take-drop-part}
 use Rattle.pf_isa.proofs.RowLaws.{leaves, length-row_in_memory, length-row_values}
 use Rattle.pf_rows.specs.RowCode.{row_code, row_labels, begin_lines, block_lines, next_lines, tail_lines, last_lines, narrow_lines, back_lines}
-use Rattle.pf_rows.specs.BlockRows.{tap_widths, row_text, start_of, pixel_part, tap_pixel, AreBlocks, IsGiven, IsBlockRow, IsLanewise, IsStep, StoresEach, IsRowBlock, KeepsHead, RunsBlock, LeavesLanes, no_decl}
+use Rattle.pf_rows.specs.BlockRows.{IsOne, tap_widths, row_text, start_of, pixel_part, tap_pixel, AreBlocks, IsGiven, IsBlockRow, IsLanewise, IsStep, StoresEach, IsRowBlock, KeepsHead, RunsBlock, LeavesLanes, no_decl}
 use Rattle.pf_rows.proofs.Paths.{now}
 use Rattle.pf_rows.proofs.Cells.{part, length-part, Agree, Cells, cells_of, cells-of, cells-joined, length-cells_of, get_or-cells_of}
-use Rattle.pf_rows.proofs.Steps.{IsOne}
 use Rattle.pf_rows.proofs.RowPlaces.{RowPlace, span}
 use Rattle.pf_rows.proofs.Wide.{wide_taps, wide_tap}
 use Rattle.pf_rows.proofs.WideRow.{RowLeft, longer, wide_row, given_by}

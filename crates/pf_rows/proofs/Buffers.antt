@@ -28,7 +28,7 @@ use Rattle.pf_rows.proofs.Cells.{part, length-part, part-before, part-behind, pa
 use Rattle.pf_rows.proofs.RowPlaces.{RowPlace, span, holding, entry-given, tap-given, some-pointer, most-pointer}
 use Rattle.pf_rows.proofs.Wide.{mem}
 use Rattle.pf_rows.proofs.Ways.{Copies}
-use Rattle.pf_rows.proofs.Copies.{pointer_stored, Copy, turn_count, copied, from_stands, to_stands, length-copy_turn}
+use Rattle.pf_rows.proofs.PixelCopies.{pointer_stored, Copy, turn_count, copied, from_stands, to_stands, length-copy_turn}
 
 pub image_bytes_below : (pictures : List Picture) (k : ℕ) → All (λ b. b < 256) (image_bytes pictures k)
 image_bytes_below pictures k = let p = get_or pictures k no_picture in packed_below (pixel_bytes p.ty) p.pixels

@@ -20,10 +20,9 @@ use Rattle.pf_isa.specs.RowEnds.{row_size, RowDone, row_values, row_in_memory}
 use Rattle.pf_isa.specs.Tables.{Table, IsTable, IsFile}
 use Rattle.pf_isa.proofs.ByteLaws.{length-packed, bytes_below, lane_at}
 use Rattle.pf_isa.proofs.RowLaws.{leaves, length-row_in_memory, length-row_values}
-use Rattle.pf_rows.specs.BlockRows.{tap_widths, row_text, start_of, pixel_part, tap_pixel, IsBlockRow, IsLanewise, IsRowBlock, RunsBlock, LeavesLanes, no_decl}
+use Rattle.pf_rows.specs.BlockRows.{IsOne, tap_widths, row_text, start_of, pixel_part, tap_pixel, IsBlockRow, IsLanewise, IsRowBlock, RunsBlock, LeavesLanes, no_decl}
 use Rattle.pf_rows.proofs.Cells.{part, length-part, Cells, cells_of, cells-of, cells-joined, length-cells_of, get_or-cells_of}
 use Rattle.pf_rows.proofs.RowPlaces.{span}
-use Rattle.pf_rows.proofs.Steps.{IsOne}
 use Rattle.pf_rows.proofs.BlockRowLaws.{block_row, started_file}
 
 -- bytes are told by their parts

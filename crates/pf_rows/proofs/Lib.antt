@@ -7,7 +7,7 @@ pub mod RowPlaces
 pub mod Wide
 pub mod Ways
 pub mod WideRow
-pub mod Copies
+pub mod PixelCopies
 pub mod Buffers
 pub mod Prepared
 pub mod Narrow

@@ -23,16 +23,16 @@ use Rattle.pf_isa.specs.Blocks.{Bench, items_run, IsWithin}
 use Rattle.pf_isa.proofs.ByteLaws.{lane_at, get_or-lanes, length-lanes, length-packed, length-bytes}
 use Rattle.pf_isa.proofs.MemoryLaws.{image_bytes, overwritten, length-overwritten, overwritten-overwritten, take-drop-part, loaded-scratch}
 use Rattle.pf_rows.specs.RowCode.{buffer_at, block_lines, next_at, narrow_at, back_at, scratch_lines, copy_turn}
-use Rattle.pf_rows.specs.BlockRows.{IsStep, StoresEach, start_of}
+use Rattle.pf_rows.specs.BlockRows.{IsOne, IsStep, StoresEach, start_of}
 use Rattle.pf_rows.proofs.Paths.{Stands, stands-front, stands-back, now, Comes, comes-on, comes-one}
 use Rattle.pf_rows.proofs.Pointers.{scratch_count, length-scratch_lines, comes-scratch}
 use Rattle.pf_rows.proofs.Cells.{part, length-part, part-within, Agree, agree-same, agree-before, agree-behind, cells-none, cells-joined, cells_of, length-cells_of}
-use Rattle.pf_rows.proofs.Steps.{IsOne, Takes, block_takes}
+use Rattle.pf_rows.proofs.Steps.{Takes, block_takes}
 use Rattle.pf_rows.proofs.RowPlaces.{RowPlace, span, entry-given, row-stored}
 use Rattle.pf_rows.proofs.Wide.{mem}
 use Rattle.pf_rows.proofs.Ways.{Laid, Ends, comes-ends, returns, begins_narrow, parts_back}
 use Rattle.pf_rows.proofs.WideRow.{slots_are, RowLeft, longer, given_by}
-use Rattle.pf_rows.proofs.Copies.{Copy, turn_count, copied, from_stands, to_stands, length-copy_turn}
+use Rattle.pf_rows.proofs.PixelCopies.{Copy, turn_count, copied, from_stands, to_stands, length-copy_turn}
 use Rattle.pf_rows.proofs.Buffers.{buffer_room, buffer_low}
 use Rattle.pf_rows.proofs.Prepared.{Filled, Ready, ready, row_of_tap}
 use Rattle.pf_rows.proofs.Narrow.{narrow_taps, narrow_tap, narrow_tap_long, buffer_block, Narrow, narrow_desk}

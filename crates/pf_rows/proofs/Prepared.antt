@@ -27,7 +27,7 @@ use Rattle.pf_rows.proofs.Cells.{part, length-part, part-before, part-behind, pa
 use Rattle.pf_rows.proofs.RowPlaces.{RowPlace, span, some-pointer, most-pointer}
 use Rattle.pf_rows.proofs.Wide.{mem}
 use Rattle.pf_rows.proofs.Ways.{Laid, Copies}
-use Rattle.pf_rows.proofs.Copies.{pointer_stored}
+use Rattle.pf_rows.proofs.PixelCopies.{pointer_stored}
 use Rattle.pf_rows.proofs.Buffers.{tap_row, at_buffer, buffer_regs, buffer_room, row_room, buffer_low, table_ends, TapCopied, tap_copied}
 
 module _ {I O : Type 0} (t : Table O) (code : List (Line I O)) (labels : List Label) (pictures : List Picture) (at : Places) (entries widths : List ℕ) (width slots n scratch_size output_size row : ℕ) (image place : ℕ → ℕ) (placed : RowPlace t.vector pictures at entries widths width slots n scratch_size output_size row image place) (narrow : n < t.vector) (some_pixel : 1 ≤ n) where

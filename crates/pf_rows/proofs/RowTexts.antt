@@ -11,8 +11,7 @@ use Rattle.pf_isa.specs.Programs.{IsProgram}
 use Rattle.pf_isa.specs.Runs.{pixel_bytes}
 use Rattle.pf_isa.specs.Tables.{Table, IsTable}
 use Rattle.pf_rows.specs.RowCode.{row_code, row_labels}
-use Rattle.pf_rows.specs.BlockRows.{no_decl, tap_widths, row_text, IsRowBlock, block_cost}
-use Rattle.pf_rows.proofs.Steps.{IsOne}
+use Rattle.pf_rows.specs.BlockRows.{IsOne, no_decl, tap_widths, row_text, IsRowBlock, block_cost}
 use Rattle.pf_rows.proofs.Placed.{pixel_one_or_two}
 use Rattle.pf_rows.proofs.Moves.{row_moved}
 use Rattle.pf_rows.proofs.RowWork.{row_work}

@@ -24,7 +24,7 @@ use Rattle.pf_isa.specs.Blocks.{Bench, item_step, items_run, IsWithin}
 use Rattle.pf_isa.specs.Steps.{State, Moved, wrapped, pointer_bytes, line_step}
 use Rattle.pf_isa.proofs.StepLaws.{wrapped_small}
 use Rattle.pf_rows.specs.RowCode.{pixel_lines, scratch_lines, item_lines, block_lines, slot_at}
-use Rattle.pf_rows.specs.BlockRows.{IsStep, stores_part}
+use Rattle.pf_rows.specs.BlockRows.{IsStep, IsOne, stores_part}
 use Rattle.pf_rows.proofs.Paths.{Stands, stands-front, stands-back, now, Comes, comes-none, comes-on, comes-one}
 use Rattle.pf_rows.proofs.Pointers.{length-pixel_lines, scratch_count, length-scratch_lines, comes-pixels, comes-scratch}
 
@@ -46,14 +46,6 @@ pub record Desk {O : Type 0} (t : Table O) (tb s x : ℕ) (widths : List ℕ) (w
       → (loaded rs (s + slot_at t.vector (length widths) k) t.vector ≡ Some (get_or kept k [])) × (length (get_or kept k []) ≡ t.vector)
   pub keep : (kept output : List (List ℕ)) (rs : List Region) → Holds kept output rs → (k : ℕ) (new : List ℕ) → k < slots → length new ≡ t.vector
       → (next : List Region) × (stored rs (s + slot_at t.vector (length widths) k) new ≡ Some next) × Holds (set kept k new) output next
-
--- an item that is an operation is one of these
-abbrev pub IsOne : {O : Type 0} → (O → Type 0) → Item O → Type 0
-IsOne is_op (Operation op) = is_op op
-IsOne is_op (TapLoad to tap part) = Unit {0}
-IsOne is_op (OutStore from part) = Unit {0}
-IsOne is_op (SlotLoad to slot) = Unit {0}
-IsOne is_op (SlotStore from slot) = Unit {0}
 
 -- a file with another vector of the same size
 pub file_with : {O : Type 0} (t : Table O) (many to : ℕ) (f : RegFile) (held : List ℕ) → IsFile t many f → length held ≡ t.vector → IsFile t many (write f (V to) held)

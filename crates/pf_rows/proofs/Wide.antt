@@ -19,10 +19,10 @@ use Rattle.pf_isa.specs.Tables.{Table, IsTable, IsFile}
 use Rattle.pf_isa.specs.Blocks.{Bench, items_run, IsWithin}
 use Rattle.pf_isa.proofs.MemoryLaws.{image_bytes, overwritten, length-overwritten, take-drop-part}
 use Rattle.pf_rows.specs.RowCode.{slot_at, block_lines}
-use Rattle.pf_rows.specs.BlockRows.{IsStep, StoresEach}
+use Rattle.pf_rows.specs.BlockRows.{IsOne, IsStep, StoresEach}
 use Rattle.pf_rows.proofs.Paths.{Stands, now, Comes}
 use Rattle.pf_rows.proofs.Cells.{part, length-part, Agree, agree-trans, agree-same, agree-before, agree-behind, Cells, cells-agree, cells-set, cells-none, cells-joined}
-use Rattle.pf_rows.proofs.Steps.{Desk, IsOne, Takes, block_takes}
+use Rattle.pf_rows.proofs.Steps.{Desk, Takes, block_takes}
 use Rattle.pf_rows.proofs.RowPlaces.{RowPlace, span, holding, entry-given, tap-given, row-stored, Slots, slots-agree, slot-given, slot-stored}
 
 module _ {O : Type 0} (t : Table O) (pictures : List Picture) (at : Places) (entries widths : List ℕ) (width slots n scratch_size output_size row : ℕ) (image place : ℕ → ℕ) (placed : RowPlace t.vector pictures at entries widths width slots n scratch_size output_size row image place) where

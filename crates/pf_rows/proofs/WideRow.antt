@@ -21,10 +21,10 @@ use Rattle.pf_isa.specs.Tables.{Table, IsTable, IsFile}
 use Rattle.pf_isa.specs.Blocks.{Bench, items_run, IsWithin}
 use Rattle.pf_isa.proofs.MemoryLaws.{image_bytes, overwritten, length-overwritten, take-drop-part}
 use Rattle.pf_rows.specs.RowCode.{buffer_at, slot_at, block_lines, next_at}
-use Rattle.pf_rows.specs.BlockRows.{IsStep, StoresEach, start_of}
+use Rattle.pf_rows.specs.BlockRows.{IsOne, IsStep, StoresEach, start_of}
 use Rattle.pf_rows.proofs.Paths.{Stands, now, Comes, comes-on}
 use Rattle.pf_rows.proofs.Cells.{part, length-part, Agree, agree-trans, agree-same, agree-within, Cells, cells-none, cells-joined, cells_of, length-cells_of, get_or-cells_of, cells-of}
-use Rattle.pf_rows.proofs.Steps.{Desk, IsOne, Takes, block_takes}
+use Rattle.pf_rows.proofs.Steps.{Desk, Takes, block_takes}
 use Rattle.pf_rows.proofs.RowPlaces.{RowPlace, span, holding, entry-given, Slots, slots_at}
 use Rattle.pf_rows.proofs.Wide.{wide_taps, Wide, wide_desk, mem, SlotsIn}
 use Rattle.pf_rows.proofs.Ways.{Laid, Ends, comes-ends, returns, begins_wide, goes_on, goes_last, ends_wide}

@@ -91,10 +91,13 @@ abbrev pub store_value : {I O : Type 0} → ℕ → Line I O
 store_value (suc zero) = Controls (StoreByte e v)
 store_value _ = Controls (StoreHalf e v)
 
+-- e goes on by x pixels, the pixel is stored, and the next one follows while there is one
+abbrev pub copy_end : {I O : Type 0} → ℕ → List ℕ → List (Line I O)
+copy_end width name = pixel_lines e width ++ (store_value width ∷ Controls (AddImm x x false 1) ∷ Controls (Compare x n) ∷ Controls (Below name) ∷ [])
+
 -- a pixel of so many bytes is copied from p to e, once both are set, and the next one follows while there is one
 abbrev pub copy_turn : {I O : Type 0} → (from to : List (Line I O)) → ℕ → List ℕ → List (Line I O)
-copy_turn from to width label =
-    from ++ (pixel_lines p width ++ (load_value width ∷ (to ++ (pixel_lines e width ++ (store_value width ∷ Controls (AddImm x x false 1) ∷ Controls (Compare x n) ∷ Controls (Below label) ∷ [])))))
+copy_turn from to width name = from ++ (pixel_lines p width ++ (load_value width ∷ (to ++ copy_end width name)))
 
 abbrev pub copy_label : ℕ → List ℕ
 copy_label k = 99 ∷ (48 + k / 10) ∷ (48 + k % 10) ∷ []

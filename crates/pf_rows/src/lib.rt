@@ -1,2 +1,6 @@
 //! Programs that make the output row by row.
 #![tactic(auto)]
+
+mod copies;
+mod items;
+mod lines;
