@@ -5,5 +5,6 @@ mod least;
 mod copies;
 mod items;
 mod lines;
+mod program;
 
 pub use least::least_program;
