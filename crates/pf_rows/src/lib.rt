@@ -8,3 +8,4 @@ mod lines;
 mod program;
 
 pub use least::least_program;
+pub use program::row_program;

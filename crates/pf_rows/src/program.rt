@@ -1,4 +1,4 @@
-ghost use Rattle.std.specs.Prelude.{◌≡◌, ◌+◌, ◌*◌, ◌/◌, ◌<◌, ◌≤◌, ◌++◌, [], ◌∷◌, length, map, take, All, IfOk, OnOk, codes, slice_index_or};
+ghost use Rattle.std.specs.Prelude.{◌≡◌, ◌+◌, ◌*◌, ◌/◌, ◌^◌, ◌<◌, ◌≤◌, ◌++◌, [], ◌∷◌, length, map, take, All, IfOk, OnOk, codes, slice_index_or};
 ghost use Rattle.pf_ints.specs.Images.{IsPixelType};
 ghost use Rattle.pf_isa.specs.Heads.{IsHead};
 ghost use Rattle.pf_isa.specs.Moved.{Moved, Work};
@@ -101,4 +101,61 @@ fn last<I: Isa>(code: &mut Code<I>) -> Result<(), Memory>
             label: block_name(),
         },
     )
+}
+
+/// The code of a row and its labels.
+fn lines<I: Isa>(
+    alloc: Global,
+    widths: &[u8],
+    width: u8,
+    block: Block<I::Op>,
+) -> Result<(Code<I>, LabelList), Memory>
+    requires some { 1 ≤ I.table.vector }
+    requires most { I.table.vector ≤ 128 }
+    requires taps { length widths.now ≤ 64 }
+    requires pixels { All IsPixel widths.now }
+    requires pixel { IsPixel width }
+    requires steps { All (λ i. IsStep widths.now width i) block }
+    requires near { All (λ i. IsNear I.table.vector (length widths.now) (2 ^ 30) i) block }
+    ensures code { IfOk result (λ p. p.0 ≡ row_code I.table widths.now width block) }
+    ensures labels { IfOk result (λ p. p.1 ≡ row_labels I I.table widths.now width block) }
+    ensures known { IfOk result (λ _. All (λ i. IsOne I.is_op i) block) }
+{
+    let mut code = Sequence::new(alloc);
+    let mut labels = Sequence::new(alloc);
+    begin(&mut code, widths.len())?;
+    mark(&mut labels, &code, block_name())?;
+    items(&mut code, widths, width, block)?;
+    next(&mut code)?;
+    mark(&mut labels, &code, tail_name())?;
+    tail(&mut code)?;
+    mark(&mut labels, &code, last_name())?;
+    last(&mut code)?;
+    mark(&mut labels, &code, narrow_name())?;
+    narrow(&mut code, &mut labels, widths)?;
+    back(&mut code, &mut labels, widths.len(), width)?;
+    Ok((code, labels))
+}
+
+/// The program that runs the block over each row of the output, of any width.
+///
+/// The block runs in place at every whole block of pixels, and at the row's last ones where some
+/// are left. A row of fewer pixels than a vector has bytes is copied into the scratch, and its
+/// pixels back from there. It fails for want of memory alone.
+pub fn row_program<I: Isa>(
+    alloc: Global,
+    block: Block<I::Op>,
+    head: Head,
+) -> Result<Program<I>, Memory>
+    requires { IsRowBlock I.table head (slots_in I.table head) block }
+    ensures value { IfOk result (λ p. p ≡ row_text I I.table head block) }
+    ensures moved { IfOk result (λ p. Moved I.table (length p.head.taps) p.code p.labels) }
+    ensures work { IfOk result (λ p. Work I.table p.code ≡ block_cost I.table block) }
+    ensures rows { IfOk result (λ p. RunsBlock I.table (slots_in I.table head) block p) }
+    ensures lanes { IfOk result (λ p. LeavesLanes I.table (slots_in I.table head) block p) }
+{
+    let widths = widths_of(alloc, &head)?;
+    let width = pixel_bytes(head.out_ty);
+    let (code, labels) = lines(alloc, widths.as_slice(), width, block)?;
+    Ok(Program::new(head, code, labels))
 }
