@@ -1,9 +1,9 @@
 //! Programs that make the output row by row.
 #![tactic(auto)]
 
-mod least;
 mod copies;
 mod items;
+mod least;
 mod lines;
 mod program;
 
