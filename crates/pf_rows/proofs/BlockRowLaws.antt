@@ -183,11 +183,11 @@ module _ (I O : Type 0) (t : Table O) (is_op : O → Type 0) (laws : IsTable t i
       let start : State = started t at.table (memory pictures at (packed 8 entries) scratch output) in
       ⊎_elim
       (λ (narrow : n < t.vector).
-          longer t is_op laws code (row_labels I t widths width block) pictures at entries widths width slots n h.scratch (output_size h pictures) line image place place_is block (laid I O t widths width block few) ones fit.clean.within fit.steps fit.stores Given gives_wide (many + 4096 * (length widths + 1)) steps_of start output (omega arith)
-          (narrow_row t is_op laws code (row_labels I t widths width block) pictures at entries widths width slots n h.scratch (output_size h pictures) line image place place_is block (laid I O t widths width block few) ones fit.clean.within fit.steps fit.stores narrow (some_columns h fit.head s images taps pictures keeps) Given gives_wide (gives_narrow narrow) file scratch output (started_file t) placed.scratch_size placed.output_bytes))
+      longer t is_op laws code (row_labels I t widths width block) pictures at entries widths width slots n h.scratch (output_size h pictures) line image place place_is block (laid I O t widths width block few) ones fit.clean.within fit.steps fit.stores Given gives_wide (many + 4096 * (length widths + 1)) steps_of start output (omega arith)
+      (narrow_row t is_op laws code (row_labels I t widths width block) pictures at entries widths width slots n h.scratch (output_size h pictures) line image place place_is block (laid I O t widths width block few) ones fit.clean.within fit.steps fit.stores narrow (some_columns h fit.head s images taps pictures keeps) Given gives_wide (gives_narrow narrow) file scratch output (started_file t) placed.scratch_size placed.output_bytes))
       (λ (wide : t.vector ≤ n).
-          longer t is_op laws code (row_labels I t widths width block) pictures at entries widths width slots n h.scratch (output_size h pictures) line image place place_is block (laid I O t widths width block few) ones fit.clean.within fit.steps fit.stores Given gives_wide (7 + (many + 12) * n) steps_of start output (omega arith)
-          (wide_row t is_op laws code (row_labels I t widths width block) pictures at entries widths width slots n h.scratch (output_size h pictures) line image place place_is block (laid I O t widths width block few) ones fit.clean.within fit.steps fit.stores Given gives_wide file scratch output wide (started_file t) placed.scratch_size placed.output_bytes))
+      longer t is_op laws code (row_labels I t widths width block) pictures at entries widths width slots n h.scratch (output_size h pictures) line image place place_is block (laid I O t widths width block few) ones fit.clean.within fit.steps fit.stores Given gives_wide (7 + (many + 12) * n) steps_of start output (omega arith)
+      (wide_row t is_op laws code (row_labels I t widths width block) pictures at entries widths width slots n h.scratch (output_size h pictures) line image place place_is block (laid I O t widths width block few) ones fit.clean.within fit.steps fit.stores Given gives_wide file scratch output wide (started_file t) placed.scratch_size placed.output_bytes))
       (cases_lt n t.vector)
 
   -- the row ends within its steps, and has written the block's pixels alone
@@ -203,18 +203,19 @@ module _ (I O : Type 0) (t : Table O) (is_op : O → Type 0) (laws : IsTable t i
       let written : left.left ≡ take line output ++ (row ++ drop (line + width * n) output) = row_written line (width * n) output left.left (omega arith) (omega arith) left.front back in
       let row_is : take line output ++ (row ++ drop (line + width * n) output) ≡ with_row output (row_size h pictures) y row = ap (λ m. take m output ++ (row ++ drop (m + width * n) output)) start in
       let ends = left.ends in
-      let size : length row ≡ row_size h pictures = length-part line (width * n) left.left (omega arith) in
-      (row,
-       record {
-         size = size;
-         each = λ q known.
-             let room : width * q + width * 1 ≤ width * n = span width q 1 n (omega arith) in
-             subst (λ l. Given (start_of t.vector n q) q l) (sym (take-drop-part left.left line (width * n) (width * q) width (omega arith))) (left.given q known);
-       },
-       record {
-         last = ends.last;
-         kept = left.kept;
-         kept_size = left.kept_long ∙ sym placed.scratch_size;
-         ends = ends.ends;
-         regions = ends.regions ∙ ap (λ o. memory pictures at (packed 8 entries) left.kept o) (written ∙ row_is);
-       })
+      let size : length row ≡ row_size h pictures = length-part line (width * n) left.left (omega arith) in (
+        row,
+        record {
+          size = size;
+          each = λ q known.
+              let room : width * q + width * 1 ≤ width * n = span width q 1 n (omega arith) in
+              subst (λ l. Given (start_of t.vector n q) q l) (sym (take-drop-part left.left line (width * n) (width * q) width (omega arith))) (left.given q known);
+        },
+        record {
+          last = ends.last;
+          kept = left.kept;
+          kept_size = left.kept_long ∙ sym placed.scratch_size;
+          ends = ends.ends;
+          regions = ends.regions ∙ ap (λ o. memory pictures at (packed 8 entries) left.kept o) (written ∙ row_is);
+        },
+      )

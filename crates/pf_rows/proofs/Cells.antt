@@ -92,22 +92,22 @@ cells-set base size j cells held new there inside long fits =
           let within' : k < length cells = omega (arith, length-set cells j new) in
           ⊎_elim
           (λ (same : k ≡ j).
-              let none : base + size * k ≡ base + size * j + 0 = ap (λ i. base + size * i) same ∙ omega arith in
-              let cell : get_or (set cells j new) k [] ≡ new = ap (λ i. get_or (set cells j new) i []) same ∙ get_or-set_same cells j new [] inside in
-              part-within held new (base + size * j) (base + size * k) 0 size none (omega arith) fit ∙ take_all size new (omega arith) ∙ sym cell)
+          let none : base + size * k ≡ base + size * j + 0 = ap (λ i. base + size * i) same ∙ omega arith in
+          let cell : get_or (set cells j new) k [] ≡ new = ap (λ i. get_or (set cells j new) i []) same ∙ get_or-set_same cells j new [] inside in
+          part-within held new (base + size * j) (base + size * k) 0 size none (omega arith) fit ∙ take_all size new (omega arith) ∙ sym cell)
           (λ (other : k ≡ j → ⊥).
-              let cell : get_or (set cells j new) k [] ≡ get_or cells k [] = get_or-set_other cells j k new [] other in
-              let full' : length (get_or cells k []) ≡ size = sym (ap length cell) ∙ full in
-              let untouched : part (base + size * k) size (overwritten held (base + size * j) new) ≡ part (base + size * k) size held =
-              ⊎_elim
-              (λ (less : k < j).
-                  let under : size * k + size ≤ size * j = column_fits size k size j less (omega arith) in
-                  part-before held new (base + size * j) (base + size * k) size (omega arith) fit)
-              (λ (more : j < k).
-                  let over : size * j + size ≤ size * k = column_fits size j size k more (omega arith) in
-                  part-behind held new (base + size * j) (base + size * k) size (omega arith) fit)
-              (apart_order k j other) in
-              untouched ∙ there.each k within' full' ∙ sym cell)
+          let cell : get_or (set cells j new) k [] ≡ get_or cells k [] = get_or-set_other cells j k new [] other in
+          let full' : length (get_or cells k []) ≡ size = sym (ap length cell) ∙ full in
+          let untouched : part (base + size * k) size (overwritten held (base + size * j) new) ≡ part (base + size * k) size held =
+          ⊎_elim
+          (λ (less : k < j).
+          let under : size * k + size ≤ size * j = column_fits size k size j less (omega arith) in
+          part-before held new (base + size * j) (base + size * k) size (omega arith) fit)
+          (λ (more : j < k).
+          let over : size * j + size ≤ size * k = column_fits size j size k more (omega arith) in
+          part-behind held new (base + size * j) (base + size * k) size (omega arith) fit)
+          (apart_order k j other) in
+          untouched ∙ there.each k within' full' ∙ sym cell)
           (cases_eq k j);
     }
 

@@ -50,14 +50,14 @@ start_low : (vector n q : ℕ) → 1 ≤ vector → q < n → (start_of vector n
 start_low vector n q some inside =
     ⊎_elim
     (λ (less : q < n - vector).
-        let is : start_of vector n q ≡ vector * (q / vector) = cond-true (ltb q (n - vector)) (vector * (q / vector)) (n - vector) (lt-ltb q (n - vector) less) in
-        let split : q / vector * vector + q % vector ≡ q = div-add-mod' q vector in
-        let turned : q / vector * vector ≡ vector * (q / vector) = mul_comm (q / vector) vector in
-        let rest : q % vector < vector = omega arith in
-        (omega arith, omega arith))
+    let is : start_of vector n q ≡ vector * (q / vector) = cond-true (ltb q (n - vector)) (vector * (q / vector)) (n - vector) (lt-ltb q (n - vector) less) in
+    let split : q / vector * vector + q % vector ≡ q = div-add-mod' q vector in
+    let turned : q / vector * vector ≡ vector * (q / vector) = mul_comm (q / vector) vector in
+    let rest : q % vector < vector = omega arith in
+    (omega arith, omega arith))
     (λ (from : n - vector ≤ q).
-        let is : start_of vector n q ≡ n - vector = cond-false (ltb q (n - vector)) (vector * (q / vector)) (n - vector) (le-ltb q (n - vector) from) in
-        (omega arith, omega arith))
+    let is : start_of vector n q ≡ n - vector = cond-false (ltb q (n - vector)) (vector * (q / vector)) (n - vector) (le-ltb q (n - vector) from) in
+    (omega arith, omega arith))
     (cases_lt q (n - vector))
 
 module _ {O : Type 0} (t : Table O) (h : Head) (slots : ℕ) (block : List (Item O)) (some : 1 ≤ t.vector) (value : List ℕ → ℕ) (lanewise : IsLanewise t slots block (tap_widths h) (pixel_bytes h.out_ty) value) (pictures : List Picture) (y : ℕ) where
@@ -91,10 +91,10 @@ module _ {O : Type 0} (t : Table O) (h : Head) (slots : ℕ) (block : List (Item
       lanewise.each pixel.blocks numbers file kept (q - x) (started_file t) kept_long (omega arith) (numbers_count ∙ sym widths_count)
       (λ k inside. taps.sizes k (omega arith))
       (λ k inside.
-          let inside' : k < length h.taps = omega arith in
-          taps.each k (q - x) inside' (omega arith) (omega arith)
-          ∙ ap (λ m. bytes (get_or (tap_widths h) k 0) (tap_pixel h.taps pictures m y (get_or h.taps k no_tap))) sum
-          ∙ ap (λ m. bytes (get_or (tap_widths h) k 0) m) (sym (get_or-map (tap_pixel h.taps pictures q y) h.taps k no_tap 0 inside'))) in
+      let inside' : k < length h.taps = omega arith in
+      taps.each k (q - x) inside' (omega arith) (omega arith)
+      ∙ ap (λ m. bytes (get_or (tap_widths h) k 0) (tap_pixel h.taps pictures m y (get_or h.taps k no_tap))) sum
+      ∙ ap (λ m. bytes (get_or (tap_widths h) k 0) m) (sym (get_or-map (tap_pixel h.taps pictures q y) h.taps k no_tap 0 inside'))) in
       let small : All (λ b. b < 256) (pixel_part width (q - x) (concat (BVal t width block pixel.blocks file kept))) = subst (λ l. All (λ b. b < 256) l) (sym given) (bytes_below width (value numbers)) in
       let here : part (width * q) width row ≡ bytes width (value numbers) = pixel.given file kept (started_file t) kept_long small ∙ given in
       here ∙ ap (λ m. bytes width m) (sym (get_or-map-range_with_len (λ x. value_at x y) 0 n q q 0 known (omega arith))) ∙ sym (lane_at width q values (omega arith)))
@@ -109,6 +109,6 @@ module _ (I O : Type 0) (t : Table O) (is_op : O → Type 0) (laws : IsTable t i
       let value_at = λ (x y : ℕ). value (map (tap_pixel h.taps pictures x y) h.taps) in
       leaves t p pictures s value_at taps ty keeps values
       (λ at scratch output placed y inside.
-          let done = block_row I O t is_op laws h slots block ones fit s images taps pictures keeps at scratch output placed y inside in
-          let same : done.0 ≡ row_in_memory value_at h pictures y = row_of_lanes t h slots block fit.some value lanewise pictures y done.0 done.1 in
-          subst (λ row. RowDone t p pictures at y row scratch output) same done.2)
+      let done = block_row I O t is_op laws h slots block ones fit s images taps pictures keeps at scratch output placed y inside in
+      let same : done.0 ≡ row_in_memory value_at h pictures y = row_of_lanes t h slots block fit.some value lanewise pictures y done.0 done.1 in
+      subst (λ row. RowDone t p pictures at y row scratch output) same done.2)

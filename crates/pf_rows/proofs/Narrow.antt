@@ -86,10 +86,11 @@ module _ {I O : Type 0} (t : Table O) (code : List (Line I O)) (labels : List La
         let here : wrapped t.target (at.scratch + 8 * k) ≡ at.scratch + 8 * k = wrapped_small t.target (at.scratch + 8 * k) (omega arith) in
         let load : loaded (memo w.scratch out) (at.scratch + 8 * k) pb ≡ Some (part (8 * k) pb w.scratch) = loaded-scratch pictures at (packed 8 entries) w.scratch out (placed.apart w.scratch out long out_long) (8 * k) pb some_bytes (omega arith) in
         let same = w.same in
-        let held : part (8 * k) pb w.scratch ≡ bytes pb (address k) = same.each (8 * k) pb (omega arith) (omega arith) ∙ filled.entry k (omega arith) in
-        (bytes pb (address k),
-         ap (λ r. loaded r (wrapped t.target (at.scratch + 8 * k)) pb) w.is ∙ ap (λ a. loaded (memo w.scratch out) a pb) here ∙ load ∙ ap Some held,
-         number-pointer t.target (address k) (omega arith))
+        let held : part (8 * k) pb w.scratch ≡ bytes pb (address k) = same.each (8 * k) pb (omega arith) (omega arith) ∙ filled.entry k (omega arith) in (
+          bytes pb (address k),
+          ap (λ r. loaded r (wrapped t.target (at.scratch + 8 * k)) pb) w.is ∙ ap (λ a. loaded (memo w.scratch out) a pb) here ∙ load ∙ ap Some held,
+          number-pointer t.target (address k) (omega arith),
+        )
 
     narrow_load : (kept output : List (List ℕ)) (rs : List Region) → Narrow before out kept output rs → (k j : ℕ) → k < length widths → j < get_or widths k 0
         → loaded rs (address k + 0 * get_or widths k 0 + j * t.vector) t.vector ≡ Some (take t.vector (drop (t.vector * j) (get_or (narrow_taps before) k [])))

@@ -178,9 +178,9 @@ module _ {I O : Type 0} (t : Table O) (code : List (Line I O)) (labels : List La
           value = number (held x);
           end = target + x * width;
           comes = subst (λ k. Comes t code labels k start (now (a + c) (tb ∷ n ∷ s ∷ n ∷ u ∷ (source + x * width) ∷ number (held x) ∷ (target + x * width) ∷ []) false f (rs n))) steps
-          (subst (λ k. Comes t code labels (c - 1 + 1) start (now (a + c) (tb ∷ n ∷ s ∷ n ∷ u ∷ (source + x * width) ∷ number (held x) ∷ (target + x * width) ∷ []) false f (rs k))) all'
-          (subst (λ k. Comes t code labels (c - 1 + 1) start (now (a + c) (tb ∷ n ∷ s ∷ k ∷ u ∷ (source + x * width) ∷ number (held x) ∷ (target + x * width) ∷ []) false f (rs (suc x)))) all
-          (subst (λ k. Comes t code labels (c - 1 + 1) start (now k (tb ∷ n ∷ s ∷ (x + 1) ∷ u ∷ (source + x * width) ∷ number (held x) ∷ (target + x * width) ∷ []) false f (rs (suc x)))) place whole)));
+              (subst (λ k. Comes t code labels (c - 1 + 1) start (now (a + c) (tb ∷ n ∷ s ∷ n ∷ u ∷ (source + x * width) ∷ number (held x) ∷ (target + x * width) ∷ []) false f (rs k))) all'
+              (subst (λ k. Comes t code labels (c - 1 + 1) start (now (a + c) (tb ∷ n ∷ s ∷ k ∷ u ∷ (source + x * width) ∷ number (held x) ∷ (target + x * width) ∷ []) false f (rs (suc x)))) all
+              (subst (λ k. Comes t code labels (c - 1 + 1) start (now k (tb ∷ n ∷ s ∷ (x + 1) ∷ u ∷ (source + x * width) ∷ number (held x) ∷ (target + x * width) ∷ []) false f (rs (suc x)))) place whole)));
         }
     copied (suc m) x p v e flag sum =
         let c = turn_count from to width in

@@ -192,7 +192,7 @@ module _ (h : Head) (is_head : IsHead h) (s : Source) (images : s.images ≡ h.i
           size = omega arith;
           few_taps = let few = is_head.few_taps in omega arith;
           wide = All-map (λ w. (1 ≤ w) × (w ≤ 2)) (λ (t : Tap). pixel_bytes (get_or h.images t.image no_decl).ty) h.taps
-          (All-weaker (IsTap (length h.images)) (λ t. (1 ≤ pixel_bytes (get_or h.images t.image no_decl).ty) × (pixel_bytes (get_or h.images t.image no_decl).ty ≤ 2)) (λ t is. let d : IsDecl (get_or h.images t.image no_decl) = All-get_or IsDecl h.images t.image no_decl is.image is_head.images in pixel_one_or_two (get_or h.images t.image no_decl).ty d.ty) h.taps is_head.taps);
+              (All-weaker (IsTap (length h.images)) (λ t. (1 ≤ pixel_bytes (get_or h.images t.image no_decl).ty) × (pixel_bytes (get_or h.images t.image no_decl).ty ≤ 2)) (λ t is. let d : IsDecl (get_or h.images t.image no_decl) = All-get_or IsDecl h.images t.image no_decl is.image is_head.images in pixel_one_or_two (get_or h.images t.image no_decl).ty d.ty) h.taps is_head.taps);
           wide_out = wide_out;
           table_low = omega arith;
           known = λ k known. let image = image_is (image_of_tap k) (tap_image k (omega arith)) in image.known;

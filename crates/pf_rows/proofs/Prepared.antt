@@ -104,18 +104,18 @@ module _ {I O : Type 0} (t : Table O) (code : List (Line I O)) (labels : List La
       let fit' : 8 * k + length pointer ≤ length (written k scratch) = omega arith in
       record {
         entry = λ j inside. ⊎_elim
-        (λ (less : j < k). part-before (written k scratch) pointer (8 * k) (8 * j) pb (omega arith) fit' ∙ part-before scratch new (buffer k) (8 * j) pb (omega arith) fit ∙ before.entry j less)
-        (λ (from : k ≤ j).
+            (λ (less : j < k). part-before (written k scratch) pointer (8 * k) (8 * j) pb (omega arith) fit' ∙ part-before scratch new (buffer k) (8 * j) pb (omega arith) fit ∙ before.entry j less)
+            (λ (from : k ≤ j).
             let same : j ≡ k = omega arith in
             let none : 8 * k ≡ 8 * k + 0 = omega arith in
             ap (λ i. part (8 * i) pb (filled_of k scratch)) same ∙ part-within (written k scratch) pointer (8 * k) (8 * k) 0 pb none (omega arith) fit' ∙ take_all pb pointer (omega arith) ∙ ap (λ i. bytes pb (at.scratch + buffer i)) (sym same))
-        (cases_lt j k);
+            (cases_lt j k);
         rows_there = λ j inside. ⊎_elim
-        (λ (less : j < k).
+            (λ (less : j < k).
             let fits_j = room_of_row j (omega arith) in
             let order = buffer_order j k less in
             part-behind (written k scratch) pointer (8 * k) (buffer j) (get_or widths j 0 * n) (omega arith) fit' ∙ part-before scratch new (buffer k) (buffer j) (get_or widths j 0 * n) (omega arith) fit ∙ before.rows_there j less)
-        (λ (from : k ≤ j).
+            (λ (from : k ≤ j).
             let same : j ≡ k = omega arith in
             let none : buffer k ≡ buffer k + 0 = omega arith in
             let m = get_or widths k 0 * n in
@@ -123,7 +123,7 @@ module _ {I O : Type 0} (t : Table O) (code : List (Line I O)) (labels : List La
             ∙ part-behind (written k scratch) pointer (8 * k) (buffer k) m (omega arith) fit'
             ∙ part-within scratch new (buffer k) (buffer k) 0 m none (omega arith) fit
             ∙ take_all m new (omega arith) ∙ take_all m (row_of_tap k) (omega arith) ∙ ap row_of_tap (sym same))
-        (cases_lt j k);
+            (cases_lt j k);
       }
 
   -- all taps from one on are copied
@@ -261,12 +261,12 @@ module _ {I O : Type 0} (t : Table O) (code : List (Line I O)) (labels : List La
         left_long = length-overwritten copies.left (8 * taps) pointer fit ∙ left_long;
         filled = record {
           entry = λ j inside. ⊎_elim
-          (λ (less : j < taps). part-before copies.left pointer (8 * taps) (8 * j) pb (omega arith) fit ∙ filled.entry j less)
-          (λ (from : taps ≤ j).
+              (λ (less : j < taps). part-before copies.left pointer (8 * taps) (8 * j) pb (omega arith) fit ∙ filled.entry j less)
+              (λ (from : taps ≤ j).
               let same : j ≡ taps = omega arith in
               let zeroth : 8 * taps ≡ 8 * taps + 0 = omega arith in
               ap (λ i. part (8 * i) pb after) same ∙ part-within copies.left pointer (8 * taps) (8 * taps) 0 pb zeroth (omega arith) fit ∙ take_all pb pointer (omega arith) ∙ ap (λ i. bytes pb (at.scratch + buffer i)) (sym same))
-          (cases_lt j taps);
+              (cases_lt j taps);
           rows_there = λ j inside. part-behind copies.left pointer (8 * taps) (buffer j) (get_or widths j 0 * n) (omega arith) fit ∙ filled.rows_there j inside;
         };
         comes = all;

@@ -162,9 +162,9 @@ module _ (vector : ℕ) (pictures : List Picture) (at : Places) (entries widths 
       let after : Slots (set kept k new) (overwritten scratch (slot_at vector (length widths) k) new) = record {
         count = length-set kept k new ∙ count;
         sizes = λ j known. ⊎_elim
-        (λ (here : j ≡ k). ap (λ i. length (get_or (set kept k new) i [])) here ∙ ap length (get_or-set_same kept k new [] (omega arith)) ∙ size)
-        (λ (other : j ≡ k → ⊥). ap length (get_or-set_other kept k j new [] other) ∙ are.sizes j known)
-        (cases_eq j k);
+            (λ (here : j ≡ k). ap (λ i. length (get_or (set kept k new) i [])) here ∙ ap length (get_or-set_same kept k new [] (omega arith)) ∙ size)
+            (λ (other : j ≡ k → ⊥). ap length (get_or-set_other kept k j new [] other) ∙ are.sizes j known)
+            (cases_eq j k);
         there = cells-set slots_at vector k kept scratch new are.there (omega arith) size (omega arith);
       } in
       (put, after, length-overwritten scratch (slot_at vector (length widths) k) new (omega arith) ∙ held)

@@ -209,9 +209,9 @@ module _ {I O : Type 0} (t : Table O) (is_op : O → Type 0) (laws : IsTable t i
         file = file;
         wide = length-set b.output part new ∙ wide;
         kept = λ k there. ⊎_elim
-        (λ (same : k ≡ part). kept_same b.output part k new size same wide part_in)
-        (λ (other : k ≡ part → ⊥). ap length (get_or-set_other b.output part k new [] other) ∙ there)
-        (cases_eq k part);
+            (λ (same : k ≡ part). kept_same b.output part k new size same wide part_in)
+            (λ (other : k ≡ part → ⊥). ap length (get_or-set_other b.output part k new [] other) ∙ there)
+            (cases_eq k part);
         fills = λ k inside stored. kept_same b.output part k new size (sym (eqb-true part k stored)) wide part_in;
       }
 
@@ -341,13 +341,13 @@ module _ {I O : Type 0} (t : Table O) (is_op : O → Type 0) (laws : IsTable t i
         pointer = rest.pointer;
         left = rest.left;
         comes = subst (λ c. Comes t code labels c (at_desk a p b.file rs) (at_desk (a + length (front ++ back)) rest.pointer (items_run t taps more (item_step t taps item b)).file rest.left)) size
-        (subst (λ m. Comes t code labels (length front + length back) (at_desk a p b.file rs) (at_desk m rest.pointer (items_run t taps more (item_step t taps item b)).file rest.left)) end all);
+            (subst (λ m. Comes t code labels (length front + length back) (at_desk a p b.file rs) (at_desk m rest.pointer (items_run t taps more (item_step t taps item b)).file rest.left)) end all);
         holds = rest.holds;
         file = rest.file;
         wide = rest.wide;
         kept = λ part there. rest.kept part (one.kept part there);
         fills = λ part inside stored. ⊎_elim
-        (λ (here : stores_part part item ≡ true). rest.kept part (one.fills part inside here))
-        (λ (later : list_any (λ item. stores_part part item) more ≡ true). rest.fills part inside later)
-        (or_cases (stores_part part item) (list_any (λ item. stores_part part item) more) stored);
+            (λ (here : stores_part part item ≡ true). rest.kept part (one.fills part inside here))
+            (λ (later : list_any (λ item. stores_part part item) more ≡ true). rest.fills part inside later)
+            (or_cases (stores_part part item) (list_any (λ item. stores_part part item) more) stored);
       }

@@ -60,11 +60,11 @@ module _ {O : Type 0} (t : Table O) (pictures : List Picture) (at : Places) (ent
       ⊎_elim
       (λ (tap : k < length widths). let low = placed.low k tap in omega arith)
       (λ (past : length widths ≤ k).
-          let same : k ≡ length widths = omega arith in
-          let low = placed.low_out in
-          let out = placed.out in
-          let all : get_or entries k 0 ≡ at.output + row = ap (λ i. get_or entries i 0) same ∙ out in
-          omega arith)
+      let same : k ≡ length widths = omega arith in
+      let low = placed.low_out in
+      let out = placed.out in
+      let all : get_or entries k 0 ≡ at.output + row = ap (λ i. get_or entries i 0) same ∙ out in
+      omega arith)
       (cases_lt k (length widths))
 
   module _ (x : ℕ) (within : x + t.vector ≤ n) (before : List ℕ) where
@@ -122,10 +122,11 @@ module _ {O : Type 0} (t : Table O) (pictures : List Picture) (at : Places) (ent
           there = cells-set base t.vector j output w.held new w.there (omega arith) size (omega arith);
           front = agree-trans 0 base before w.held after w.front (agree-before 0 base (base + t.vector * j) w.held new (omega arith) fits);
           back = agree-trans (base + t.vector * width) output_size before w.held after w.back (agree-behind (base + t.vector * width) output_size (base + t.vector * j) w.held new (omega arith) fits);
-        } in
-        (mem w.scratch after,
-         ap (λ r. stored r (get_or entries (length widths) 0 + x * width + j * t.vector) new) w.is ∙ ap (λ a. stored (mem w.scratch w.held) a new) address ∙ put ∙ ap (λ m. Some (mem w.scratch (overwritten w.held m new))) spot,
-         next)
+        } in (
+          mem w.scratch after,
+          ap (λ r. stored r (get_or entries (length widths) 0 + x * width + j * t.vector) new) w.is ∙ ap (λ a. stored (mem w.scratch w.held) a new) address ∙ put ∙ ap (λ m. Some (mem w.scratch (overwritten w.held m new))) spot,
+          next,
+        )
 
     wide_slot : (kept output : List (List ℕ)) (rs : List Region) → Wide x before kept output rs → (k : ℕ) → k < slots
         → (loaded rs (at.scratch + slot_at t.vector (length widths) k) t.vector ≡ Some (get_or kept k [])) × (length (get_or kept k []) ≡ t.vector)

@@ -216,13 +216,13 @@ module _ {I O : Type 0} (t : Table O) (is_op : O → Type 0) (laws : IsTable t i
           front = front_of x before held turn.left front turn.front;
           back = back_of x before held turn.left inside back turn.back;
           given = λ q known. ⊎_elim
-          (λ (less : q < x).
+              (λ (less : q < x).
               let here : Given (t.vector * (q / t.vector)) q (part (row + width * q) width turn.left) = subst (λ l. Given (t.vector * (q / t.vector)) q l) (sym (before_stays x q held turn.left less turn.front)) (done q less) in
               subst (λ s. Given s q (part (row + width * q) width turn.left)) (sym (start_before q (omega arith))) here)
-          (λ (from : x ≤ q).
+              (λ (from : x ≤ q).
               let same : start_of t.vector n q ≡ x = start_behind q (omega arith) ∙ start in
               subst (λ s. Given s q (part (row + width * q) width turn.left)) (sym same) (turn.given q from (omega arith)))
-          (cases_lt q x);
+              (cases_lt q x);
         }
 
     many_more : (c f : ℕ) → c * suc f ≡ c + c * f
@@ -248,26 +248,26 @@ module _ {I O : Type 0} (t : Table O) (is_op : O → Type 0) (laws : IsTable t i
         let back' = back_of x before held turn.left inside back turn.back in
         ⊎_elim
         (λ (less : n < x + t.vector + t.vector). ⊎_elim
-            (λ (left : x + t.vector < n).
-                let n' = n - t.vector in
-                let to_last = goes_last t code labels widths width block laid at.table n at.scratch x at.table turn.pointer v e flag turn.file (m_of turn.kept turn.left) (omega arith) left less low some in
-                let way = comes-on t code labels many 11 _ _ _ turn.comes to_last in
-                let rest = last_run (n - t.vector) turn.pointer v (x + t.vector + t.vector) true turn.file turn.kept turn.left before (omega arith) turn.is_file turn.kept_long turn.left_long front' back' (λ q known. done' q (omega arith)) in
-                let more : many + 12 ≤ (many + 12) * fuel = le-mul_of_pos_right (many + 12) (omega arith) in
-                longer (many + 11 + (many + 10)) ((many + 12) * suc fuel) _ before (omega arith) (way_left (many + 11) (many + 10) _ _ before way rest))
-            (λ (none : n ≤ x + t.vector).
-                let all : x + t.vector ≡ n = omega arith in
-                let rest = last_run x p v e flag f scratch held before all is_file scratch_long held_long front back done in
-                longer (many + 10) ((many + 12) * suc fuel) _ before (omega arith) rest)
-            (cases_lt (x + t.vector) n))
+        (λ (left : x + t.vector < n).
+        let n' = n - t.vector in
+        let to_last = goes_last t code labels widths width block laid at.table n at.scratch x at.table turn.pointer v e flag turn.file (m_of turn.kept turn.left) (omega arith) left less low some in
+        let way = comes-on t code labels many 11 _ _ _ turn.comes to_last in
+        let rest = last_run (n - t.vector) turn.pointer v (x + t.vector + t.vector) true turn.file turn.kept turn.left before (omega arith) turn.is_file turn.kept_long turn.left_long front' back' (λ q known. done' q (omega arith)) in
+        let more : many + 12 ≤ (many + 12) * fuel = le-mul_of_pos_right (many + 12) (omega arith) in
+        longer (many + 11 + (many + 10)) ((many + 12) * suc fuel) _ before (omega arith) (way_left (many + 11) (many + 10) _ _ before way rest))
+        (λ (none : n ≤ x + t.vector).
+        let all : x + t.vector ≡ n = omega arith in
+        let rest = last_run x p v e flag f scratch held before all is_file scratch_long held_long front back done in
+        longer (many + 10) ((many + 12) * suc fuel) _ before (omega arith) rest)
+        (cases_lt (x + t.vector) n))
         (λ (more : x + t.vector + t.vector ≤ n).
-            let on = goes_on t code labels widths width block laid at.table n at.scratch x at.table turn.pointer v e flag turn.file (m_of turn.kept turn.left) more low in
-            let way = comes-on t code labels many 8 _ _ _ turn.comes on in
-            let next : x + t.vector ≡ t.vector * suc k = omega arith in
-            let way' : Comes t code labels (many + 8) (now 7 (regs x p v e) flag f (m_of scratch held)) (now 7 (regs (t.vector * suc k) turn.pointer v (x + t.vector + t.vector)) false turn.file (m_of turn.kept turn.left)) =
-            subst (λ y. Comes t code labels (many + 8) (now 7 (regs x p v e) flag f (m_of scratch held)) (now 7 (regs y turn.pointer v (x + t.vector + t.vector)) false turn.file (m_of turn.kept turn.left))) next way in
-            let rest = blocks_left fuel (suc k) turn.pointer v (x + t.vector + t.vector) false turn.file turn.kept turn.left before (omega arith) (omega arith) turn.is_file turn.kept_long turn.left_long front' back' (λ q known. done' q (omega arith)) in
-            longer (many + 8 + (many + 12) * fuel) ((many + 12) * suc fuel) _ before (omega arith) (way_left (many + 8) ((many + 12) * fuel) _ _ before way' rest))
+        let on = goes_on t code labels widths width block laid at.table n at.scratch x at.table turn.pointer v e flag turn.file (m_of turn.kept turn.left) more low in
+        let way = comes-on t code labels many 8 _ _ _ turn.comes on in
+        let next : x + t.vector ≡ t.vector * suc k = omega arith in
+        let way' : Comes t code labels (many + 8) (now 7 (regs x p v e) flag f (m_of scratch held)) (now 7 (regs (t.vector * suc k) turn.pointer v (x + t.vector + t.vector)) false turn.file (m_of turn.kept turn.left)) =
+        subst (λ y. Comes t code labels (many + 8) (now 7 (regs x p v e) flag f (m_of scratch held)) (now 7 (regs y turn.pointer v (x + t.vector + t.vector)) false turn.file (m_of turn.kept turn.left))) next way in
+        let rest = blocks_left fuel (suc k) turn.pointer v (x + t.vector + t.vector) false turn.file turn.kept turn.left before (omega arith) (omega arith) turn.is_file turn.kept_long turn.left_long front' back' (λ q known. done' q (omega arith)) in
+        longer (many + 8 + (many + 12) * fuel) ((many + 12) * suc fuel) _ before (omega arith) (way_left (many + 8) ((many + 12) * fuel) _ _ before way' rest))
         (cases_lt n (x + t.vector + t.vector))
 
     -- a whole row, from cleared registers

@@ -6,7 +6,8 @@ ghost use Rattle.pf_isa.specs.declared.code.Line.{Line};
 
 use crate::items::buffer_offset;
 use crate::lines::{
-    add, back_name, below, block_name, compare, control, copy_name, loop_name, pixels, pointer, scratch, set,
+    add, back_name, below, block_name, compare, control, copy_name, loop_name, pixels, pointer,
+    scratch, set,
 };
 use pf_ints::{Memory, Name};
 use pf_isa::{Code, Control, Isa, Label, LabelList, role};

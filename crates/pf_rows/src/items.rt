@@ -60,11 +60,19 @@ fn item<I: Isa>(
             code.push(Line::Vector(I::store(from, part)))
         }
         Item::SlotLoad { to, slot } => {
-            scratch(code, role::POINTER, slot_offset(I::VECTOR, widths.len(), slot))?;
+            scratch(
+                code,
+                role::POINTER,
+                slot_offset(I::VECTOR, widths.len(), slot),
+            )?;
             code.push(Line::Vector(I::load(to, 0)))
         }
         Item::SlotStore { from, slot } => {
-            scratch(code, role::POINTER, slot_offset(I::VECTOR, widths.len(), slot))?;
+            scratch(
+                code,
+                role::POINTER,
+                slot_offset(I::VECTOR, widths.len(), slot),
+            )?;
             code.push(Line::Vector(I::store(from, 0)))
         }
     }

@@ -4,3 +4,6 @@
 mod copies;
 mod items;
 mod lines;
+mod program;
+
+pub use program::row_program;

@@ -12,7 +12,7 @@ loop-step-preserved g c =
     let inv = c.loop-step.invariant in
     record {
       code = c.in_ok-item.ensures.lines ∙ ap (λ l. l ++ item_lines g.I.Isa.table c.args.widths.now c.args.width c.in-Some.step) inv.code
-      ∙ flat_map_more (λ i. item_lines g.I.Isa.table c.args.widths.now c.args.width i) c.args.code.now c.loop-step.yielded c.in-Some.step;
+          ∙ flat_map_more (λ i. item_lines g.I.Isa.table c.args.widths.now c.args.width i) c.args.code.now c.loop-step.yielded c.in-Some.step;
       known = All-push (λ i. IsOne g.I.Isa.is_op i) c.loop-step.yielded c.in-Some.step inv.known c.in_ok-item.ensures.known;
     }
 
