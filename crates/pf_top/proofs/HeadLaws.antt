@@ -1,36 +1,28 @@
 -- The head of a selected text is one that a text may have.
-use Rattle.std.proofs.Common.{◌≡◌, ◌≢◌, refl, sym, ap, ◌∙◌, ℕ, zero, suc, ◌+◌, ◌*◌, ◌/◌, ◌^◌, ◌<◌, ◌≤◌, pos, Bool, true, false, List, [], ◌∷◌, ◌++◌, length, map, get_or, arith, rules, All}
-use Rattle.std.specs.Prelude.{codes, IsTrue, Result, Ok}
+use Rattle.std.proofs.Common.{◌≡◌, ◌≢◌, refl, sym, ap, ◌∙◌, ℕ, zero, suc, ◌<◌, ◌≤◌, true, false, List, [], ◌∷◌, length, arith, rules, All}
+use Rattle.std.specs.Prelude.{codes, Ok}
 use Rattle.std.specs.List.{AllPairs}
 use Rattle.std.proofs.lemmas.Int.{ints}
 use Rattle.std.proofs.lemmas.List.Elements.{All-from_recursion}
-use Rattle.pf_ints.specs.declared.lane.LaneType.{LaneType}
 use Rattle.pf_ints.specs.Images.{IsPixelType}
 use Rattle.pf_ints.specs.Words.{is_name, is_reserved}
-use Rattle.pf_terms.specs.declared.fault.TermFault.{TermFault}
-use Rattle.pf_terms.specs.declared.kernel.Definition.{Definition}
-use Rattle.pf_terms.specs.declared.kernel.ImageDecl.{ImageDecl}
 use Rattle.pf_terms.specs.declared.names.Names.{Names}
-use Rattle.pf_terms.specs.declared.names.Tap.{Tap}
-use Rattle.pf_terms.specs.declared.op.Op.{Op}
 use Rattle.pf_terms.specs.declared.op.Op.TheVariants.{Min}
-use Rattle.pf_terms.specs.declared.term.Leaf.{Leaf as LeafOf}
 use Rattle.pf_terms.specs.declared.term.Leaf.TheVariants.{Tap as TapLeaf}
 use Rattle.pf_terms.specs.declared.term.Term.{Term}
-use Rattle.pf_terms.specs.declared.term.Term.TheVariants.{Leaf, Node, rolls-Leaf, rolls-Node}
+use Rattle.pf_terms.specs.declared.term.Term.TheVariants.{Leaf, rolls-Leaf, rolls-Node}
 use Rattle.pf_terms.specs.declared.term.Term.TheOpen.{Term-F}
 use Rattle.pf_terms.specs.declared.term.Term.TheOpen.Term-F.{Leaf as LeafLayer, Node as NodeLayer}
 use Rattle.pf_terms.specs.declared.term.Term.TheFolds.{fold-Term, fold-roll-Term}
-use Rattle.pf_terms.specs.Terms.{IsWellTyped, stated_type, stated_step, node_count, nodes_step, depth_of, depth_step, is_well_formed, formed_step, typing, typing_step}
+use Rattle.pf_terms.specs.Terms.{IsWellTyped, stated_type, stated_step, node_count, nodes_step, depth_of, depth_step, formed_step, typing_step}
 use Rattle.pf_terms.specs.TermTexts.{is_named, named_step, is_named_leaf}
-use Rattle.pf_isa.specs.declared.program.Head.{Head}
-use Rattle.pf_isa.specs.Heads.{IsHead, IsDecl, IsTap, IsLifted, names_of}
-use Rattle.pf_rows.specs.Least.{byte_type, least_term, HasTaps}
+use Rattle.pf_isa.specs.Heads.{IsDecl, IsTap, names_of}
+use Rattle.pf_top.specs.Least.{byte_type, least_term, HasTaps}
 use Rattle.pf_top.specs.declared.least.LeastKernel.{LeastKernel}
 use Rattle.pf_top.specs.declared.least.Side.{Side}
 use Rattle.pf_top.specs.declared.least.Side.TheVariants.{First, Second}
 use Rattle.pf_top.specs.LeastKernels.{IsProper}
-use Rattle.pf_top.specs.Selected.{image_decl, images_of, tap_of, taps_of, second_tap, scratch_of, output_of, head_of}
+use Rattle.pf_top.specs.Selected.{image_decl, images_of, tap_of, taps_of, second_tap, head_of}
 
 -- ---- folds of a tap, and of the lesser of two
 abbrev tap_term : ℕ → Term
@@ -116,20 +108,40 @@ two_apart a b ab i (suc (suc j)) d h m = absurd (omega arith)
 
 operands : (name first second : List ℕ) (left right : Side) → HasOperands (record { name = name; first = first; second = second; left = left; right = right })
 operands name first second First First = record {
-  few = omega arith; some = omega arith; second = omega arith; near = All-from_recursion (IsTap 2) (tap_of First ∷ []) (near First, tt);
-  distinct = one_alone (tap_of First); first_named = refl; second_named = refl;
+  few = omega arith;
+  some = omega arith;
+  second = omega arith;
+  near = All-from_recursion (IsTap 2) (tap_of First ∷ []) (near First, tt);
+  distinct = one_alone (tap_of First);
+  first_named = refl;
+  second_named = refl;
 }
 operands name first second Second Second = record {
-  few = omega arith; some = omega arith; second = omega arith; near = All-from_recursion (IsTap 2) (tap_of Second ∷ []) (near Second, tt);
-  distinct = one_alone (tap_of Second); first_named = refl; second_named = refl;
+  few = omega arith;
+  some = omega arith;
+  second = omega arith;
+  near = All-from_recursion (IsTap 2) (tap_of Second ∷ []) (near Second, tt);
+  distinct = one_alone (tap_of Second);
+  first_named = refl;
+  second_named = refl;
 }
 operands name first second First Second = record {
-  few = omega arith; some = omega arith; second = omega arith; near = All-from_recursion (IsTap 2) (tap_of First ∷ tap_of Second ∷ []) (near First, (near Second, tt));
-  distinct = two_apart (tap_of First) (tap_of Second) (λ e. let n : 0 ≡ 1 = ap (λ t. t.image) e in absurd (omega arith)); first_named = refl; second_named = refl;
+  few = omega arith;
+  some = omega arith;
+  second = omega arith;
+  near = All-from_recursion (IsTap 2) (tap_of First ∷ tap_of Second ∷ []) (near First, (near Second, tt));
+  distinct = two_apart (tap_of First) (tap_of Second) (λ e. let n : 0 ≡ 1 = ap (λ t. t.image) e in absurd (omega arith));
+  first_named = refl;
+  second_named = refl;
 }
 operands name first second Second First = record {
-  few = omega arith; some = omega arith; second = omega arith; near = All-from_recursion (IsTap 2) (tap_of Second ∷ tap_of First ∷ []) (near Second, (near First, tt));
-  distinct = two_apart (tap_of Second) (tap_of First) (λ e. let n : 1 ≡ 0 = ap (λ t. t.image) e in absurd (omega arith)); first_named = refl; second_named = refl;
+  few = omega arith;
+  some = omega arith;
+  second = omega arith;
+  near = All-from_recursion (IsTap 2) (tap_of Second ∷ tap_of First ∷ []) (near Second, (near First, tt));
+  distinct = two_apart (tap_of Second) (tap_of First) (λ e. let n : 1 ≡ 0 = ap (λ t. t.image) e in absurd (omega arith));
+  first_named = refl;
+  second_named = refl;
 }
 
 pub head_taps : (k : LeastKernel) → IsProper k → HasTaps (head_of k) 0 (second_tap k.left k.right)
@@ -147,12 +159,15 @@ head_taps k proper =
         out_ty = byte_pixels;
         scratch = omega arith;
         few_lifted = omega arith;
-        lifted = (record {
-          typed = typed 0 (second_tap k.left k.right);
-          ty = stated 0 (second_tap k.left k.right);
-          named = named (names_of (images_of k) (taps_of k.left k.right)) 0 (second_tap k.left k.right) o.first_named o.second_named;
-          depth = omega (arith, depth 0 (second_tap k.left k.right));
-        }, tt);
+        lifted = (
+          record {
+            typed = typed 0 (second_tap k.left k.right);
+            ty = stated 0 (second_tap k.left k.right);
+            named = named (names_of (images_of k) (taps_of k.left k.right)) 0 (second_tap k.left k.right) o.first_named o.second_named;
+            depth = omega (arith, depth 0 (second_tap k.left k.right));
+          },
+          tt,
+        );
         lifted_names = refl;
         nodes = omega (arith, nodes 0 (second_tap k.left k.right));
         distinct_names = three_apart k.first k.second (codes "out") proper.different (not_out k.first proper.first) (not_out k.second proper.second);
@@ -160,6 +175,7 @@ head_taps k proper =
       };
       images = All-from_recursion (λ d. d.ty ≡ byte_type) (images_of k) (refl, (refl, tt));
       out_ty = refl;
+      scratch = refl;
       first_tap = o.some;
       second_tap = o.second;
     }
