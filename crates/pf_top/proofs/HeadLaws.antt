@@ -1,12 +1,14 @@
 -- The head of a selected text is one that a text may have.
-use Rattle.std.proofs.Common.{◌≡◌, ◌≢◌, refl, sym, ap, ◌∙◌, ℕ, zero, suc, ◌<◌, ◌≤◌, true, false, List, [], ◌∷◌, length, arith, rules, All}
+use Rattle.std.proofs.Common.{◌≡◌, ◌≢◌, refl, sym, ap, ◌∙◌, ℕ, zero, suc, ◌<◌, ◌≤◌, ℤ, Bool, true, false, cond, List, [], ◌∷◌, length, map, arith, rules, All}
 use Rattle.std.specs.Prelude.{codes, Ok}
 use Rattle.std.specs.List.{AllPairs}
+use Rattle.std.proofs.lemmas.Bool.Decides.{Decides-eqb, Decides-int_eq}
 use Rattle.std.proofs.lemmas.Int.{ints}
 use Rattle.std.proofs.lemmas.List.Elements.{All-from_recursion}
 use Rattle.pf_ints.specs.Images.{IsPixelType}
 use Rattle.pf_ints.specs.Words.{is_name, is_reserved}
 use Rattle.pf_terms.specs.declared.names.Names.{Names}
+use Rattle.pf_terms.specs.declared.names.Tap.{Tap}
 use Rattle.pf_terms.specs.declared.op.Op.TheVariants.{Min}
 use Rattle.pf_terms.specs.declared.term.Leaf.TheVariants.{Tap as TapLeaf}
 use Rattle.pf_terms.specs.declared.term.Term.{Term}
@@ -15,14 +17,12 @@ use Rattle.pf_terms.specs.declared.term.Term.TheOpen.{Term-F}
 use Rattle.pf_terms.specs.declared.term.Term.TheOpen.Term-F.{Leaf as LeafLayer, Node as NodeLayer}
 use Rattle.pf_terms.specs.declared.term.Term.TheFolds.{fold-Term, fold-roll-Term}
 use Rattle.pf_terms.specs.Terms.{IsWellTyped, stated_type, stated_step, node_count, nodes_step, depth_of, depth_step, formed_step, typing_step}
-use Rattle.pf_terms.specs.TermTexts.{is_named, named_step, is_named_leaf}
-use Rattle.pf_isa.specs.Heads.{IsDecl, IsTap, names_of}
+use Rattle.pf_terms.specs.TermTexts.{is_named, named_step, is_named_leaf, is_named_tap}
+use Rattle.pf_isa.specs.Heads.{IsDecl, IsTap, names_of, image_name}
 use Rattle.pf_top.specs.Least.{byte_type, least_term, HasTaps}
 use Rattle.pf_top.specs.declared.least.LeastKernel.{LeastKernel}
-use Rattle.pf_top.specs.declared.least.Side.{Side}
-use Rattle.pf_top.specs.declared.least.Side.TheVariants.{First, Second}
 use Rattle.pf_top.specs.LeastKernels.{IsProper}
-use Rattle.pf_top.specs.Selected.{image_decl, images_of, tap_of, taps_of, second_tap, head_of}
+use Rattle.pf_top.specs.Selected.{image_decl, images_of, same_tap, taps_of, second_tap, head_of}
 
 -- ---- folds of a tap, and of the lesser of two
 abbrev tap_term : ℕ → Term
@@ -61,10 +61,6 @@ byte_pixels = record { unsigned = refl; narrow = omega arith }
 decl : (name : List ℕ) → is_name name ≡ true → IsDecl (image_decl name)
 decl name h = record { name = search rules; ty = byte_pixels; ordered = omega arith; inside = record { low = omega (arith, ints); high = omega (arith, ints) } }
 
-near : (side : Side) → IsTap 2 (tap_of side)
-near First = record { image = omega arith; left = omega (arith, ints); right = omega (arith, ints); up = omega (arith, ints); down = omega (arith, ints) }
-near Second = record { image = omega arith; left = omega (arith, ints); right = omega (arith, ints); up = omega (arith, ints); down = omega (arith, ints) }
-
 -- no name is `out`
 out_reserved : is_name (codes "out") ≡ false
 unfolding is_name is_reserved
@@ -86,16 +82,6 @@ three_apart a b c ab ac bc (suc (suc i)) (suc zero) d h m = absurd (omega arith)
 three_apart a b c ab ac bc (suc (suc i)) zero d h m = absurd (omega arith)
 three_apart a b c ab ac bc i (suc (suc (suc j))) d h m = absurd (omega arith)
 
--- what depends on which images are the operands
-pub record HasOperands (k : LeastKernel) : Type 0 where
-  pub few : length (taps_of k.left k.right) ≤ 2
-  pub some : 1 ≤ length (taps_of k.left k.right)
-  pub second : second_tap k.left k.right < length (taps_of k.left k.right)
-  pub near : All (IsTap 2) (taps_of k.left k.right)
-  pub distinct : AllPairs (λ t u. t ≢ u) (taps_of k.left k.right)
-  pub first_named : is_named_leaf (names_of (images_of k) (taps_of k.left k.right)) (TapLeaf 0) byte_type ≡ true
-  pub second_named : is_named_leaf (names_of (images_of k) (taps_of k.left k.right)) (TapLeaf (second_tap k.left k.right)) byte_type ≡ true
-
 one_alone : {X : Type 0} (a : X) → AllPairs (λ x y. x ≢ y) (a ∷ [])
 one_alone a i j d h m = absurd (omega arith)
 
@@ -106,47 +92,57 @@ two_apart a b ab (suc i) zero d h m = absurd (omega arith)
 two_apart a b ab (suc i) (suc zero) d h m = absurd (omega arith)
 two_apart a b ab i (suc (suc j)) d h m = absurd (omega arith)
 
-operands : (name first second : List ℕ) (left right : Side) → HasOperands (record { name = name; first = first; second = second; left = left; right = right })
-operands name first second First First = record {
+-- ---- the taps
+itself : (t : Tap) → same_tap t t ≡ true
+itself t = rw ((Decides-eqb t.image t.image).1 refl, (Decides-int_eq t.dx t.dx).1 refl, (Decides-int_eq t.dy t.dy).1 refl) refl
+
+unlike : (t u : Tap) → same_tap t u ≡ false → t ≢ u
+unlike t u other same = let yes : same_tap t u ≡ true = ap (same_tap t) (sym same) ∙ itself t in cc
+
+-- what depends on whether the operands are one tap
+pub record HasOperands (k : LeastKernel) (taps : List Tap) (number : ℕ) : Type 0 where
+  pub few : length taps ≤ 2
+  pub some : 1 ≤ length taps
+  pub second : number < length taps
+  pub near : All (IsTap 2) taps
+  pub distinct : AllPairs (λ t u. t ≢ u) taps
+  pub first_named : is_named_leaf (names_of (images_of k) taps) (TapLeaf 0) byte_type ≡ true
+  pub second_named : is_named_leaf (names_of (images_of k) taps) (TapLeaf number) byte_type ≡ true
+
+named_image : (k : LeastKernel) (image : ℕ) (dx dy : ℤ) → image < 2 → is_named_tap (map image_name (images_of k)) (record { image = image; dx = dx; dy = dy }) byte_type ≡ true
+named_image k zero dx dy known = refl
+named_image k (suc zero) dx dy known = refl
+named_image k (suc (suc image)) dx dy known = absurd (omega arith)
+
+named_tap : (k : LeastKernel) (t : Tap) → IsTap 2 t → is_named_tap (map image_name (images_of k)) t byte_type ≡ true
+named_tap k t near = named_image k t.image t.dx t.dy near.image
+
+operands_of : (k : LeastKernel) → IsProper k → (one : Bool) → same_tap k.left k.right ≡ one → HasOperands k (cond one (k.left ∷ []) (k.left ∷ k.right ∷ [])) (cond one 0 1)
+operands_of k proper true is = record {
   few = omega arith;
   some = omega arith;
   second = omega arith;
-  near = All-from_recursion (IsTap 2) (tap_of First ∷ []) (near First, tt);
-  distinct = one_alone (tap_of First);
-  first_named = refl;
-  second_named = refl;
+  near = All-from_recursion (IsTap 2) (k.left ∷ []) (proper.left, tt);
+  distinct = one_alone k.left;
+  first_named = named_tap k k.left proper.left;
+  second_named = named_tap k k.left proper.left;
 }
-operands name first second Second Second = record {
+operands_of k proper false is = record {
   few = omega arith;
   some = omega arith;
   second = omega arith;
-  near = All-from_recursion (IsTap 2) (tap_of Second ∷ []) (near Second, tt);
-  distinct = one_alone (tap_of Second);
-  first_named = refl;
-  second_named = refl;
+  near = All-from_recursion (IsTap 2) (k.left ∷ k.right ∷ []) (proper.left, (proper.right, tt));
+  distinct = two_apart k.left k.right (unlike k.left k.right is);
+  first_named = named_tap k k.left proper.left;
+  second_named = named_tap k k.right proper.right;
 }
-operands name first second First Second = record {
-  few = omega arith;
-  some = omega arith;
-  second = omega arith;
-  near = All-from_recursion (IsTap 2) (tap_of First ∷ tap_of Second ∷ []) (near First, (near Second, tt));
-  distinct = two_apart (tap_of First) (tap_of Second) (λ e. let n : 0 ≡ 1 = ap (λ t. t.image) e in absurd (omega arith));
-  first_named = refl;
-  second_named = refl;
-}
-operands name first second Second First = record {
-  few = omega arith;
-  some = omega arith;
-  second = omega arith;
-  near = All-from_recursion (IsTap 2) (tap_of Second ∷ tap_of First ∷ []) (near Second, (near First, tt));
-  distinct = two_apart (tap_of Second) (tap_of First) (λ e. let n : 1 ≡ 0 = ap (λ t. t.image) e in absurd (omega arith));
-  first_named = refl;
-  second_named = refl;
-}
+
+operands : (k : LeastKernel) → IsProper k → HasOperands k (taps_of k.left k.right) (second_tap k.left k.right)
+operands k proper = operands_of k proper (same_tap k.left k.right) refl
 
 pub head_taps : (k : LeastKernel) → IsProper k → HasTaps (head_of k) 0 (second_tap k.left k.right)
 head_taps k proper =
-    let o = operands k.name k.first k.second k.left k.right in
+    let o = operands k proper in
     let few = o.few in
     record {
       head = record {

@@ -1,5 +1,6 @@
 pub mod Stores
 pub mod Readings
+pub mod Offsets
 pub mod LeastLaws
 pub mod Selecting
 pub mod SixWords

@@ -1,5 +1,6 @@
 -- The texts that are selected for a kernel.
-use Rattle.std.specs.Prelude.{ℕ, pos, List, [], ◌∷◌, length, codes}
+use Rattle.std.specs.Prelude.{ℕ, List, [], ◌∷◌, length, codes, Bool, ◌&&◌, ◌==◌, if◌then◌else◌}
+use Rattle.std.specs.Ordering.{int_eq}
 use Rattle.pf_terms.specs.declared.kernel.Definition.{Definition}
 use Rattle.pf_terms.specs.declared.kernel.ImageDecl.{ImageDecl}
 use Rattle.pf_terms.specs.declared.names.Tap.{Tap}
@@ -8,8 +9,6 @@ use Rattle.pf_isa.specs.declared.program.Head.{Head}
 use Rattle.pf_rows.specs.RowCode.{scratch_bytes}
 use Rattle.pf_top.specs.Least.{byte_type, least_term}
 use Rattle.pf_top.specs.declared.least.LeastKernel.{LeastKernel}
-use Rattle.pf_top.specs.declared.least.Side.{Side}
-use Rattle.pf_top.specs.declared.least.Side.TheVariants.{First, Second}
 use Rattle.pf_top.specs.Headline.{Headline}
 
 -- a u8 image of all values
@@ -19,23 +18,16 @@ image_decl name = record { name = name; ty = byte_type; lo = 0; hi = 255 }
 abbrev pub images_of : LeastKernel → List ImageDecl
 images_of k = image_decl k.first ∷ image_decl k.second ∷ []
 
--- one of the two images at the output's own pixel
-abbrev pub tap_of : Side → Tap
-tap_of First = record { image = 0; dx = pos 0; dy = pos 0 }
-tap_of Second = record { image = 1; dx = pos 0; dy = pos 0 }
+-- the same pixel
+abbrev pub same_tap : Tap → Tap → Bool
+same_tap t u = t.image == u.image && int_eq t.dx u.dx && int_eq t.dy u.dy
 
 -- the taps of two operands, each once, in the order of their first use, and the number of the second operand's
-abbrev pub taps_of : Side → Side → List Tap
-taps_of First First = tap_of First ∷ []
-taps_of First Second = tap_of First ∷ tap_of Second ∷ []
-taps_of Second First = tap_of Second ∷ tap_of First ∷ []
-taps_of Second Second = tap_of Second ∷ []
+abbrev pub taps_of : Tap → Tap → List Tap
+taps_of left right = if same_tap left right then left ∷ [] else left ∷ right ∷ []
 
-abbrev pub second_tap : Side → Side → ℕ
-second_tap First First = 0
-second_tap First Second = 1
-second_tap Second First = 1
-second_tap Second Second = 0
+abbrev pub second_tap : Tap → Tap → ℕ
+second_tap left right = if same_tap left right then 0 else 1
 
 -- what the kernel says
 abbrev pub source_of : LeastKernel → Source

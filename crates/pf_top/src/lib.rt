@@ -17,7 +17,7 @@ mod top;
 mod verdict;
 
 pub use files::{Files, FilesFault};
-pub use least::{LeastKernel, Side};
+pub use least::LeastKernel;
 pub use mem_files::{FileMap, MemFiles};
 pub use mem_sink::MemSink;
 pub use real_files::RealFiles;

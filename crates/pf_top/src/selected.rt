@@ -2,9 +2,9 @@ ghost use Rattle.std.specs.Prelude.{◌≡◌, ◌+◌, ◌*◌, ◌/◌, ◌≤
 ghost use Rattle.pf_rows.specs.RowCode.{scratch_bytes};
 ghost use Rattle.pf_top.specs.Least.{byte_type, least_term};
 ghost use Rattle.pf_top.specs.LeastKernels.{IsProper};
-ghost use Rattle.pf_top.specs.Selected.{IsSelected, image_decl, images_of, tap_of, taps_of, second_tap, output_of, head_of};
+ghost use Rattle.pf_top.specs.Selected.{IsSelected, image_decl, images_of, same_tap, taps_of, second_tap, output_of, head_of};
 
-use crate::least::{LeastKernel, Side};
+use crate::least::LeastKernel;
 use crate::least_program::least_program;
 use pf_ints::{Bits, LaneType, Memory, Name, Sequence};
 use pf_isa::{Head, write_text};
@@ -39,45 +39,28 @@ fn images_of(alloc: Global, kernel: &LeastKernel) -> Result<ImageList, Memory>
     Ok(images)
 }
 
-fn tap_of(side: Side) -> Tap
-    ensures { result ≡ tap_of side }
+fn is_one_tap(left: Tap, right: Tap) -> bool
+    ensures { result ≡ same_tap left right }
 {
-    let image = match side {
-        Side::First => 0,
-        Side::Second => 1,
-    };
-    Tap {
-        image,
-        dx: 0,
-        dy: 0,
-    }
+    left.image == right.image && left.dx == right.dx && left.dy == right.dy
 }
 
-fn is_one_tap(left: Side, right: Side) -> bool
-    ensures { result ≡ (second_tap left right == 0) }
-{
-    matches!(
-        (left, right),
-        (Side::First, Side::First) | (Side::Second, Side::Second)
-    )
-}
-
-fn second_tap(left: Side, right: Side) -> u8
+fn second_tap(left: Tap, right: Tap) -> u8
     ensures { result ≡ second_tap left right }
 {
     if is_one_tap(left, right) { 0 } else { 1 }
 }
 
 /// The taps, each once, in the order of their first use.
-fn taps_of(alloc: Global, left: Side, right: Side) -> Result<TapList, Memory>
+fn taps_of(alloc: Global, left: Tap, right: Tap) -> Result<TapList, Memory>
     ensures { IfOk result (λ taps. taps ≡ taps_of left right) }
 {
     let mut taps = Sequence::new(alloc);
-    taps.push(tap_of(left))?;
+    taps.push(left)?;
     if is_one_tap(left, right) {
         return Ok(taps);
     }
-    taps.push(tap_of(right))?;
+    taps.push(right)?;
     Ok(taps)
 }
 

@@ -138,6 +138,32 @@ fn judges_each_file_before_the_next(rt: HostRuntime) -> Result<(), Fail> {
 }
 
 #[test]
+fn takes_pixels_at_printed_offsets(rt: HostRuntime) -> Result<(), Fail> {
+    let case = Case {
+        kernel: b"kernel m\nimage a u8\nimage b u8\nout u8 = min(b[-64,10], a[7,-1])\n",
+        ..WELL
+    };
+    try_case(&rt, case)?;
+    let others: [&[u8]; 4] = [
+        b"kernel m\nimage a u8\nimage b u8\nout u8 = min(a[65,0], b[0,0])\n",
+        b"kernel m\nimage a u8\nimage b u8\nout u8 = min(a[0,0], b[0,-65])\n",
+        b"kernel m\nimage a u8\nimage b u8\nout u8 = min(a[-0,0], b[0,0])\n",
+        b"kernel m\nimage a u8\nimage b u8\nout u8 = min(a[0,01], b[0,0])\n",
+    ];
+    for kernel in others {
+        let case = Case {
+            kernel,
+            status: 8,
+            put: b"not built: m.kern\n",
+            calls: 1,
+            ..WELL
+        };
+        try_case(&rt, case)?;
+    }
+    Ok(())
+}
+
+#[test]
 fn tells_each_call_that_failed(rt: HostRuntime) -> Result<(), Fail> {
     let lines: [&[u8]; 4] = [
         b"read failed: m.kern\n",
