@@ -131,9 +131,13 @@ plain_no_slash : (cs : List ℕ) → AllByRecursion IsPlain cs → list_all no_s
 plain_no_slash [] h = refl
 plain_no_slash (c ∷ cs) h = rw (ne_eqb c 47 h.0.2) (plain_no_slash cs h.1)
 
+no_return : (cs : List ℕ) → is_inner cs ≡ true → list_all (λ c. not (c == 13)) cs ≡ true
+no_return cs h = all-weaker inner (λ c. not (c == 13)) (λ c k. (and_parts (not (c == 10)) (not (c == 13)) k).1) cs h
+
 line_says : {I O : Type 0} (t : Table O) (line : Line I O) → IsInstruction (line_text t line) → Says t (line_text t line) (Does line)
 line_says t line h =
-    ap tight (uncommented-no_slash (line_text t line) (plain_no_slash (line_text t line) (recursion_from_All IsPlain (line_text t line) h.plain)))
+    let plain = recursion_from_All IsPlain (line_text t line) h.plain in
+    (no_return (line_text t line) (plain_inner (line_text t line) plain), ap tight (uncommented-no_slash (line_text t line) (plain_no_slash (line_text t line) plain)))
 
 label_solid : (name : List ℕ) → is_name name ≡ true → list_all solid (label_text name) ≡ true
 label_solid name h = all-append solid name (codes ":") (is_solid_name name h) refl
@@ -144,7 +148,8 @@ label_says I t name h =
     let is : is_name name ≡ true = search rules in
     let solid_label = label_solid name is in
     let whole : uncommented (label_text name) ≡ label_text name = uncommented-no_slash (label_text name) (all-weaker solid no_slash solid_no_slash (label_text name) solid_label) in
-    (h, ap tight whole ∙ tight-solid true (label_text name) solid_label)
+    let inside : is_inner (label_text name) ≡ true = all-append inner name (codes ":") (inner_name name is) refl in
+    (no_return (label_text name) inside, (h, ap tight whole ∙ tight-solid true (label_text name) solid_label))
 
 labels_say : {O : Type 0} (I : Type 0) (t : Table O) (ls : List Label) → AreNames ls → AllZip (Says {I = I} t) (label_lines ls) (named ls)
 labels_say I t [] h = tt
