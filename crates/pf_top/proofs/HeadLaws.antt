@@ -116,20 +116,40 @@ two_apart a b ab i (suc (suc j)) d h m = absurd (omega arith)
 
 operands : (name first second : List ℕ) (left right : Side) → HasOperands (record { name = name; first = first; second = second; left = left; right = right })
 operands name first second First First = record {
-  few = omega arith; some = omega arith; second = omega arith; near = All-from_recursion (IsTap 2) (tap_of First ∷ []) (near First, tt);
-  distinct = one_alone (tap_of First); first_named = refl; second_named = refl;
+  few = omega arith;
+  some = omega arith;
+  second = omega arith;
+  near = All-from_recursion (IsTap 2) (tap_of First ∷ []) (near First, tt);
+  distinct = one_alone (tap_of First);
+  first_named = refl;
+  second_named = refl;
 }
 operands name first second Second Second = record {
-  few = omega arith; some = omega arith; second = omega arith; near = All-from_recursion (IsTap 2) (tap_of Second ∷ []) (near Second, tt);
-  distinct = one_alone (tap_of Second); first_named = refl; second_named = refl;
+  few = omega arith;
+  some = omega arith;
+  second = omega arith;
+  near = All-from_recursion (IsTap 2) (tap_of Second ∷ []) (near Second, tt);
+  distinct = one_alone (tap_of Second);
+  first_named = refl;
+  second_named = refl;
 }
 operands name first second First Second = record {
-  few = omega arith; some = omega arith; second = omega arith; near = All-from_recursion (IsTap 2) (tap_of First ∷ tap_of Second ∷ []) (near First, (near Second, tt));
-  distinct = two_apart (tap_of First) (tap_of Second) (λ e. let n : 0 ≡ 1 = ap (λ t. t.image) e in absurd (omega arith)); first_named = refl; second_named = refl;
+  few = omega arith;
+  some = omega arith;
+  second = omega arith;
+  near = All-from_recursion (IsTap 2) (tap_of First ∷ tap_of Second ∷ []) (near First, (near Second, tt));
+  distinct = two_apart (tap_of First) (tap_of Second) (λ e. let n : 0 ≡ 1 = ap (λ t. t.image) e in absurd (omega arith));
+  first_named = refl;
+  second_named = refl;
 }
 operands name first second Second First = record {
-  few = omega arith; some = omega arith; second = omega arith; near = All-from_recursion (IsTap 2) (tap_of Second ∷ tap_of First ∷ []) (near Second, (near First, tt));
-  distinct = two_apart (tap_of Second) (tap_of First) (λ e. let n : 1 ≡ 0 = ap (λ t. t.image) e in absurd (omega arith)); first_named = refl; second_named = refl;
+  few = omega arith;
+  some = omega arith;
+  second = omega arith;
+  near = All-from_recursion (IsTap 2) (tap_of Second ∷ tap_of First ∷ []) (near Second, (near First, tt));
+  distinct = two_apart (tap_of Second) (tap_of First) (λ e. let n : 1 ≡ 0 = ap (λ t. t.image) e in absurd (omega arith));
+  first_named = refl;
+  second_named = refl;
 }
 
 pub head_taps : (k : LeastKernel) → IsProper k → HasTaps (head_of k) 0 (second_tap k.left k.right)
@@ -147,12 +167,15 @@ head_taps k proper =
         out_ty = byte_pixels;
         scratch = omega arith;
         few_lifted = omega arith;
-        lifted = (record {
-          typed = typed 0 (second_tap k.left k.right);
-          ty = stated 0 (second_tap k.left k.right);
-          named = named (names_of (images_of k) (taps_of k.left k.right)) 0 (second_tap k.left k.right) o.first_named o.second_named;
-          depth = omega (arith, depth 0 (second_tap k.left k.right));
-        }, tt);
+        lifted = (
+          record {
+            typed = typed 0 (second_tap k.left k.right);
+            ty = stated 0 (second_tap k.left k.right);
+            named = named (names_of (images_of k) (taps_of k.left k.right)) 0 (second_tap k.left k.right) o.first_named o.second_named;
+            depth = omega (arith, depth 0 (second_tap k.left k.right));
+          },
+          tt,
+        );
         lifted_names = refl;
         nodes = omega (arith, nodes 0 (second_tap k.left k.right));
         distinct_names = three_apart k.first k.second (codes "out") proper.different (not_out k.first proper.first) (not_out k.second proper.second);
