@@ -1,5 +1,5 @@
 -- A set of vector instructions as one table, and the laws that every such set meets.
-use Rattle.std.specs.Prelude.{◌≡◌, ◌≢◌, ℕ, ◌+◌, ◌*◌, ◌<◌, ◌≤◌, List, [], ◌∷◌, length, map, Bool, true, false, IsTrue, Option, Some, None, MatchOption, All, Contains}
+use Rattle.std.specs.Prelude.{◌≡◌, ℕ, ◌+◌, ◌*◌, ◌<◌, ◌≤◌, List, [], ◌∷◌, length, map, Bool, true, false, IsTrue, Option, Some, None, MatchOption, All, Contains}
 use Rattle.std.specs.Option.{option_map}
 use Rattle.pf_ints.specs.declared.target.Target.{Target}
 use Rattle.pf_isa.specs.declared.registers.Reg.{Reg}
