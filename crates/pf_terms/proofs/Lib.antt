@@ -7,3 +7,4 @@ pub mod Ranges
 pub mod NodeRanges
 pub mod TermRanges
 pub mod Evaluating
+pub mod Lexing

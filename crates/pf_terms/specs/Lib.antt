@@ -4,3 +4,4 @@ pub mod Kernels
 pub mod TermTexts
 pub mod Pieces
 pub mod Small
+pub mod Tokens

@@ -3,6 +3,7 @@
 
 mod fault;
 mod kernel;
+mod lexer;
 mod names;
 mod op;
 mod print;
@@ -10,17 +11,20 @@ mod row;
 mod term;
 #[cfg(test)]
 mod tests;
+mod token;
 mod types;
 mod values;
 mod weights;
 
 pub use fault::TermFault;
 pub use kernel::{Definition, Definitions, ImageDecl, ImageList};
+pub use lexer::{tokens, type_of_word};
 pub use names::{DefName, DefNames, ImageName, ImageNames, Names, Tap, TapList};
 pub use op::Op;
 pub use print::{print_term, write_term, write_type};
 pub use row::{Amounts, Gives, Operands, Spelling};
 pub use term::{Env, Leaf, Term, Terms};
+pub use token::{Kind, LineWord, Token};
 pub use types::type_of;
 pub use values::value;
 pub use weights::weight;
