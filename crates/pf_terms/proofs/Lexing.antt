@@ -1,5 +1,5 @@
 -- How tokens are found from the front.
-use Rattle.std.proofs.Common.{◌≡◌, ◌≢◌, refl, sym, ap, ◌∙◌, subst, ℕ, zero, suc, ◌+◌, ◌-◌, ◌≤◌, ◌<◌, ◌⊎◌, inl, inr, ℤ, pos, lit<, Bool, true, false, ◌&&◌, List, [], ◌∷◌, ◌++◌, length, get_or, take, drop, drop-cons, append_assoc, append-nil, arith, ◌*◌, ◌^◌, add-one, pow-suc}
+use Rattle.std.proofs.Common.{◌≡◌, ◌≢◌, refl, sym, ap, ◌∙◌, subst, ℕ, zero, suc, ◌+◌, ◌-◌, ◌≤◌, ◌<◌, inl, inr, ℤ, pos, lit<, Bool, true, false, ◌&&◌, List, [], ◌∷◌, ◌++◌, length, get_or, take, drop, drop-cons, arith, ◌*◌, ◌^◌, add-one, pow-suc}
 use native.Mathlib.Nat.{pow-le-pow_right}
 use Rattle.std.specs.Prelude.{All, codes, decimal, nat_le, not, Option, Some, None, IfSome, IsSome, MatchOption, bytes_eq}
 use Rattle.pf_ints.specs.Lanes.{lane_width}
@@ -22,7 +22,7 @@ use Rattle.pf_terms.specs.declared.token.Kind.TheVariants.{Name, TypeWord, Numbe
 use Rattle.pf_terms.specs.declared.token.LineWord.{LineWord}
 use Rattle.pf_terms.specs.declared.token.Token.{Token}
 use Rattle.pf_terms.specs.TermTexts.{type_word, sign_letter, op_word}
-use Rattle.pf_terms.specs.Tokens.{is_blank, digits_behind, sign_text, IsNumber, IsCalledBy, IsWordOf, IsRun, line_word, IsNoRun, IsNoDigit, IsShort, IsFrontRun, IsFrontSign, IsFrontByte, IsFront, IsSolid, IsLexed, ended, blank, token}
+use Rattle.pf_terms.specs.Tokens.{is_blank, digits_behind, sign_text, IsNumber, IsCalledBy, IsWordOf, line_word, IsNoRun, IsNoDigit, IsShort, IsFrontSign, IsFrontByte, IsFront, IsSolid, IsLexed, ended, blank, token}
 
 -- what holds at each place holds of what is taken
 pub all_taken : (p : ℕ → Bool) (xs : List ℕ) (n : ℕ) → ((k : ℕ) → k < n → p (get_or xs k 0) ≡ true) → n ≤ length xs → All (λ b. p b ≡ true) (take n xs)

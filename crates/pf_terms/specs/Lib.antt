@@ -5,3 +5,6 @@ pub mod TermTexts
 pub mod Pieces
 pub mod Small
 pub mod Tokens
+pub mod Grammar
+pub mod Parsing
+pub mod Limits

@@ -1,6 +1,5 @@
 -- The tokens of a line of text.
-use Rattle.std.specs.Prelude.{◌≡◌, ℕ, ◌+◌, ◌-◌, ◌*◌, ◌≤◌, Bool, true, false, ◌&&◌, ◌||◌, ◌==◌, not, ℤ, pos, List, [], ◌∷◌, ◌++◌, ◌⊎◌, length, take, drop, All, codes}
-use Rattle.pf_ints.specs.declared.lane.LaneType.{LaneType}
+use Rattle.std.specs.Prelude.{◌≡◌, ℕ, ◌+◌, ◌-◌, ◌*◌, ◌≤◌, Bool, true, false, ◌||◌, ◌==◌, ℤ, pos, List, [], ◌∷◌, ◌++◌, ◌⊎◌, length, take, drop, All, codes}
 use Rattle.pf_ints.specs.Words.{is_digit, is_name_byte, is_name}
 use Rattle.pf_terms.specs.declared.op.Op.{Op}
 use Rattle.pf_terms.specs.declared.row.Spelling.{Spelling}

@@ -1,4 +1,4 @@
-use Rattle.std.proofs.Common.{rules, arith, ◌≡◌, ap, ◌∙◌, length, sym}
+use Rattle.std.proofs.Common.{arith, ◌≡◌, ap, ◌∙◌, sym}
 use Rattle.std.proofs.lemmas.List.{drop_all}
 use Rattle.pf_terms.specs.Tokens.{digits_behind}
 use Rattle.pf_terms.proofs.Lexing.{number_value}

@@ -1,4 +1,4 @@
-use Rattle.std.proofs.Common.{rules, arith, ◌≡◌}
+use Rattle.std.proofs.Common.{rules, arith}
 use Rattle.std.proofs.lemmas.Int.{to_z-of_z}
 use Rattle.pf_terms.proofs.Lexing.{not_digits, number_is}
 use Rattle.pf_terms.proofs.lexer.number_of.Goals as goal

@@ -1,4 +1,4 @@
-use Rattle.std.proofs.Common.{arith, ◌<◌}
+use Rattle.std.proofs.Common.{arith}
 use Rattle.pf_terms.proofs.Lexing.{call_place}
 use Rattle.pf_terms.proofs.lexer.op_of_word.Goals as goal
 

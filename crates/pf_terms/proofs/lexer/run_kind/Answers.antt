@@ -1,4 +1,4 @@
-use Rattle.std.proofs.Common.{◌≡◌, refl, true, false}
+use Rattle.std.proofs.Common.{◌≡◌, refl, false}
 use Rattle.std.specs.Prelude.{codes}
 use Rattle.pf_ints.specs.Words.{is_name}
 use Rattle.pf_terms.proofs.Lexing.{other_run, not_word}
