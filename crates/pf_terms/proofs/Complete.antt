@@ -1,6 +1,6 @@
 -- What is spelled is read from the left.
 use Rattle.std.proofs.Common.{◌≡◌, refl, sym, ap, ◌∙◌, Bool, true, List, [], ◌∷◌, ◌++◌, append_assoc, append-nil, ℤ}
-use Rattle.std.specs.Prelude.{Some}
+use Rattle.std.specs.Prelude.{None, if◌then◌else◌, Some}
 use Rattle.pf_terms.specs.declared.op.Op.{Op}
 use Rattle.pf_terms.specs.declared.draft.Draft.{Draft}
 use Rattle.pf_terms.specs.declared.symbol.Symbol.{Symbol}
@@ -186,8 +186,8 @@ amount_closed ks rest n s ih = inside ks (Comma ∷ Number n ∷ Close ∷ []) r
 -- a call, by what stands in its brackets
 called_by : (o : Op) (shape : CallShape) (inner : List Symbol) (body rest : List Kind) (s : List Symbol) → call_shape o ≡ shape → call_then shape s ≡ Some inner → is_read body inner ≡ is_read rest s →
     is_read (Word o ∷ Open ∷ body) (Atom ∷ s) ≡ is_read rest s
-called_by o shape inner body rest s is then reads =
-    ap (λ h. some_passes (is_read (Open ∷ body)) (opened (call_then h s))) is ∙ ap (λ i. some_passes (is_read (Open ∷ body)) (opened i)) then ∙ reads
+called_by o shape inner body rest s is brings reads =
+    ap (λ h. some_passes (is_read (Open ∷ body)) (opened (call_then h s))) is ∙ ap (λ i. some_passes (is_read (Open ∷ body)) (opened i)) brings ∙ reads
 
 compared : (c : Kind) (o : Op) (swap : Bool) → IsComparison c o swap → (ks : List Kind) (s : List Symbol) → IsAfterSum (c ∷ ks) × (is_read (c ∷ ks) (Shifts ∷ Comparison ∷ s) ≡ is_read ks s)
 compared _ _ _ greater ks s = (tt, refl)
@@ -204,8 +204,8 @@ chosen_closed c o swap cs bs xs ys rest s is ih jh kh lh =
     ∙ two_closed xs ys rest s kh lh
 
 pub reads : (r : Rank) (ks : List Kind) (e : Draft) → Spells r ks e → Reads r ks
-reads _ _ _ (number n t) = λ s rest h. refl
-reads _ _ _ (negated n t) = λ s rest h. refl
+reads _ _ _ (number n t i) = λ s rest h. ap (λ b. some_passes (is_read rest) (if b then Some s else None)) i
+reads _ _ _ (negated n t i) = λ s rest h. ap (λ b. some_passes (is_read rest) (if b then Some s else None)) i
 reads _ _ _ (named w) = λ s rest h. skip_offsets rest s h
 reads _ _ _ (placed w xs ys dx dy a b) = λ s rest h.
     ap (λ l. is_read l (Integer ∷ CommaSymbol ∷ Integer ∷ CloseSquareSymbol ∷ s)) (append_assoc xs (Comma ∷ (ys ++ CloseSquare ∷ [])) rest)

@@ -1,6 +1,6 @@
 -- What is read from the left is spelled.
 use Rattle.std.proofs.Common.{◌≡◌, refl, sym, ap, ◌∙◌, subst, ℕ, Bool, true, false, List, [], ◌∷◌, ◌++◌, append_assoc, append-nil, ℤ}
-use Rattle.std.specs.Prelude.{Option, Some, None}
+use Rattle.std.specs.Prelude.{neg_ℤ, if◌then◌else◌, Option, Some, None}
 use Rattle.pf_ints.specs.declared.lane.LaneType.{LaneType}
 use Rattle.pf_terms.specs.declared.op.Op.{Op}
 use Rattle.pf_terms.specs.declared.draft.Draft.{Draft}
@@ -10,6 +10,7 @@ use Rattle.pf_terms.specs.declared.symbol.CallShape.{CallShape}
 use Rattle.pf_terms.specs.declared.symbol.CallShape.TheVariants.{One, Two, OneAndAmount, TwoAndAmount, TypeAndOne, NoCall}
 use Rattle.pf_terms.specs.declared.token.Kind.{Kind}
 use Rattle.pf_terms.specs.declared.token.Kind.TheVariants.{Name, TypeWord, Number, Typed, Word, Choose, Open, Close, OpenSquare, CloseSquare, Comma, Plus, Minus, Times, ShiftLeft, ShiftRight, Less, Greater, Same}
+use Rattle.pf_terms.specs.Terms.{is_in}
 use Rattle.pf_terms.specs.Grammar.{call_shape, Atoms, Products, Sums, Whole, IsInteger, plain, minus, IsComparison, greater, less, same, Spells, number, negated, named, placed, bracketed, cast, one, two, one_by, two_by, typed, chosen, alone, product, term, sum, difference, unshifted, left, right, IsSpelled}
 use Rattle.pf_terms.specs.Parsing.{step, atom_step, is_read, is_done, some_passes, whole_then, call_then, opened, choice_then}
 
@@ -22,7 +23,7 @@ Brings Shifts ks = (p : List Kind) (a : Draft) → Spells Whole p a → (e : Dra
 Brings Offsets ks = (w : List ℕ) → (e : Draft) × Spells Atoms (Name w ∷ ks) e
 Brings Integer ks = (n : ℤ) × IsInteger ks n
 Brings Digits ks = (n : ℤ) × (ks ≡ Number n ∷ [])
-Brings Negated ks = (n : ℤ) × (t : LaneType) × (ks ≡ Typed n t ∷ [])
+Brings Negated ks = (n : ℤ) × (t : LaneType) × (ks ≡ Typed n t ∷ []) × (is_in t (neg_ℤ n) ≡ true)
 Brings TypeName ks = (t : LaneType) × (ks ≡ TypeWord t ∷ [])
 Brings Comparison ks = (c : Kind) × (o : Op) × (swap : Bool) × IsComparison c o swap × (ks ≡ c ∷ [])
 Brings OpenSymbol ks = ks ≡ Open ∷ []
@@ -206,10 +207,17 @@ word_atom NoCall o s t ks is e h = absurd (cc)
 negated_atom : (s : List Symbol) (ks : List Kind) → Bring (Negated ∷ s) ks → Bring (Atom ∷ s) (Minus ∷ ks)
 negated_atom s ks h =
     let is = h.3.2 in
-    atom_is s (Minus ∷ Typed h.3.0 h.3.1 ∷ []) h.1 (Minus ∷ ks) _ (negated h.3.0 h.3.1) (ap (λ l. Minus ∷ l) (first_sign (Typed h.3.0 h.3.1) ks h.0 h.1 h.2 is)) h.4
+    atom_is s (Minus ∷ Typed h.3.0 h.3.1 ∷ []) h.1 (Minus ∷ ks) _ (negated h.3.0 h.3.1 h.3.3) (ap (λ l. Minus ∷ l) (first_sign (Typed h.3.0 h.3.1) ks h.0 h.1 h.2 is)) h.4
+
+-- what a test lets through
+if_some : (b : Bool) (s t : List Symbol) → (if b then Some s else None) ≡ Some t → (b ≡ true) × (s ≡ t)
+if_some true s t e = (refl, cc)
+if_some false s t e = absurd (cc)
 
 atom_stepped : (k : Kind) (s t : List Symbol) (ks : List Kind) → atom_step k s ≡ Some t → Bring t ks → Bring (Atom ∷ s) (k ∷ ks)
-atom_stepped (Typed n t) s u ks e h = atom_is s (Typed n t ∷ []) ks (Typed n t ∷ ks) _ (number n t) refl (into s u ks e h)
+atom_stepped (Typed n t) s u ks e h =
+    let both = if_some (is_in t n) s u e in
+    atom_is s (Typed n t ∷ []) ks (Typed n t ∷ ks) _ (number n t both.0) refl (subst (λ z. Bring z ks) (sym both.1) h)
 atom_stepped Minus s u ks e h = negated_atom s ks (into (Negated ∷ s) u ks e h)
 atom_stepped (Name w) s u ks e h =
     let g = into (Offsets ∷ s) u ks e h in
@@ -302,7 +310,9 @@ digits_stepped (Number n) s t ks e h = (Number n ∷ [], ks, refl, (n, refl), in
 digits_stepped _ s t ks e h = absurd (cc)
 
 negated_stepped : (k : Kind) (s t : List Symbol) (ks : List Kind) → step (Negated ∷ s) k ≡ Some t → Bring t ks → Bring (Negated ∷ s) (k ∷ ks)
-negated_stepped (Typed n u) s t ks e h = (Typed n u ∷ [], ks, refl, (n, u, refl), into s t ks e h)
+negated_stepped (Typed n u) s t ks e h =
+    let both = if_some (is_in u (neg_ℤ n)) s t e in
+    (Typed n u ∷ [], ks, refl, (n, u, refl, both.0), subst (λ z. Bring z ks) (sym both.1) h)
 negated_stepped _ s t ks e h = absurd (cc)
 
 type_stepped : (k : Kind) (s t : List Symbol) (ks : List Kind) → step (TypeName ∷ s) k ≡ Some t → Bring t ks → Bring (TypeName ∷ s) (k ∷ ks)

@@ -1,6 +1,7 @@
 -- Which tokens spell an expression.
 use Rattle.std.specs.Prelude.{◌≡◌, ℕ, ℤ, pos, neg_ℤ, Bool, true, false, List, [], ◌∷◌, ◌++◌, Some, None}
 use Rattle.pf_ints.specs.declared.lane.LaneType.{LaneType}
+use Rattle.pf_terms.specs.Terms.{is_in}
 use Rattle.pf_terms.specs.declared.op.Op.{Op}
 use Rattle.pf_terms.specs.declared.op.Op.TheVariants.{Cast, Add, Sub, Mul, SelectGreater, SelectEqual, Min, Max, Abs, WideningAdd, WideningSub, WideningMul, ExtendingAdd, HalvingAdd, RoundingHalvingAdd, HalvingSub, SaturatingAdd, SaturatingSub, SaturatingCast, Absd, RoundingShr, MulShr, RoundingMulShr}
 use Rattle.pf_terms.specs.declared.op.Op.TheVariants.{ShiftLeft as ShiftLeftBy, ShiftRight as ShiftRightBy}
@@ -63,8 +64,8 @@ over o args = Node o false None (pos 0) args
 
 -- the tokens spell the expression
 pub data Spells : Rank → List Kind → Draft → Type 0 where
-  number : (n : ℤ) (t : LaneType) → Spells Atoms (Typed n t ∷ []) (NumberOf n t)
-  negated : (n : ℤ) (t : LaneType) → Spells Atoms (Minus ∷ Typed n t ∷ []) (NumberOf (neg_ℤ n) t)
+  number : (n : ℤ) (t : LaneType) → is_in t n ≡ true → Spells Atoms (Typed n t ∷ []) (NumberOf n t)
+  negated : (n : ℤ) (t : LaneType) → is_in t (neg_ℤ n) ≡ true → Spells Atoms (Minus ∷ Typed n t ∷ []) (NumberOf (neg_ℤ n) t)
   named : (s : List ℕ) → Spells Atoms (Name s ∷ []) (Named s)
   placed : (s : List ℕ) (xs ys : List Kind) (dx dy : ℤ) → IsInteger xs dx → IsInteger ys dy →
       Spells Atoms (Name s ∷ OpenSquare ∷ (xs ++ Comma ∷ (ys ++ CloseSquare ∷ []))) (Placed s dx dy)

@@ -1,5 +1,5 @@
 -- An expression from the left: what is to come after each token.
-use Rattle.std.specs.Prelude.{◌≡◌, ℕ, Bool, true, false, ◌&&◌, List, [], ◌∷◌, Option, Some, None, length, take, map, slice_get, ◌-◌, ◌+◌, ◌<◌, ◌≤◌}
+use Rattle.std.specs.Prelude.{if◌then◌else◌, neg_ℤ, ◌≡◌, ℕ, Bool, true, false, ◌&&◌, List, [], ◌∷◌, Option, Some, None, length, take, map, slice_get, ◌-◌, ◌+◌, ◌<◌, ◌≤◌}
 use Rattle.pf_terms.specs.declared.symbol.Symbol.{Symbol}
 use Rattle.pf_terms.specs.declared.symbol.Symbol.TheVariants.{Atom, Factors, Summands, Shifts, Offsets, Integer, Digits, Negated, TypeName, Comparison, Open as OpenSymbol, Close as CloseSymbol, CloseSquare as CloseSquareSymbol, Comma as CommaSymbol}
 use Rattle.pf_terms.specs.declared.symbol.CallShape.{CallShape}
@@ -7,6 +7,7 @@ use Rattle.pf_terms.specs.declared.symbol.CallShape.TheVariants.{One, Two, OneAn
 use Rattle.pf_terms.specs.declared.token.Kind.{Kind}
 use Rattle.pf_terms.specs.declared.token.Kind.TheVariants.{Name, TypeWord, Number, Typed, Word, Choose, Open, Close, OpenSquare, CloseSquare, Comma, Plus, Minus, Times, ShiftLeft, ShiftRight, Less, Greater, Same}
 use Rattle.pf_terms.specs.declared.token.Token.{Token}
+use Rattle.pf_terms.specs.Terms.{is_in}
 use Rattle.pf_terms.specs.Grammar.{call_shape, IsSpelled, IsBegun}
 
 -- an expression, and what is to come behind it
@@ -30,7 +31,7 @@ abbrev pub choice_then : List Symbol → List Symbol
 choice_then s = whole_then (Comparison ∷ whole_then (CommaSymbol ∷ whole_then (CommaSymbol ∷ whole_then (CloseSymbol ∷ s))))
 
 abbrev pub atom_step : Kind → List Symbol → Option (List Symbol)
-atom_step (Typed n t) s = Some s
+atom_step (Typed n t) s = if is_in t n then Some s else None
 atom_step Minus s = Some (Negated ∷ s)
 atom_step (Name w) s = Some (Offsets ∷ s)
 atom_step (TypeWord t) s = Some (OpenSymbol ∷ whole_then (CloseSymbol ∷ s))
@@ -56,7 +57,7 @@ step (Offsets ∷ s) k = step s k
 step (Integer ∷ s) (Number n) = Some s
 step (Integer ∷ s) Minus = Some (Digits ∷ s)
 step (Digits ∷ s) (Number n) = Some s
-step (Negated ∷ s) (Typed n t) = Some s
+step (Negated ∷ s) (Typed n t) = if is_in t (neg_ℤ n) then Some s else None
 step (TypeName ∷ s) (TypeWord t) = Some s
 step (Comparison ∷ s) Greater = Some s
 step (Comparison ∷ s) Less = Some s
@@ -98,7 +99,7 @@ pub record IsFirstFault (ks : List Kind) (n : ℕ) : Type 0 where
 -- a symbol that stands for one token is met by it
 abbrev pub meets : Symbol → Kind → Bool
 meets Digits (Number n) = true
-meets Negated (Typed n t) = true
+meets Negated (Typed n t) = is_in t (neg_ℤ n)
 meets TypeName (TypeWord t) = true
 meets Comparison Greater = true
 meets Comparison Less = true

@@ -2,6 +2,7 @@ ghost use Rattle.std.specs.Prelude.{◌≡◌, ◌∷◌, List, IfOk, MatchOptio
 ghost use Rattle.pf_terms.specs.declared.symbol.Symbol.TheVariants.{Atom, Factors, Summands, Shifts, Offsets, Integer, Digits, Open, CloseSquare, Comma};
 ghost use Rattle.pf_terms.specs.Grammar.{call_shape, IsSpelled};
 ghost use Rattle.pf_terms.specs.Parsing.{step, atom_step, call_then, opened, choice_then, meets, Advances, kinds, IsFirstFault, IsJudged, place_of};
+ghost use Rattle.pf_terms.specs.Terms.{is_in};
 ghost use Rattle.pf_terms.specs.Tokens.{IsLexed};
 ghost use Rattle.pf_terms.specs.declared.token.Token.{Token};
 
@@ -10,6 +11,7 @@ use crate::op::Op;
 use crate::stack::Stack;
 use crate::symbol::{CallShape, Symbol};
 use crate::token::{Kind, Token};
+use pf_ints::LaneType;
 use std::alloc::{AllocError, Global};
 
 /// None where the text is an expression by its tokens. Else the place, counted from 0, of the first
@@ -108,7 +110,7 @@ fn is_met(symbol: Symbol, kind: Kind) -> bool
 {
     match (symbol, kind) {
         (Symbol::Digits, Kind::Number(_)) => true,
-        (Symbol::Negated, Kind::Typed(_, _)) => true,
+        (Symbol::Negated, Kind::Typed(n, ty)) => is_in(ty, -(n as i128)),
         (Symbol::TypeName, Kind::TypeWord(_)) => true,
         (Symbol::Comparison, Kind::Greater) => true,
         (Symbol::Comparison, Kind::Less) => true,
@@ -119,6 +121,12 @@ fn is_met(symbol: Symbol, kind: Kind) -> bool
         (Symbol::Comma, Kind::Comma) => true,
         _ => false,
     }
+}
+
+fn is_in(ty: LaneType, n: i128) -> bool
+    ensures { result ≡ is_in ty n }
+{
+    ty.least() <= n && n <= ty.greatest()
 }
 
 fn start_summand(stack: &mut Stack) -> Result<bool, AllocError>
@@ -153,7 +161,7 @@ fn start_atom(stack: &mut Stack, kind: Kind) -> Result<bool, AllocError>
     ensures { IfOk result (λ fits. Advances fits (atom_step kind stack.old) stack.new) }
 {
     match kind {
-        Kind::Typed(_, _) => Ok(true),
+        Kind::Typed(n, ty) => Ok(is_in(ty, n as i128)),
         Kind::Minus => {
             stack.push(Symbol::Negated)?;
             Ok(true)

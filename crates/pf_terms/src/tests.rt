@@ -71,6 +71,8 @@ fn places(rt: HostRuntime) -> Result<(), Fail> {
     assert_eq!(rt; syntax_fault(alloc, b"")?, Some(0));
     assert_eq!(rt; syntax_fault(alloc, b"x << 12345678901")?, Some(5));
     assert_eq!(rt; syntax_fault(alloc, b"def")?, Some(0));
+    assert_eq!(rt; syntax_fault(alloc, b"-128i8 + 127i8")?, None);
+    assert_eq!(rt; syntax_fault(alloc, b"x + 128i8")?, Some(4));
     Ok(())
 }
 
