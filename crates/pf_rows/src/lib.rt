@@ -1,6 +1,9 @@
 //! Programs that make the output row by row.
 #![tactic(auto)]
 
-mod least;
+mod copies;
+mod items;
+mod lines;
+mod program;
 
-pub use least::least_program;
+pub use program::row_program;

@@ -1,36 +1,28 @@
 -- The head of a selected text is one that a text may have.
-use Rattle.std.proofs.Common.{◌≡◌, ◌≢◌, refl, sym, ap, ◌∙◌, ℕ, zero, suc, ◌+◌, ◌*◌, ◌/◌, ◌^◌, ◌<◌, ◌≤◌, pos, Bool, true, false, List, [], ◌∷◌, ◌++◌, length, map, get_or, arith, rules, All}
-use Rattle.std.specs.Prelude.{codes, IsTrue, Result, Ok}
+use Rattle.std.proofs.Common.{◌≡◌, ◌≢◌, refl, sym, ap, ◌∙◌, ℕ, zero, suc, ◌<◌, ◌≤◌, true, false, List, [], ◌∷◌, length, arith, rules, All}
+use Rattle.std.specs.Prelude.{codes, Ok}
 use Rattle.std.specs.List.{AllPairs}
 use Rattle.std.proofs.lemmas.Int.{ints}
 use Rattle.std.proofs.lemmas.List.Elements.{All-from_recursion}
-use Rattle.pf_ints.specs.declared.lane.LaneType.{LaneType}
 use Rattle.pf_ints.specs.Images.{IsPixelType}
 use Rattle.pf_ints.specs.Words.{is_name, is_reserved}
-use Rattle.pf_terms.specs.declared.fault.TermFault.{TermFault}
-use Rattle.pf_terms.specs.declared.kernel.Definition.{Definition}
-use Rattle.pf_terms.specs.declared.kernel.ImageDecl.{ImageDecl}
 use Rattle.pf_terms.specs.declared.names.Names.{Names}
-use Rattle.pf_terms.specs.declared.names.Tap.{Tap}
-use Rattle.pf_terms.specs.declared.op.Op.{Op}
 use Rattle.pf_terms.specs.declared.op.Op.TheVariants.{Min}
-use Rattle.pf_terms.specs.declared.term.Leaf.{Leaf as LeafOf}
 use Rattle.pf_terms.specs.declared.term.Leaf.TheVariants.{Tap as TapLeaf}
 use Rattle.pf_terms.specs.declared.term.Term.{Term}
-use Rattle.pf_terms.specs.declared.term.Term.TheVariants.{Leaf, Node, rolls-Leaf, rolls-Node}
+use Rattle.pf_terms.specs.declared.term.Term.TheVariants.{Leaf, rolls-Leaf, rolls-Node}
 use Rattle.pf_terms.specs.declared.term.Term.TheOpen.{Term-F}
 use Rattle.pf_terms.specs.declared.term.Term.TheOpen.Term-F.{Leaf as LeafLayer, Node as NodeLayer}
 use Rattle.pf_terms.specs.declared.term.Term.TheFolds.{fold-Term, fold-roll-Term}
-use Rattle.pf_terms.specs.Terms.{IsWellTyped, stated_type, stated_step, node_count, nodes_step, depth_of, depth_step, is_well_formed, formed_step, typing, typing_step}
+use Rattle.pf_terms.specs.Terms.{IsWellTyped, stated_type, stated_step, node_count, nodes_step, depth_of, depth_step, formed_step, typing_step}
 use Rattle.pf_terms.specs.TermTexts.{is_named, named_step, is_named_leaf}
-use Rattle.pf_isa.specs.declared.program.Head.{Head}
-use Rattle.pf_isa.specs.Heads.{IsHead, IsDecl, IsTap, IsLifted, names_of}
-use Rattle.pf_rows.specs.Least.{byte_type, least_term, HasTaps}
+use Rattle.pf_isa.specs.Heads.{IsDecl, IsTap, names_of}
+use Rattle.pf_top.specs.Least.{byte_type, least_term, HasTaps}
 use Rattle.pf_top.specs.declared.least.LeastKernel.{LeastKernel}
 use Rattle.pf_top.specs.declared.least.Side.{Side}
 use Rattle.pf_top.specs.declared.least.Side.TheVariants.{First, Second}
 use Rattle.pf_top.specs.LeastKernels.{IsProper}
-use Rattle.pf_top.specs.Selected.{image_decl, images_of, tap_of, taps_of, second_tap, scratch_of, output_of, head_of}
+use Rattle.pf_top.specs.Selected.{image_decl, images_of, tap_of, taps_of, second_tap, head_of}
 
 -- ---- folds of a tap, and of the lesser of two
 abbrev tap_term : ℕ → Term
@@ -183,6 +175,7 @@ head_taps k proper =
       };
       images = All-from_recursion (λ d. d.ty ≡ byte_type) (images_of k) (refl, (refl, tt));
       out_ty = refl;
+      scratch = refl;
       first_tap = o.some;
       second_tap = o.second;
     }

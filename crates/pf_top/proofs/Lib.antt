@@ -5,5 +5,6 @@ pub mod Selecting
 pub mod SixWords
 pub mod Telling
 pub mod SameWords
+pub mod LeastBlock
 pub mod HeadLaws
 pub mod HeadlineLaws

@@ -1,5 +1,6 @@
 pub mod Counts
 pub mod Outside
+pub mod Least
 pub mod LeastKernels
 pub mod Reading
 pub mod Headline

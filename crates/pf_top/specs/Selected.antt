@@ -1,11 +1,12 @@
 -- The texts that are selected for a kernel.
-use Rattle.std.specs.Prelude.{ℕ, ◌+◌, ◌*◌, ◌/◌, pos, List, [], ◌∷◌, length, codes}
+use Rattle.std.specs.Prelude.{ℕ, pos, List, [], ◌∷◌, length, codes}
 use Rattle.pf_terms.specs.declared.kernel.Definition.{Definition}
 use Rattle.pf_terms.specs.declared.kernel.ImageDecl.{ImageDecl}
 use Rattle.pf_terms.specs.declared.names.Tap.{Tap}
 use Rattle.pf_terms.specs.Kernels.{Source}
 use Rattle.pf_isa.specs.declared.program.Head.{Head}
-use Rattle.pf_rows.specs.Least.{byte_type, least_term}
+use Rattle.pf_rows.specs.RowCode.{scratch_bytes}
+use Rattle.pf_top.specs.Least.{byte_type, least_term}
 use Rattle.pf_top.specs.declared.least.LeastKernel.{LeastKernel}
 use Rattle.pf_top.specs.declared.least.Side.{Side}
 use Rattle.pf_top.specs.declared.least.Side.TheVariants.{First, Second}
@@ -40,20 +41,16 @@ second_tap Second Second = 0
 abbrev pub source_of : LeastKernel → Source
 source_of k = record { images = images_of k; taps = taps_of k.left k.right; defs = []; out_ty = byte_type; out = least_term 0 (second_tap k.left k.right) }
 
--- bytes of a scratch for so many taps: a table of their addresses and the output's, in pieces of 16 entries, and two vectors for each
-abbrev pub scratch_of : ℕ → ℕ
-scratch_of taps = 128 * ((taps + 16) / 16) + 32 * (taps + 1)
-
 abbrev pub output_of : LeastKernel → Definition
 output_of k = record { name = codes "out"; ty = byte_type; term = least_term 0 (second_tap k.left k.right) }
 
--- the head of its text: one instruction is counted
+-- the head of its text: one instruction is counted, and the scratch is that of rows of vectors of 16 bytes, with no slots
 abbrev pub head_of : LeastKernel → Head
 head_of k = record {
   images = images_of k;
   taps = taps_of k.left k.right;
   out_ty = byte_type;
-  scratch = scratch_of (length (taps_of k.left k.right));
+  scratch = scratch_bytes 16 (length (taps_of k.left k.right)) 0;
   lifted = output_of k ∷ [];
   cost = 1;
 }

@@ -4,6 +4,7 @@
 mod command;
 mod files;
 mod least;
+mod least_program;
 mod mem_files;
 mod mem_sink;
 mod real_files;

@@ -1,13 +1,14 @@
 ghost use Rattle.std.specs.Prelude.{◌≡◌, ◌+◌, ◌*◌, ◌/◌, ◌≤◌, ◌==◌, [], ◌∷◌, codes, IfOk};
-ghost use Rattle.pf_rows.specs.Least.{byte_type, least_term};
+ghost use Rattle.pf_rows.specs.RowCode.{scratch_bytes};
+ghost use Rattle.pf_top.specs.Least.{byte_type, least_term};
 ghost use Rattle.pf_top.specs.LeastKernels.{IsProper};
-ghost use Rattle.pf_top.specs.Selected.{IsSelected, image_decl, images_of, tap_of, taps_of, second_tap, scratch_of, output_of, head_of};
+ghost use Rattle.pf_top.specs.Selected.{IsSelected, image_decl, images_of, tap_of, taps_of, second_tap, output_of, head_of};
 
 use crate::least::{LeastKernel, Side};
+use crate::least_program::least_program;
 use pf_ints::{Bits, LaneType, Memory, Name, Sequence};
 use pf_isa::{Head, write_text};
 use pf_neon::Neon;
-use pf_rows::least_program;
 use pf_terms::{Definition, Definitions, ImageDecl, ImageList, Leaf, Op, Tap, TapList, Term};
 use sqlite_items::Items;
 use std::alloc::Global;
@@ -108,7 +109,7 @@ fn least_term(alloc: Global, first: u8, second: u8) -> Result<Term, Memory>
 /// entries, and two vectors for each of these.
 fn scratch_of(taps: u32) -> u32
     requires { taps ≤ 64 }
-    ensures { result ≡ scratch_of taps }
+    ensures { result ≡ scratch_bytes 16 taps 0 }
 {
     128 * ((taps + 16) / 16) + 32 * (taps + 1)
 }

@@ -8,4 +8,4 @@ least_program-requires c = rw (c.in_ok-head.ensures, c.second_tap.ensures) (head
 pub returns : goal.returns
 returns c =
     selected_from c.args.kernel.now c.in_ok-text.text.items c.in_ok-head.head c.second_tap.result c.in_ok-program.program
-    c.in_ok-head.ensures c.second_tap.ensures c.in_ok-program.ensures.value c.in_ok-program.ensures.right c.in_ok-text.ensures.text
+    c.in_ok-head.ensures c.second_tap.ensures c.in_ok-program.ensures.head c.in_ok-program.ensures.right c.in_ok-text.ensures.text

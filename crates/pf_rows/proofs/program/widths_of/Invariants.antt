@@ -1,0 +1,8 @@
+use Rattle.std.proofs.Common.{◌≡◌, map, take}
+use Rattle.std.specs.Prelude.{slice_index_or}
+use Rattle.pf_isa.specs.Runs.{pixel_bytes}
+use Rattle.pf_rows.specs.BlockRows.{no_decl}
+use Rattle.pf_rows.proofs.program.widths_of.Given as goal
+
+abbrev pub invariant-loop-tap : goal.invariant-loop-tap
+invariant-loop-tap l = l.widths ≡ map (λ t. pixel_bytes (slice_index_or l.head.images t.image no_decl).ty) (take l.tap-index l.head.taps)

@@ -1,0 +1,101 @@
+ghost use Rattle.std.specs.Prelude.{◌≡◌, ◌+◌, ◌*◌, ◌/◌, ◌^◌, ◌<◌, ◌≤◌, ◌++◌, [], ◌∷◌, length, OnOk, All};
+ghost use Rattle.pf_rows.specs.RowCode.{table_bytes, buffer_at, slot_at, item_lines, block_lines};
+ghost use Rattle.pf_rows.specs.BlockRows.{IsStep, IsOne, IsNear, IsPixel};
+
+use crate::lines::{pixels, pointer, scratch};
+use pf_ints::Memory;
+use pf_isa::{Block, Code, Isa, Item, Line, role};
+
+/// Where buffer number `k` begins in the scratch of a row of so many taps.
+pub fn buffer_offset(vector: u32, taps: usize, k: usize) -> u32
+    requires vector { vector ≤ 128 }
+    requires taps { taps ≤ 64 }
+    requires buffer { k ≤ 65 }
+    ensures value { result ≡ buffer_at vector taps k }
+    ensures low { result ≤ 2 ^ 16 }
+{
+    128 * ((taps as u32 + 16) / 16) + 2 * vector * k as u32
+}
+
+/// Where a slot begins in the scratch of a row of so many taps.
+fn slot_offset(vector: u32, taps: usize, slot: u32) -> u32
+    requires vector { vector ≤ 128 }
+    requires taps { taps ≤ 64 }
+    requires near { slot_at vector taps slot ≤ 2 ^ 30 }
+    ensures { result ≡ slot_at vector taps slot }
+{
+    buffer_offset(vector, taps, taps + 1) + vector * slot
+}
+
+/// Appends the instructions of a step of a block, over taps and an output whose pixels have so
+/// many bytes.
+fn item<I: Isa>(
+    code: &mut Code<I>,
+    widths: &[u8],
+    width: u8,
+    item: Item<I::Op>,
+) -> Result<(), Memory>
+    requires vector { I.table.vector ≤ 128 }
+    requires taps { length widths.now ≤ 64 }
+    requires pixels { All IsPixel widths.now }
+    requires pixel { IsPixel width }
+    requires step { IsStep widths.now width item }
+    requires near { IsNear I.table.vector (length widths.now) (2 ^ 30) item }
+    ensures lines { OnOk result (code.new ≡ code.old ++ item_lines I.table widths.now width item) }
+    ensures known { OnOk result (IsOne I.is_op item) }
+{
+    match item {
+        Item::Vector(op) => {
+            I::known(&op);
+            code.push(Line::Vector(op))
+        }
+        Item::TapLoad { to, tap, part } => {
+            pointer(code, role::POINTER, role::TABLE, tap)?;
+            pixels(code, role::POINTER, widths[usize::from(tap)])?;
+            code.push(Line::Vector(I::load(to, part)))
+        }
+        Item::OutStore { from, part } => {
+            pointer(code, role::POINTER, role::TABLE, widths.len() as u8)?;
+            pixels(code, role::POINTER, width)?;
+            code.push(Line::Vector(I::store(from, part)))
+        }
+        Item::SlotLoad { to, slot } => {
+            scratch(
+                code,
+                role::POINTER,
+                slot_offset(I::VECTOR, widths.len(), slot),
+            )?;
+            code.push(Line::Vector(I::load(to, 0)))
+        }
+        Item::SlotStore { from, slot } => {
+            scratch(
+                code,
+                role::POINTER,
+                slot_offset(I::VECTOR, widths.len(), slot),
+            )?;
+            code.push(Line::Vector(I::store(from, 0)))
+        }
+    }
+}
+
+/// Appends the instructions of a block.
+pub fn items<I: Isa>(
+    code: &mut Code<I>,
+    widths: &[u8],
+    width: u8,
+    block: Block<I::Op>,
+) -> Result<(), Memory>
+    requires vector { I.table.vector ≤ 128 }
+    requires taps { length widths.now ≤ 64 }
+    requires pixels { All IsPixel widths.now }
+    requires pixel { IsPixel width }
+    requires steps { All (λ i. IsStep widths.now width i) block }
+    requires near { All (λ i. IsNear I.table.vector (length widths.now) (2 ^ 30) i) block }
+    ensures lines { OnOk result (code.new ≡ code.old ++ block_lines I.table widths.now width block) }
+    ensures known { OnOk result (All (λ i. IsOne I.is_op i) block) }
+{
+    for step in block.into_vec() {
+        item(code, widths, width, step)?;
+    }
+    Ok(())
+}

@@ -1,0 +1,161 @@
+ghost use Rattle.std.specs.Prelude.{◌≡◌, ◌+◌, ◌*◌, ◌/◌, ◌^◌, ◌<◌, ◌≤◌, ◌++◌, [], ◌∷◌, length, map, take, All, IfOk, OnOk, codes, slice_index_or};
+ghost use Rattle.pf_ints.specs.Images.{IsPixelType};
+ghost use Rattle.pf_isa.specs.Heads.{IsHead};
+ghost use Rattle.pf_isa.specs.Moved.{Moved, Work};
+ghost use Rattle.pf_isa.specs.Runs.{pixel_bytes};
+ghost use Rattle.pf_rows.specs.RowCode.{back_lines, begin_lines, block_lines, copy_labels, label, last_lines, narrow_lines, next_lines, row_code, row_labels, tail_lines};
+ghost use Rattle.pf_rows.specs.BlockRows.{IsNear, IsOne, IsPixel, IsRowBlock, IsStep, LeavesLanes, RunsBlock, block_cost, row_text, slots_in, tap_widths, no_decl};
+
+use crate::copies::{back, mark, narrow};
+use crate::items::items;
+use crate::lines::{
+    add, back_name, below, block_name, compare, control, last_name, narrow_name, pointer, set,
+    tail_name,
+};
+use pf_ints::{LaneType, Memory, Sequence};
+use pf_isa::{Block, Code, Control, Head, Isa, LabelList, Program, role};
+use std::alloc::Global;
+
+/// The bytes of a pixel.
+fn pixel_bytes(ty: LaneType) -> u8
+    ensures { result ≡ pixel_bytes ty }
+{
+    ty.width() / 8
+}
+
+/// The bytes of a pixel of each tap.
+fn widths_of(alloc: Global, head: &Head) -> Result<Sequence<u8>, Memory>
+    requires { IsHead head.now }
+    ensures { IfOk result (λ widths. widths ≡ tap_widths head.now) }
+{
+    let mut widths = Sequence::new(alloc);
+    let images = head.images.as_slice();
+    for tap in head.taps.as_slice() {
+        widths.push(pixel_bytes(images[usize::from(tap.image)].ty))?;
+    }
+    Ok(widths)
+}
+
+/// Appends the beginning of a row, up to its block.
+fn begin<I: Isa>(code: &mut Code<I>, taps: usize) -> Result<(), Memory>
+    requires vector { I.table.vector ≤ 128 }
+    requires taps { taps ≤ 64 }
+    ensures { OnOk result (code.new ≡ code.old ++ begin_lines I.table.vector taps) }
+{
+    add(code, role::KEPT, role::TABLE, 0)?;
+    pointer(code, role::COUNT, role::KEPT, taps as u8 + 2)?;
+    pointer(code, role::SCRATCH, role::KEPT, taps as u8 + 1)?;
+    set(code, role::END, I::VECTOR as u16)?;
+    compare(code, role::COUNT, role::END)?;
+    below(code, narrow_name())?;
+    set(code, role::PIXEL, 0)
+}
+
+/// Appends what chooses the next block, or the way of a narrow row.
+fn next<I: Isa>(code: &mut Code<I>) -> Result<(), Memory>
+    requires { I.table.vector ≤ 128 }
+    ensures { OnOk result (code.new ≡ code.old ++ next_lines I.table.vector) }
+{
+    set(code, role::END, I::VECTOR as u16)?;
+    compare(code, role::COUNT, role::END)?;
+    below(code, back_name())?;
+    add(code, role::PIXEL, role::PIXEL, I::VECTOR)?;
+    add(code, role::END, role::PIXEL, I::VECTOR)?;
+    compare(code, role::COUNT, role::END)?;
+    below(code, tail_name())?;
+    control(
+        code,
+        Control::Jump {
+            label: block_name(),
+        },
+    )
+}
+
+/// Appends what ends a row, or goes on where pixels are left.
+fn tail<I: Isa>(code: &mut Code<I>) -> Result<(), Memory>
+    ensures { OnOk result (code.new ≡ code.old ++ tail_lines) }
+{
+    compare(code, role::PIXEL, role::COUNT)?;
+    below(code, last_name())?;
+    control(code, Control::Return)
+}
+
+/// Appends the way to the last block of a row.
+fn last<I: Isa>(code: &mut Code<I>) -> Result<(), Memory>
+    requires some { 1 ≤ I.table.vector }
+    requires most { I.table.vector ≤ 128 }
+    ensures { OnOk result (code.new ≡ code.old ++ last_lines I.table.vector) }
+{
+    control(
+        code,
+        Control::AddImm {
+            to: role::PIXEL,
+            from: role::COUNT,
+            down: true,
+            by: I::VECTOR,
+        },
+    )?;
+    control(
+        code,
+        Control::Jump {
+            label: block_name(),
+        },
+    )
+}
+
+/// The code of a row and its labels.
+fn lines<I: Isa>(
+    alloc: Global,
+    widths: &[u8],
+    width: u8,
+    block: Block<I::Op>,
+) -> Result<(Code<I>, LabelList), Memory>
+    requires some { 1 ≤ I.table.vector }
+    requires most { I.table.vector ≤ 128 }
+    requires taps { length widths.now ≤ 64 }
+    requires pixels { All IsPixel widths.now }
+    requires pixel { IsPixel width }
+    requires steps { All (λ i. IsStep widths.now width i) block }
+    requires near { All (λ i. IsNear I.table.vector (length widths.now) (2 ^ 30) i) block }
+    ensures code { IfOk result (λ p. p.0 ≡ row_code I.table widths.now width block) }
+    ensures labels { IfOk result (λ p. p.1 ≡ row_labels I I.table widths.now width block) }
+    ensures known { IfOk result (λ _. All (λ i. IsOne I.is_op i) block) }
+{
+    let mut code = Sequence::new(alloc);
+    let mut labels = Sequence::new(alloc);
+    begin(&mut code, widths.len())?;
+    mark(&mut labels, &code, block_name())?;
+    items(&mut code, widths, width, block)?;
+    next(&mut code)?;
+    mark(&mut labels, &code, tail_name())?;
+    tail(&mut code)?;
+    mark(&mut labels, &code, last_name())?;
+    last(&mut code)?;
+    mark(&mut labels, &code, narrow_name())?;
+    narrow(&mut code, &mut labels, widths)?;
+    back(&mut code, &mut labels, widths.len(), width)?;
+    Ok((code, labels))
+}
+
+/// The program that runs the block over each row of the output, of any width.
+///
+/// The block runs in place at every whole block of pixels, and at the row's last ones where some
+/// are left. A row of fewer pixels than a vector has bytes is copied into the scratch, and its
+/// pixels back from there. It fails for want of memory alone.
+pub fn row_program<I: Isa>(
+    alloc: Global,
+    block: Block<I::Op>,
+    head: Head,
+) -> Result<Program<I>, Memory>
+    requires { IsRowBlock I.table head (slots_in I.table head) block }
+    ensures value { IfOk result (λ p. p ≡ row_text I I.table head block) }
+    ensures moved { IfOk result (λ p. Moved I.table (length p.head.taps) p.code p.labels) }
+    ensures work { IfOk result (λ p. Work I.table p.code ≡ block_cost I.table block) }
+    ensures rows { IfOk result (λ p. RunsBlock I.table (slots_in I.table head) block p) }
+    ensures lanes { IfOk result (λ p. LeavesLanes I.table (slots_in I.table head) block p) }
+{
+    let widths = widths_of(alloc, &head)?;
+    let width = pixel_bytes(head.out_ty);
+    let (code, labels) = lines(alloc, widths.as_slice(), width, block)?;
+    Ok(Program::new(head, code, labels))
+}

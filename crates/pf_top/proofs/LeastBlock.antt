@@ -1,0 +1,226 @@
+-- The block of the lesser of two taps: what it makes of the taps' bytes, and that a row's program may have it.
+use Rattle.std.proofs.Common.{◌≡◌, ℕ, zero, suc, ◌*◌, ◌%◌, ◌<◌, ◌≤◌, List, [], ◌∷◌, length, map, take, drop, get_or, All, Bool, refl, arith, ap, sym, subst, ◌∙◌, min, rules}
+use Rattle.std.specs.Prelude.{ℤ, pos, zip}
+use Rattle.std.specs.Int.{int_min}
+use Rattle.std.specs.List.{concat}
+use Rattle.std.proofs.Math.Nat.{mod-eq_of_lt}
+use Rattle.std.proofs.lemmas.Int.{ints, int_min_is}
+use Rattle.std.proofs.lemmas.List.{get_or-map, length-map, append-nil, take_all}
+use Rattle.std.proofs.lemmas.List.Elements.{All-get_or, All-weaker, All-from_recursion, All-nil, All-head, All-tail}
+use Rattle.std.proofs.lemmas.Slice.Zip.{get_or-zip, length-zip}
+use Rattle.pf_ints.specs.Images.{Picture, IsPicture}
+use Rattle.pf_ints.specs.Lanes.{IsIn as IsNumber}
+use Rattle.pf_ints.specs.declared.lane.LaneType.{LaneType}
+use Rattle.pf_terms.specs.declared.op.Op.TheVariants.{Min}
+use Rattle.pf_terms.specs.declared.term.Env.{Env}
+use Rattle.pf_terms.specs.declared.term.Leaf.TheVariants.{Tap as TapLeaf}
+use Rattle.pf_terms.specs.declared.term.Term.TheVariants.{Leaf, rolls-Leaf, rolls-Node}
+use Rattle.pf_terms.specs.declared.term.Term.TheOpen.Term-F.{Leaf as LeafLayer, Node as NodeLayer}
+use Rattle.pf_terms.specs.declared.term.Term.TheFolds.{fold-roll-Term}
+use Rattle.pf_terms.specs.Terms.{Val, value_step}
+use Rattle.pf_terms.specs.TermTexts.{no_tap}
+use Rattle.pf_terms.specs.Kernels.{Keeps, KeepsRange, no_picture, out_value, tap_value, tap_values}
+use Rattle.pf_isa.specs.declared.program.Head.{Head}
+use Rattle.pf_isa.specs.declared.registers.Reg.TheVariants.{V}
+use Rattle.pf_isa.specs.declared.registers.RegFile.{RegFile}
+use Rattle.pf_isa.specs.Blocks.{BVal, IsClean, IsWithin}
+use Rattle.pf_isa.specs.Bytes.{bytes, number, lanes, map2}
+use Rattle.pf_isa.specs.Files.{IsIn}
+use Rattle.pf_isa.specs.Heads.{IsTap}
+use Rattle.pf_isa.specs.Programs.{Text}
+use Rattle.pf_isa.specs.Runs.{pixel_bytes}
+use Rattle.pf_isa.specs.Tables.{IsFile}
+use Rattle.pf_isa.proofs.ByteLaws.{lane_at, get_or-lanes, get_or-map2, length-map2, length-lanes, number-bytes_rest}
+use Rattle.pf_neon.specs.declared.op.Form.{Form}
+use Rattle.pf_neon.specs.declared.op.Lanes.TheVariants.{Bytes}
+use Rattle.pf_neon.specs.Forms.{lanewise}
+use Rattle.pf_neon.specs.Neon.{table}
+use Rattle.pf_rows.specs.BlockRows.{tap_widths, tap_pixel, pixel_part, no_decl, slots_in, block_cost, IsLanewise, IsRowBlock, IsStep, LeavesLanes, StoresEach}
+use Rattle.pf_top.specs.Least.{byte_type, least_term, least_source, least_block, HasTaps, LeavesLeast}
+
+-- ---- what the block stores
+abbrev lesser : ℕ → ℕ → ℕ
+lesser y z = min y z
+
+-- the bytes of a tap's block
+abbrev tap_vector : List (List ℕ) → ℕ → List ℕ
+tap_vector blocks k = take 16 (drop (16 * 0) (get_or blocks k []))
+
+abbrev stored : List (List ℕ) → ℕ → ℕ → List ℕ
+stored blocks first second = lanewise Bytes lesser (tap_vector blocks first) (tap_vector blocks second)
+
+made : (vectors : List (List ℕ)) (k : ℕ) (q : List Bool) (first second : ℕ) (blocks kept : List (List ℕ)) → length vectors ≡ 32
+    → BVal table 1 (least_block first second) blocks (record { vectors = vectors; k = k; q = q }) kept ≡ stored blocks first second ∷ []
+made [] k q first second blocks kept long = absurd (omega arith)
+made (v ∷ []) k q first second blocks kept long = absurd (omega arith)
+made (v ∷ w ∷ more) k q first second blocks kept long = refl
+
+stores : (first second : ℕ) (blocks kept : List (List ℕ)) (file : RegFile) → IsFile table 32 file → BVal table 1 (least_block first second) blocks file kept ≡ stored blocks first second ∷ []
+stores first second blocks kept file is = made file.vectors file.k file.q first second blocks kept is.count
+
+-- ---- lane by lane
+tap_whole : (blocks : List (List ℕ)) (k : ℕ) → length (get_or blocks k []) ≡ 16 → tap_vector blocks k ≡ get_or blocks k []
+tap_whole blocks k long = take_all 16 (get_or blocks k []) (omega arith)
+
+-- the number of a lane, where the tap's pixel there has one byte
+lane_is : (blocks : List (List ℕ)) (k j n : ℕ) → j < 16 → length (get_or blocks k []) ≡ 16 → take 1 (drop (1 * j) (get_or blocks k [])) ≡ bytes 1 n → get_or (lanes 1 16 (tap_vector blocks k)) j 0 ≡ n % 256
+lane_is blocks k j n inside long is =
+    ap (λ v. get_or (lanes 1 16 v) j 0) (tap_whole blocks k long)
+    ∙ get_or-lanes 1 16 j (get_or blocks k []) inside
+    ∙ ap number is
+    ∙ number-bytes_rest 1 n
+
+-- the lesser of two of the numbers, as bytes
+abbrev pub lesser_of : ℕ → ℕ → List ℕ → ℕ
+lesser_of first second numbers = min (get_or numbers first 0 % 256) (get_or numbers second 0 % 256)
+
+stored_at : (blocks : List (List ℕ)) (first second j m n : ℕ) → j < 16
+    → get_or (lanes 1 16 (tap_vector blocks first)) j 0 ≡ m → get_or (lanes 1 16 (tap_vector blocks second)) j 0 ≡ n
+    → pixel_part 1 j (stored blocks first second) ≡ bytes 1 (min m n)
+stored_at blocks first second j m n inside left right =
+    let a = lanes 1 16 (tap_vector blocks first) in
+    let b = lanes 1 16 (tap_vector blocks second) in
+    let left_long : length a ≡ 16 = length-lanes 1 16 (tap_vector blocks first) in
+    let right_long : length b ≡ 16 = length-lanes 1 16 (tap_vector blocks second) in
+    let long : j < length (map2 lesser a b) = omega (arith, length-map2 lesser a b) in
+    lane_at 1 j (map2 lesser a b) long
+    ∙ ap (bytes 1) (get_or-map2 lesser a b j 0 0 (omega arith) (omega arith))
+    ∙ ap (λ l. bytes 1 (min l (get_or b j 0))) left
+    ∙ ap (λ r. bytes 1 (min m r)) right
+
+-- ---- a head of u8 images
+module _ (h : Head) (first second : ℕ) (has : HasTaps h first second) where
+  byte_out : pixel_bytes h.out_ty ≡ 1
+  byte_out = ap pixel_bytes has.out_ty
+
+  tap_image : (k : ℕ) → k < length h.taps → (get_or h.taps k no_tap).image < length h.images
+  tap_image k known = let t : IsTap (length h.images) (get_or h.taps k no_tap) = All-get_or (IsTap (length h.images)) h.taps k no_tap known has.head.taps in t.image
+
+  byte_tap : (k : ℕ) → k < length h.taps → get_or (tap_widths h) k 0 ≡ 1
+  byte_tap k known =
+      get_or-map (λ t. pixel_bytes (get_or h.images t.image no_decl).ty) h.taps k no_tap 0 known
+      ∙ ap pixel_bytes (All-get_or (λ d. d.ty ≡ byte_type) h.images (get_or h.taps k no_tap).image no_decl (tap_image k known) has.images)
+
+  length-widths : length (tap_widths h) ≡ length h.taps
+  length-widths = length-map h.taps (λ t. pixel_bytes (get_or h.images t.image no_decl).ty)
+
+  clean : IsClean table 32 0 1 (least_block first second)
+  clean = record {
+    within = All-from_recursion (IsWithin table 32 0) (least_block first second) (search rules);
+    same = λ blocks f g kept other f_is g_is kept_long other_long. stores first second blocks kept f f_is ∙ sym (stores first second blocks other g g_is);
+  }
+
+  stores_each : (width : ℕ) → width ≡ 1 → StoresEach width (least_block first second)
+  stores_each width is zero inside = refl
+  stores_each width is (suc part) inside = absurd (omega arith)
+
+  pub is_block : IsRowBlock table h 0 (least_block first second)
+  is_block =
+      let left = has.first_tap in
+      let right = has.second_tap in
+      let count = length-widths in
+      let first_width = byte_tap first left in
+      let second_width = byte_tap second right in
+      let out_width = byte_out in
+      record {
+        head = has.head;
+        scratch = has.scratch;
+        clean = subst (λ width. IsClean table 32 0 width (least_block first second)) (sym out_width) clean;
+        steps = All-from_recursion (IsStep (tap_widths h) (pixel_bytes h.out_ty)) (least_block first second) ((omega arith, omega arith), ((omega arith, omega arith), (tt, (omega arith, tt))));
+        stores = stores_each (pixel_bytes h.out_ty) out_width;
+        some = omega arith;
+        most = omega arith;
+        loads = λ to part inside few. record { uses = All-nil (IsIn 32); defs = All-from_recursion (IsIn 32) (V to ∷ []) (inside, tt) };
+        keeps = λ from part inside few. record { uses = All-from_recursion (IsIn 32) (V from ∷ []) (inside, tt); defs = All-nil (IsIn 32) };
+      }
+
+  pub is_lanewise : IsLanewise table 0 (least_block first second) (tap_widths h) (pixel_bytes h.out_ty) (lesser_of first second)
+  is_lanewise = record {
+    each = λ blocks numbers file kept j is kept_long inside count sizes pixels.
+        let left = has.first_tap in
+        let right = has.second_tap in
+        let widths = length-widths in
+        let one : (k : ℕ) → k < length h.taps → get_or (lanes 1 16 (tap_vector blocks k)) j 0 ≡ get_or numbers k 0 % 256 = λ k known.
+        let there : k < length (tap_widths h) = omega arith in
+        let width = byte_tap k known in
+        let long : length (get_or blocks k []) ≡ 16 = sizes k there ∙ ap (λ w. w * 16) width in
+        let pixel : take 1 (drop (1 * j) (get_or blocks k [])) ≡ bytes 1 (get_or numbers k 0) = subst (λ w. pixel_part w j (get_or blocks k []) ≡ bytes w (get_or numbers k 0)) width (pixels k there) in
+        lane_is blocks k j (get_or numbers k 0) inside long pixel in
+        let whole : concat (BVal table 1 (least_block first second) blocks file kept) ≡ stored blocks first second = ap concat (stores first second blocks kept file is) ∙ append-nil (stored blocks first second) in
+        let made : pixel_part 1 j (concat (BVal table 1 (least_block first second) blocks file kept)) ≡ bytes 1 (lesser_of first second numbers) =
+        ap (pixel_part 1 j) whole ∙ stored_at blocks first second j (get_or numbers first 0 % 256) (get_or numbers second 0 % 256) inside (one first left) (one second right) in
+        subst (λ width. pixel_part width j (concat (BVal table width (least_block first second) blocks file kept)) ≡ bytes width (lesser_of first second numbers)) (sym byte_out) made;
+  }
+
+-- ---- what the kernel says of a pixel
+Val-tap : (env : Env) (n : ℕ) (ty : LaneType) → Val env (Leaf (TapLeaf n) ty) ≡ get_or env.taps n (pos 0)
+Val-tap env n ty = ap (Val env) (sym (rolls-Leaf (TapLeaf n) ty)) ∙ fold-roll-Term ℤ (value_step env) (LeafLayer (TapLeaf n) ty)
+
+Val-least : (env : Env) (first second : ℕ) → Val env (least_term first second) ≡ int_min (get_or env.taps first (pos 0)) (get_or env.taps second (pos 0))
+Val-least env first second =
+    let args = Leaf (TapLeaf first) byte_type ∷ Leaf (TapLeaf second) byte_type ∷ [] in
+    ap (Val env) (sym (rolls-Node Min byte_type 0 args)) ∙ fold-roll-Term ℤ (value_step env) (NodeLayer Min byte_type 0 args)
+    ∙ rw (Val-tap env first byte_type, Val-tap env second byte_type) refl
+
+int_min-pos : (a b : ℕ) → int_min (pos a) (pos b) ≡ pos (min a b)
+int_min-pos a b = omega (arith, ints, int_min_is (pos a) (pos b))
+
+-- ---- the pixels of the images are bytes
+below_256 : (ty : LaneType) (n : ℕ) → ty ≡ byte_type → IsNumber ty (pos n) → n < 256
+below_256 ty n is inside = let within : IsNumber byte_type (pos n) = subst (λ t. IsNumber t (pos n)) is inside in let top = within.high in omega (arith, ints)
+
+get_or_below : (bound : ℕ) (ns : List ℕ) (k : ℕ) → 1 ≤ bound → All (λ n. n < bound) ns → get_or ns k 0 < bound
+get_or_below bound [] k some small = omega arith
+get_or_below bound (n ∷ ns) zero some small = All-head (λ n. n < bound) n ns small
+get_or_below bound (n ∷ ns) (suc k) some small = get_or_below bound ns k some (All-tail (λ n. n < bound) n ns small)
+
+module _ (h : Head) (first second : ℕ) (has : HasTaps h first second) (pictures : List Picture) (keeps : Keeps (least_source h first second) pictures) where
+  image_below : (k : ℕ) → k < length h.images → All (λ n. n < 256) (get_or pictures k no_picture).pixels
+  image_below k inside =
+      let p = get_or pictures k no_picture in
+      let known : k < length pictures = omega (arith, keeps.count) in
+      let picture : IsPicture p = All-get_or IsPicture pictures k no_picture known keeps.limits in
+      let declared = get_or h.images k no_decl in
+      let pair : get_or (zip h.images pictures) k (no_decl, no_picture) ≡ (declared, p) = get_or-zip h.images pictures k (no_decl, no_picture) inside known in
+      let kept : KeepsRange declared p = subst (λ q. KeepsRange q.0 q.1) pair (All-get_or (λ q. KeepsRange q.0 q.1) (zip h.images pictures) k (no_decl, no_picture) (omega (arith, length-zip h.images pictures)) keeps.each) in
+      let byte : declared.ty ≡ byte_type = All-get_or (λ d. d.ty ≡ byte_type) h.images k no_decl inside has.images in
+      All-weaker (λ n. IsNumber p.ty (pos n)) (λ n. n < 256) (λ n number. below_256 p.ty n (kept.ty ∙ byte) number) p.pixels picture.each
+
+  module _ (x y : ℕ) where
+    abbrev numbers : List ℕ
+    numbers = map (tap_pixel h.taps pictures x y) h.taps
+
+    abbrev values : List ℤ
+    values = tap_values h.taps pictures x y
+
+    -- a tap's number, in both lists of numbers
+    number_is : (k : ℕ) → k < length h.taps → get_or values k (pos 0) ≡ pos (get_or numbers k 0 % 256)
+    number_is k known =
+        let t = get_or h.taps k no_tap in
+        let pixel = tap_pixel h.taps pictures x y t in
+        let small : pixel < 256 = get_or_below 256 (get_or pictures t.image no_picture).pixels _ (omega arith) (image_below t.image (tap_image h first second has k known)) in
+        let held : get_or numbers k 0 ≡ pixel = get_or-map (tap_pixel h.taps pictures x y) h.taps k no_tap 0 known in
+        let rest : pixel ≡ get_or numbers k 0 % 256 = sym (mod-eq_of_lt small) ∙ ap (λ n. n % 256) (sym held) in
+        get_or-map (tap_value h.taps pictures x y) h.taps k no_tap (pos 0) known ∙ ap pos rest
+
+    pub value_is : pos (lesser_of first second numbers) ≡ out_value (least_source h first second) pictures x y
+    value_is =
+        let env : Env = record { taps = values; defs = [] } in
+        sym (Val-least env first second ∙ ap (λ a. int_min a (get_or values second (pos 0))) (number_is first has.first_tap) ∙ ap (λ b. int_min (pos (get_or numbers first 0 % 256)) b) (number_is second has.second_tap) ∙ int_min-pos _ _)
+
+-- ---- the block's program
+pub least_cost : (first second : ℕ) → block_cost table (least_block first second) ≡ 1
+least_cost first second = refl
+
+-- the scratch of such a head has no slots
+no_slots : (h : Head) (first second : ℕ) → HasTaps h first second → slots_in table h ≡ 0
+no_slots h first second has = let scratch = has.scratch in omega arith
+
+pub is_row_block : (h : Head) (first second : ℕ) → HasTaps h first second → IsRowBlock table h (slots_in table h) (least_block first second)
+is_row_block h first second has = subst (λ slots. IsRowBlock table h slots (least_block first second)) (sym (no_slots h first second has)) (is_block h first second has)
+
+pub leaves_least : {I : Type 0} (p : Text I Form) (h : Head) (first second : ℕ) → p.head ≡ h → HasTaps h first second → LeavesLanes table (slots_in table h) (least_block first second) p → LeavesLeast p first second
+leaves_least p h first second is has lanes pictures keeps =
+    let here : HasTaps p.head first second = subst (λ g. HasTaps g first second) (sym is) has in
+    let none : LeavesLanes table 0 (least_block first second) p = subst (λ slots. LeavesLanes table slots (least_block first second) p) (no_slots h first second has) lanes in
+    none (lesser_of first second) (is_lanewise p.head first second here) (least_source p.head first second) pictures refl refl (sym here.out_ty) keeps (λ x y wide high. value_is p.head first second here pictures keeps x y)

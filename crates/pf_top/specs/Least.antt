@@ -1,0 +1,52 @@
+-- The lesser of two taps of u8 images: the term, the block that computes it, and what its program promises.
+use Rattle.std.specs.Prelude.{◌≡◌, ℕ, ◌<◌, List, [], ◌∷◌, length, All, false}
+use Rattle.pf_ints.specs.declared.lane.LaneType.{LaneType}
+use Rattle.pf_ints.specs.declared.lane.Bits.TheVariants.{Eight}
+use Rattle.pf_ints.specs.Images.{Picture}
+use Rattle.pf_terms.specs.declared.op.Op.TheVariants.{Min}
+use Rattle.pf_terms.specs.declared.term.Leaf.TheVariants.{Tap}
+use Rattle.pf_terms.specs.declared.term.Term.{Term}
+use Rattle.pf_terms.specs.declared.term.Term.TheVariants.{Leaf, Node}
+use Rattle.pf_terms.specs.Kernels.{Source, Keeps, Out}
+use Rattle.pf_isa.specs.declared.block.Item.{Item}
+use Rattle.pf_isa.specs.declared.block.Item.TheVariants.{Vector, TapLoad, OutStore}
+use Rattle.pf_isa.specs.declared.program.Head.{Head}
+use Rattle.pf_isa.specs.Heads.{IsHead}
+use Rattle.pf_isa.specs.Programs.{Text}
+use Rattle.pf_isa.specs.Runs.{Places, IsPlaced, Leaves}
+use Rattle.pf_neon.specs.declared.op.Form.{Form}
+use Rattle.pf_neon.specs.declared.op.Form.TheVariants.{Lanewise}
+use Rattle.pf_neon.specs.declared.op.Lanes.TheVariants.{Bytes}
+use Rattle.pf_neon.specs.declared.op.Mnemonic.TheVariants.{Umin}
+use Rattle.pf_neon.specs.Neon.{table}
+use Rattle.pf_rows.specs.RowCode.{scratch_bytes}
+
+abbrev pub byte_type : LaneType
+byte_type = record { signed = false; bits = Eight }
+
+-- the lesser of two taps
+abbrev pub least_term : ℕ → ℕ → Term
+least_term first second = Node Min byte_type 0 (Leaf (Tap first) byte_type ∷ Leaf (Tap second) byte_type ∷ [])
+
+-- the kernel that has a head's images and taps, and the lesser of two of them as its output
+abbrev pub least_source : Head → ℕ → ℕ → Source
+least_source h first second = record { images = h.images; taps = h.taps; defs = []; out_ty = byte_type; out = least_term first second }
+
+-- both taps are loaded, and the lesser of each two bytes is stored
+abbrev pub least_block : ℕ → ℕ → List (Item Form)
+least_block first second = TapLoad 0 first 0 ∷ TapLoad 1 second 0 ∷ Vector (Lanewise Umin Bytes 0 0 1) ∷ OutStore 0 0 ∷ []
+
+-- two taps of a head whose images and output are u8, with the scratch that its rows need
+pub record HasTaps (h : Head) (first second : ℕ) : Type 0 where
+  pub head : IsHead h
+  pub images : All (λ d. d.ty ≡ byte_type) h.images
+  pub out_ty : h.out_ty ≡ byte_type
+  pub scratch : h.scratch ≡ scratch_bytes 16 (length h.taps) 0
+  pub first_tap : first < length h.taps
+  pub second_tap : second < length h.taps
+
+-- on all images that the kernel asks for, and under every placement, the program leaves the kernel's output
+abbrev pub LeavesLeast : {I : Type 0} → Text I Form → ℕ → ℕ → Type 0
+LeavesLeast p first second =
+    (pictures : List Picture) → Keeps (least_source p.head first second) pictures
+    → (o : Picture) × Out (least_source p.head first second) pictures o × ((at : Places) (scratch output : List ℕ) → IsPlaced p.head pictures at scratch output → Leaves table p pictures at scratch output o)
