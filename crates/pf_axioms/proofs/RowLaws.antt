@@ -1,11 +1,10 @@
 -- Each row of the table: its letters are found exactly at its left form, and both its forms have one value.
-use Rattle.std.proofs.Common.{◌≡◌, refl, sym, ap, ◌∙◌, subst, ℕ, zero, suc, ◌≤◌, ℤ, pos, negsuc, ◌+ℤ◌, ◌-ℤ◌, ◌*ℤ◌, Bool, true, false, IsTrue, List, length, Option, Some, None, arith}
+use Rattle.std.proofs.Common.{◌≡◌, refl, sym, ap, ◌∙◌, ℕ, zero, suc, ◌≤◌, ℤ, pos, negsuc, Bool, true, false, IsTrue, List, Option, Some, None, arith}
 use Rattle.std.specs.Prelude.{◌&&◌, neg_ℤ, nat_le}
 use Rattle.std.specs.Int.Signed.{le_z}
 use Rattle.std.proofs.lemmas.Int.{ints}
 use Rattle.std.proofs.lemmas.Bool.Decides.{nat_tests}
-use Rattle.pf_ints.specs.declared.lane.LaneType.{LaneType}
-use Rattle.pf_ints.specs.Lanes.{IsIn, lane_width, wrapped}
+use Rattle.pf_ints.specs.Lanes.{IsIn, wrapped}
 use Rattle.pf_ints.specs.Ranges.{Range, Holds, range, furthest, lane_range, lies_in}
 use Rattle.pf_ints.proofs.Ring.{distribute, mul_assoc, mul_comm}
 use Rattle.pf_ints.proofs.LaneLaws.{wrapped_same}
@@ -17,7 +16,7 @@ use Rattle.pf_forms.specs.Equality.{same}
 use Rattle.pf_forms.specs.Values.{FVal, AreIn, G, IsFormOver}
 use Rattle.pf_forms.proofs.BoundLaws.{value_in}
 use Rattle.pf_forms.proofs.EqualityLaws.{both, same_true, same_itself}
-use Rattle.pf_axioms.specs.Rows.{Letters, Condition, Free, If, Row, row_of, is_number, is_foldable, is_near, closed_value, minus_one}
+use Rattle.pf_axioms.specs.Rows.{Letters, If, row_of, is_number, is_foldable, is_near, closed_value, minus_one}
 use Rattle.pf_axioms.specs.Steps.{Grants, letters_of, only_if, is_zero, is_one, is_minus_one, of_one, of_two, of_three, typed, in_sum, in_sum_left, in_sum_right, in_add_zero, in_difference, in_cancel, in_product, in_product_left, in_product_right, in_mul_one, in_distribute, in_wrap, in_wrap_wrap, in_wrap_add, in_wrap_mul}
 use Rattle.pf_axioms.proofs.WrapLaws.{wrapped-wrapped, wrapped-add-wrapped, wrapped-mul-wrapped}
 

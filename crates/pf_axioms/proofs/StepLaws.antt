@@ -1,15 +1,15 @@
 -- The function that finds the letters answers what the table says, and what it makes keeps the value.
-use Rattle.std.proofs.Common.{◌≡◌, refl, sym, ap, ◌∙◌, subst, ℕ, Bool, true, false, IsTrue, List, length, Option, Some, None, Result, Ok, Err, IfOk, inl, inr, ◌⊎◌}
+use Rattle.std.proofs.Common.{◌≡◌, refl, sym, ap, ◌∙◌, subst, Bool, true, false, List, length, Option, Some, None, Result, Ok, Err, IfOk, inl, inr}
 use Rattle.pf_ints.specs.Ranges.{Range}
 use Rattle.pf_forms.specs.declared.axioms.Axiom.{Axiom}
 use Rattle.pf_forms.specs.declared.form.Form.{Form}
 use Rattle.pf_forms.specs.Shapes.{Shape, shape}
-use Rattle.pf_forms.specs.Values.{FVal, AreIn, G, IsFormOver}
+use Rattle.pf_forms.specs.Values.{FVal, G, IsFormOver}
 use Rattle.pf_axioms.specs.declared.fault.StepFault.{StepFault}
 use Rattle.pf_axioms.specs.declared.fault.StepFault.TheVariants.{NoMatch, TooWide, NotGranted, Memory}
 use Rattle.pf_axioms.specs.Rows.{Letters, Condition, Free, If, Row, row_of}
-use Rattle.pf_axioms.specs.Steps.{Answer, Matches, Grants, Lacks, Denies, AxiomStep, IsTooWide, IsDenied, IsStep, Keeps, Gives, answer_of, letters_of, limited, tested, judged, suited, answer_at, rewritten}
-use Rattle.pf_axioms.proofs.RowLaws.{IsSound, sound}
+use Rattle.pf_axioms.specs.Steps.{Matches, Grants, Lacks, Denies, AxiomStep, IsStep, Keeps, Gives, answer_of, letters_of, limited, tested, judged, suited, answer_at, rewritten}
+use Rattle.pf_axioms.proofs.RowLaws.{sound}
 
 module _ (law : Axiom) (ranges : List Range) (f : Shape) (is_form : IsFormOver (length ranges) f) where
   row : Row

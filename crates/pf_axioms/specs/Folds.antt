@@ -1,5 +1,5 @@
 -- Numbers that are read from forms.
-use Rattle.std.specs.Prelude.{◌≡◌, ℤ, Bool, false, ◌&&◌, neg_ℤ, Result, Ok, Err}
+use Rattle.std.specs.Prelude.{◌≡◌, ℤ, false, ◌&&◌, neg_ℤ, Result, Ok, Err}
 use Rattle.pf_ints.specs.Ranges.{Holds, range, furthest}
 use Rattle.pf_forms.specs.Shapes.{Shape, Num}
 use Rattle.pf_axioms.specs.declared.fault.StepFault.{StepFault}

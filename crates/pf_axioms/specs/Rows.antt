@@ -1,5 +1,5 @@
 -- The table of the axioms.
-use Rattle.std.specs.Prelude.{ℕ, ℤ, pos, negsuc, neg_ℤ, Bool, true, false, ◌&&◌, nat_le}
+use Rattle.std.specs.Prelude.{ℤ, pos, negsuc, neg_ℤ, Bool, true, false, ◌&&◌, nat_le}
 use Rattle.std.specs.Int.Signed.{le_z}
 use Rattle.pf_ints.specs.declared.lane.LaneType.{LaneType}
 use Rattle.pf_ints.specs.Lanes.{lane_width}

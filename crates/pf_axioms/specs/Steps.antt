@@ -6,7 +6,7 @@ use Rattle.pf_ints.specs.Ranges.{Range}
 use Rattle.pf_forms.specs.declared.axioms.Axiom.{Axiom}
 use Rattle.pf_forms.specs.declared.axioms.Axiom.TheVariants.{AddComm, AddAssoc, AddBack, AddZero, SubAdd, Cancel, MulComm, MulAssoc, MulBack, MulOne, Distribute, Fold, DropWrap, WrapWrap, WrapAdd, WrapMul}
 use Rattle.pf_forms.specs.declared.form.Form.{Form}
-use Rattle.pf_forms.specs.Shapes.{Shape, shape, Var, Num, Pow, Add, Sub, Mul, FloorDiv, Min, Max, Abs, Sel, Wrap, Sat}
+use Rattle.pf_forms.specs.Shapes.{Shape, shape, Num, Add, Sub, Mul, Wrap}
 use Rattle.pf_forms.specs.Equality.{same}
 use Rattle.pf_forms.specs.Values.{FVal, AreIn, G, IsFormOver}
 use Rattle.pf_axioms.specs.declared.fault.StepFault.{StepFault}

@@ -3,8 +3,8 @@ ghost use Rattle.pf_forms.specs.Shapes.{shape};
 ghost use Rattle.pf_forms.specs.Values.{IsFormOver};
 
 use super::*;
-use pf_forms::{Axiom, Form, print_form};
-use pf_ints::{Bits, FURTHEST, Interval, IntervalList, LaneType, Name, NameList};
+use pf_forms::{Axiom, Form, at, equal, form_bounds, print_form, put, size};
+use pf_ints::{Bits, FURTHEST, Interval, IntervalList, LaneType, Name, NameList, Path};
 use std::alloc::Global;
 use std::test::Fail;
 
@@ -46,6 +46,7 @@ fn leaf(word: u8) -> Form
         b'0' => Form::Num(0),
         b'1' => Form::Num(1),
         b'n' => Form::Num(-1),
+        b'p' => Form::Pow(4),
         b'L' => Form::Num(FURTHEST - 1),
         b'M' => Form::Num(FURTHEST),
         _ => Form::Num(-FURTHEST),
@@ -59,10 +60,14 @@ fn unary(word: u8, x: Box<Form>) -> Form
     match word {
         b'8' => Form::Wrap(unsigned(Bits::Eight), x),
         b'6' => Form::Wrap(unsigned(Bits::Sixteen), x),
-        b's' => Form::Sat(unsigned(Bits::Eight), x),
+        b's' => Form::Sat(signed(Bits::Sixteen), x),
         b'a' => Form::Abs(x),
         _ => Form::FloorDiv(x, 1),
     }
+}
+
+fn signed(bits: Bits) -> LaneType {
+    LaneType { signed: true, bits }
 }
 
 fn unsigned(bits: Bits) -> LaneType {
@@ -125,6 +130,65 @@ fn text_of(fault: &StepFault) -> &'static [u8] {
     }
 }
 
+/// A form with each kind of node.
+fn sample(alloc: Global) -> Result<Box<Form>, Fail>
+    ensures { IfOk result (λ b. IsFormOver 2 (shape b.value)) }
+{
+    let (form, _) = read(alloc, b"?8x1a/*xns>x<-xp+xx")?;
+    Ok(form)
+}
+
+fn has_text(alloc: Global, form: &Form, text: &[u8]) -> Result<bool, Fail>
+    requires { IsFormOver 2 (shape form.now) }
+{
+    Ok(print_form(alloc, form, &names(alloc)?)?.as_slice() == text)
+}
+
+#[test]
+fn prints_measures_and_copies(rt: HostRuntime) -> Result<(), Fail> {
+    let form = sample(rt.alloc())?;
+    let text =
+        b"sel(wrap_u8(x),1,abs(div(mul(x,-1),2^1)),sat_i16(max(x,min(sub(x,2^4),add(x,x)))))";
+    assert!(rt; has_text(rt.alloc(), &form, text)?);
+    assert_eq!(rt; size(&form), 20);
+    let copied = form.copy(rt.alloc())?;
+    assert!(rt; equal(&form, &copied));
+    assert!(rt; !equal(&copied, &Form::Num(1)));
+    Ok(())
+}
+
+#[test]
+fn finds_and_puts_parts(rt: HostRuntime) -> Result<(), Fail> {
+    let form = sample(rt.alloc())?;
+    let divisor = Path::from_slice(rt.alloc(), &[2, 0, 1])?;
+    assert!(rt; at(&form, &divisor).is_none());
+    let path = Path::from_slice(rt.alloc(), &[3, 0, 1, 0])?;
+    let part = at(&form, &path).ok_or("no part")?;
+    assert_eq!(rt; size(part), 3);
+    let new = put(form.copy(rt.alloc())?, &path, Form::Pow(4));
+    let text = b"sel(wrap_u8(x),1,abs(div(mul(x,-1),2^1)),sat_i16(max(x,min(2^4,add(x,x)))))";
+    assert!(rt; has_text(rt.alloc(), &new, text)?);
+    Ok(())
+}
+
+#[test]
+fn gives_intervals(rt: HostRuntime) -> Result<(), Fail> {
+    let form = sample(rt.alloc())?;
+    let got = form_bounds(&form, &ranges(rt.alloc())?).ok_or("no interval")?;
+    assert_eq!(rt; (got.lo(), got.hi()), (0, 255));
+    let (wide, _) = read(rt.alloc(), b"+Mx")?;
+    assert!(rt; form_bounds(&wide, &ranges(rt.alloc())?).is_none());
+    Ok(())
+}
+
+#[test]
+fn knows_the_names(rt: HostRuntime) {
+    assert!(rt; Axiom::from_name(b"wrap_add") == Some(Axiom::WrapAdd));
+    assert!(rt; Axiom::from_name(b"wrap_ad").is_none());
+    assert!(rt; Axiom::from_name(b"mul_zero").is_none());
+    assert_eq!(rt; Axiom::Cancel.name(), "cancel");
+}
+
 #[test]
 fn rewrites_by_each_axiom(rt: HostRuntime) -> Result<(), Fail> {
     let cases = [
@@ -184,7 +248,7 @@ fn folds_numbers(rt: HostRuntime) -> Result<(), Fail> {
         (">n1", "1"),
         ("aN", "1329227995784915872903807060280344576"),
         ("8n", "255"),
-        ("sn", "0"),
+        ("sN", "-32768"),
         ("?1n0M", "0"),
         ("?nn0M", "1329227995784915872903807060280344576"),
         ("+x1", "no match"),

@@ -7,8 +7,8 @@ use Rattle.std.proofs.lemmas.Int.{ints, clamps}
 use Rattle.std.proofs.lemmas.Nat.{pow_pos}
 use Rattle.pf_ints.specs.declared.lane.LaneType.{LaneType}
 use Rattle.pf_ints.specs.Whole.{floor_div}
-use Rattle.pf_ints.specs.Lanes.{IsIn, wrapped, clamped, least, greatest}
-use Rattle.pf_ints.specs.Ranges.{Range, range, within, Holds, IsRange, sum_range, difference_range, product_range, quotient_range, min_range, max_range, abs_range, join_range, choice_range, wrap_range, clamp_range, lane_range, lies_in}
+use Rattle.pf_ints.specs.Lanes.{IsIn, wrapped, clamped}
+use Rattle.pf_ints.specs.Ranges.{Range, range, within, Holds, sum_range, difference_range, product_range, min_range, max_range, abs_range, join_range, choice_range, wrap_range, lane_range, lies_in}
 use Rattle.pf_ints.proofs.LaneLaws.{member, wrapped_same}
 use Rattle.pf_ints.proofs.RangeLaws.{within_some, floor_div-le, clamped_rises, inside_holds, holds_product, distance_is}
 use Rattle.pf_forms.specs.Shapes.{Shape, Var, Num, Pow, Add, Sub, Mul, FloorDiv, Min, Max, Abs, Sel, Wrap, Sat}

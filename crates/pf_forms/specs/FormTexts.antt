@@ -1,5 +1,5 @@
 -- The printed texts of forms.
-use Rattle.std.specs.Prelude.{Bool, true, false, ℕ, ℤ, List, ◌++◌, [], codes, decimal, slice_index_or}
+use Rattle.std.specs.Prelude.{Bool, true, false, ℕ, List, ◌++◌, [], codes, decimal, slice_index_or}
 use Rattle.std.specs.Fmt.{signed_decimal}
 use Rattle.pf_ints.specs.declared.lane.LaneType.{LaneType}
 use Rattle.pf_ints.specs.Lanes.{lane_width}

@@ -19,11 +19,16 @@ node_count (Sel a b x y) = node_count a + node_count b + (node_count x + node_co
 node_count (Wrap t x) = node_count x + 1
 node_count (Sat t x) = node_count x + 1
 
+-- the part of a number, counted from 0, of one, two or four parts
 abbrev only : Shape → ℕ → Option Shape
 only x i = if i == 0 then Some x else None
 
 abbrev either : Shape → Shape → ℕ → Option Shape
 either x y i = if i == 0 then Some x else (if i == 1 then Some y else None)
+
+abbrev any_of : Shape → Shape → Shape → Shape → ℕ → Option Shape
+any_of a b x y i =
+    if i == 0 then Some a else (if i == 1 then Some b else (if i == 2 then Some x else (if i == 3 then Some y else None)))
 
 -- the child of a number
 abbrev pub child : Shape → ℕ → Option Shape
@@ -37,7 +42,7 @@ child (FloorDiv x e) i = only x i
 child (Min x y) i = either x y i
 child (Max x y) i = either x y i
 child (Abs x) i = only x i
-child (Sel a b x y) i = if i == 0 then Some a else (if i == 1 then Some b else (if i == 2 then Some x else (if i == 3 then Some y else None)))
+child (Sel a b x y) i = any_of a b x y i
 child (Wrap t x) i = only x i
 child (Sat t x) i = only x i
 

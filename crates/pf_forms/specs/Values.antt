@@ -1,5 +1,5 @@
 -- The value of a form, and the interval that its variables' intervals give it.
-use Rattle.std.specs.Prelude.{◌≡◌, ℕ, ℤ, pos, ◌^◌, ◌<◌, ◌+ℤ◌, ◌-ℤ◌, ◌*ℤ◌, neg_ℤ, int_lt, unsigned_abs, if◌then◌else◌, List, Option, Some, None, slice_get, option_and_then, option_map}
+use Rattle.std.specs.Prelude.{◌≡◌, ℕ, ℤ, pos, ◌^◌, ◌<◌, ◌+ℤ◌, ◌-ℤ◌, ◌*ℤ◌, neg_ℤ, int_lt, unsigned_abs, if◌then◌else◌, List, Option, Some, slice_get, option_and_then, option_map}
 use Rattle.std.specs.Int.{int_max, int_min}
 use Rattle.pf_ints.specs.Whole.{floor_div}
 use Rattle.pf_ints.specs.Lanes.{wrapped, clamped}

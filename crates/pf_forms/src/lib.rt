@@ -8,8 +8,6 @@ mod equals;
 mod form;
 mod parts;
 mod sizes;
-#[cfg(test)]
-mod tests;
 mod texts;
 
 pub use axioms::Axiom;

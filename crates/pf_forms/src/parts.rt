@@ -1,13 +1,16 @@
-ghost use Rattle.std.specs.Prelude.{◌≡◌, IsSome, option_map};
+ghost use Rattle.std.specs.Prelude.{◌≡◌, ℕ, ℤ, IsSome, IfSome, option_map};
 ghost use Rattle.pf_forms.specs.Shapes.{shape};
+ghost use Rattle.pf_forms.specs.Values.{FVal, IsFormOver};
 ghost use Rattle.pf_forms.specs.Parts.{child, part_at, put_at};
 
 use crate::form::Form;
 use pf_ints::Path;
 
 /// The part at a path, or None where the path leaves the form.
+#[tactic(auto, using(crate::proofs::PartLaws::part_form))]
 pub fn at<'a>(form: &'a Form, path: &Path) -> Option<&'a Form>
-    ensures { option_map (λ x. shape x.now) result ≡ part_at (shape form.now) path.now }
+    ensures value { option_map (λ x. shape x.now) result ≡ part_at (shape form.now) path.now }
+    ensures form { (count : ℕ) → IsFormOver count (shape form.now) → IfSome result (λ x. IsFormOver count (shape x.now)) }
 {
     descend(form, path.as_slice())
 }
@@ -40,10 +43,15 @@ pub fn child_of(form: &Form, i: u8) -> Option<&Form>
     }
 }
 
-/// The form with `part` in place of what stands at the path.
+/// The form with `part` in place of what stands at the path. It has the value of the form where
+/// `part` has that of the replaced part.
+#[tactic(auto, using(crate::proofs::PartLaws::put_form, crate::proofs::PartLaws::put_value))]
 pub fn put(form: Form, path: &Path, part: Form) -> Form
     requires { IsSome (part_at (shape form) path.now) }
-    ensures { shape result ≡ put_at (shape form) path.now (shape part) }
+    ensures value { shape result ≡ put_at (shape form) path.now (shape part) }
+    ensures form { (count : ℕ) → IsFormOver count (shape form) → IsFormOver count (shape part) → IsFormOver count (shape result) }
+    ensures same_value { (v : ℕ → ℤ) → IfSome (part_at (shape form) path.now) (λ p. FVal v (shape part) ≡ FVal v p)
+        → FVal v (shape result) ≡ FVal v (shape form) }
 {
     let mut form = form;
     replace(&mut form, path.as_slice(), part);

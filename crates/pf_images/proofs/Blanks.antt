@@ -1,12 +1,11 @@
 -- White space that is counted is pieces of white space, and pieces are counted whole.
-use Rattle.std.proofs.Common.{◌≡◌, ℕ, zero, suc, ◌+◌, ◌-◌, ◌*◌, ◌<◌, ◌≤◌, List, [], ◌∷◌, ◌++◌, length, take, drop, Bool, true, false, ◌||◌, ◌&&◌, eqb, not, refl, sym, ap, ◌∙◌, append_assoc, arith, ⊎_elim, inl, inr, subst}
-use Rattle.std.specs.List.{AllByRecursion, concat, list_all}
-use Rattle.std.proofs.lemmas.Bool.{cases_Bool, or_cases, or_parts, or_right, eqb-true, eq-eqb, ne_eqb, and_parts}
+use Rattle.std.proofs.Common.{◌≡◌, ℕ, suc, ◌+◌, ◌<◌, ◌≤◌, List, [], ◌∷◌, ◌++◌, length, take, drop, Bool, true, false, eqb, refl, sym, ap, ◌∙◌, append_assoc, arith, inl, inr, subst}
+use Rattle.std.specs.List.{AllByRecursion, concat}
+use Rattle.std.proofs.lemmas.Bool.{cases_Bool, eqb-true}
 use Rattle.std.proofs.lemmas.Bool.Decides.{nat_tests}
 use Rattle.std.proofs.lemmas.List.{length-append}
-use Rattle.pf_ints.specs.Words.{is_digit}
 use Rattle.pf_images.specs.Pgm.{is_white, ends_comment, IsPiece, IsBlank, begins_blank}
-use Rattle.pf_images.specs.Reading.{blank_count, digit_count, is_open}
+use Rattle.pf_images.specs.Reading.{blank_count}
 
 -- pieces of white space, or none
 abbrev pub IsSpace : List ℕ → Type 0

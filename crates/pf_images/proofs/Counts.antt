@@ -1,10 +1,7 @@
 -- Digits and white space, counted from the front.
-use Rattle.std.proofs.Common.{◌≡◌, ℕ, zero, suc, ◌+◌, ◌-◌, ◌*◌, ◌<◌, ◌≤◌, min, List, [], ◌∷◌, ◌++◌, length, take, drop, get_or, Bool, true, false, ◌||◌, refl, sym, ap, ◌∙◌, arith}
-use Rattle.std.proofs.lemmas.Bool.{cases_Bool}
+use Rattle.std.proofs.Common.{◌≡◌, ℕ, ◌+◌, ◌-◌, ◌*◌, ◌<◌, min, List, [], ◌∷◌, length, drop, get_or, refl, sym, ap, ◌∙◌, arith}
 use Rattle.std.proofs.lemmas.List.{drop_more}
-use Rattle.pf_ints.specs.Words.{is_digit}
-use Rattle.pf_images.specs.Pgm.{number_from, begins_blank}
-use Rattle.pf_images.specs.Reading.{blank_count, digit_count, is_open}
+use Rattle.pf_images.specs.Pgm.{number_from}
 
 -- a number that is kept at the cap goes on as the number itself does
 pub number_from_capped : (a : ℕ) (ds : List ℕ) → min (number_from (min a 65536) ds) 65536 ≡ min (number_from a ds) 65536

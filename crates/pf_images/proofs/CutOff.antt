@@ -1,12 +1,11 @@
 -- Where reading a number stops, the bytes before begin one and the next byte goes on with none.
-use Rattle.std.proofs.Common.{◌≡◌, ℕ, zero, suc, ◌+◌, ◌-◌, ◌*◌, ◌<◌, ◌≤◌, List, [], ◌∷◌, ◌++◌, length, take, drop, Bool, true, false, cond, ◌||◌, ◌&&◌, eqb, not, Result, Ok, Err, refl, sym, ap, ◌∙◌, append_assoc, arith, ◌⊎◌, inl, inr, subst}
-use Rattle.std.specs.List.{list_all}
-use Rattle.std.proofs.lemmas.Bool.{cases_Bool, eqb-true, eqb-false, ne_eqb, and_parts, or_parts}
+use Rattle.std.proofs.Common.{◌≡◌, ℕ, suc, ◌<◌, ◌≤◌, List, [], ◌∷◌, ◌++◌, length, take, drop, Bool, true, false, cond, ◌||◌, eqb, Result, Ok, Err, refl, sym, ap, ◌∙◌, append_assoc, arith, ◌⊎◌, inl, inr, subst}
+use Rattle.std.proofs.lemmas.Bool.{cases_Bool, eqb-true, eqb-false, ne_eqb, or_parts}
 use Rattle.std.proofs.lemmas.List.{length-append, length-take-le, take-append-drop, take_at, drop_at, append-nil}
 use Rattle.pf_ints.specs.Words.{is_digit}
 use Rattle.pf_images.specs.declared.fault.Fault.{Fault}
 use Rattle.pf_images.specs.declared.fault.PgmKind.TheVariants.{Number}
-use Rattle.pf_images.specs.Pgm.{is_white, ends_comment, begins_blank, number_from, IsNumber, IsBlank, IsField}
+use Rattle.pf_images.specs.Pgm.{begins_blank, number_from, IsNumber, IsBlank}
 use Rattle.pf_images.specs.Faults.{IsWhole, IsBegun, Stops}
 use Rattle.pf_images.specs.Reading.{◌>>=◌, at_these, blank_count, digit_count, is_open, begun, digits_at, field_at}
 use Rattle.pf_images.proofs.Blanks.{counted_blank, blank_again, blank_begins}

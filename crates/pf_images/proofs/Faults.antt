@@ -1,7 +1,7 @@
 -- A fault that is told stands where the definitions say.
-use Rattle.std.proofs.Common.{◌≡◌, ℕ, zero, suc, ◌+◌, ◌-◌, ◌*◌, ◌^◌, ◌<◌, ◌≤◌, List, [], ◌∷◌, ◌++◌, length, take, drop, Bool, true, false, cond, ◌&&◌, eqb, leb, ltb, Result, Ok, Err, refl, sym, ap, ◌∙◌, append_assoc, arith, ◌⊎◌, inl, inr, subst}
+use Rattle.std.proofs.Common.{◌≡◌, ℕ, ◌-◌, ◌*◌, ◌^◌, ◌<◌, ◌≤◌, List, [], ◌∷◌, ◌++◌, length, take, drop, Bool, true, false, cond, ◌&&◌, eqb, leb, ltb, Result, Ok, Err, refl, sym, ap, ◌∙◌, append_assoc, arith, inl, inr, subst}
 use Rattle.std.specs.Prelude.{codes}
-use Rattle.std.proofs.lemmas.Bool.{eqb-true, eq-eqb, and_from, ltb-true, ltb-false, le-leb, lt-ltb}
+use Rattle.std.proofs.lemmas.Bool.{eq-eqb, and_from, ltb-true, le-leb, lt-ltb}
 use Rattle.std.proofs.lemmas.List.{length-append, length-drop, length-take-le, take-append-drop, append-nil}
 use Rattle.pf_ints.specs.declared.lane.LaneType.{LaneType}
 use Rattle.pf_ints.specs.Lanes.{lane_width}
@@ -10,9 +10,9 @@ use Rattle.pf_images.specs.declared.fault.Fault.{Fault}
 use Rattle.pf_images.specs.declared.fault.PgmKind.{PgmKind}
 use Rattle.pf_images.specs.declared.fault.PgmKind.TheVariants.{Magic, Number, Size, Maxval, Short, Extra}
 use Rattle.pf_images.specs.declared.header.Header.{Header}
-use Rattle.pf_images.specs.Pgm.{is_white, begins_blank, number_from, IsNumber, IsBlank, IsField, IsHead, IsMaxval, sample_bytes}
-use Rattle.pf_images.specs.Faults.{IsSide, AreSizes, may_comment, Stops, IsCutOff, IsNumberAt, IsBehindHeader, IsFaultBetween, IsFaultAt}
-use Rattle.pf_images.specs.Reading.{◌>>=◌, at_these, at_number, begun, field_at, side_of, height_of, maxval_of, magic_of, header_of, counted, parts_of, picture_of, image_of}
+use Rattle.pf_images.specs.Pgm.{begins_blank, number_from, IsField, IsHead, IsMaxval, sample_bytes}
+use Rattle.pf_images.specs.Faults.{IsSide, AreSizes, may_comment, Stops, IsNumberAt, IsBehindHeader, IsFaultBetween, IsFaultAt}
+use Rattle.pf_images.specs.Reading.{at_these, at_number, begun, field_at, side_of, height_of, maxval_of, magic_of, header_of, counted, parts_of, picture_of, image_of}
 use Rattle.pf_images.proofs.Fields.{BeginsBlank, begun_takes, FieldTakes, field_takes}
 use Rattle.pf_images.proofs.Headers.{HeaderTakes, header_takes, head_more, parts_more, at_maxval, at_third, at_height, at_second, at_width, at_first, at_start, magic_takes, side_takes, height_takes}
 use Rattle.pf_images.proofs.CutOff.{bind_err, test_err, pass_err, begun_stops, begun_none, front_cut, FieldStops, field_stops}

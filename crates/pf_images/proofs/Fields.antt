@@ -1,15 +1,15 @@
 -- A number behind white space, read and spelled.
-use Rattle.std.proofs.Common.{◌≡◌, ℕ, zero, suc, ◌+◌, ◌-◌, ◌*◌, ◌<◌, ◌≤◌, List, [], ◌∷◌, ◌++◌, length, take, drop, Bool, true, false, cond, ◌||◌, ◌&&◌, eqb, not, Result, Ok, Err, refl, sym, ap, ◌∙◌, append_assoc, arith, inl, inr, subst}
-use Rattle.std.specs.List.{AllByRecursion, concat, list_all}
-use Rattle.std.proofs.lemmas.Bool.{cases_Bool, eqb-true, eqb-false, ne_eqb, and_parts}
+use Rattle.std.proofs.Common.{◌≡◌, ℕ, suc, ◌<◌, ◌≤◌, List, [], ◌∷◌, ◌++◌, length, take, drop, Bool, true, false, cond, eqb, Result, Ok, Err, refl, sym, ap, ◌∙◌, append_assoc, arith, inl, inr, subst}
+use Rattle.std.specs.List.{list_all}
+use Rattle.std.proofs.lemmas.Bool.{cases_Bool, eqb-false, ne_eqb, and_parts}
 use Rattle.std.proofs.lemmas.Bool.Decides.{nat_tests}
 use Rattle.std.proofs.lemmas.List.{length-append, length-take-le, take-append-drop, take_at, drop_at}
 use Rattle.pf_ints.specs.Words.{is_digit}
 use Rattle.pf_images.specs.declared.fault.Fault.{Fault}
 use Rattle.pf_images.specs.declared.fault.PgmKind.TheVariants.{Number}
-use Rattle.pf_images.specs.Pgm.{is_white, number_from, IsNumber, IsBlank, IsField, begins_blank}
+use Rattle.pf_images.specs.Pgm.{number_from, IsNumber, IsBlank, IsField, begins_blank}
 use Rattle.pf_images.specs.Reading.{◌>>=◌, at_these, blank_count, digit_count, begun, digits_at, field_at}
-use Rattle.pf_images.proofs.Blanks.{counted_blank, blank_again, blank_begins}
+use Rattle.pf_images.proofs.Blanks.{counted_blank, blank_again}
 
 -- the value of a step that did not fail
 pub bind_ok : {A B : Type 0} (r : Result A Fault) (f : A → Result B Fault) (y : B) → (r >>= f) ≡ Ok y → (x : A) × (r ≡ Ok x) × (f x ≡ Ok y)
@@ -137,11 +137,15 @@ pub first_digit : (digits : List ℕ) (n : ℕ) → IsNumber digits n → (d : �
 first_digit [] n h = absurd (omega (arith, h.0))
 first_digit (d ∷ ds) n h = (d, ds, refl, digit_no_blank d (and_parts (is_digit d) (list_all is_digit ds) h.1).0)
 
+pub field_reads : (comments : Bool) (blank digits rest : List ℕ) (n : ℕ) → IsBlank blank → IsNumber digits n → BeginsBlank comments rest → field_at comments (blank ++ (digits ++ rest)) ≡ Ok (digits, rest)
+unfolding field_at
+field_reads comments blank digits rest n b h e =
+    let f = first_digit digits n h in
+    let count : blank_count false (blank ++ (digits ++ rest)) ≡ length blank = subst (λ (t : List ℕ). blank_count false (blank ++ (t ++ rest)) ≡ length blank) (sym f.2) (blank_again blank f.0 (f.1 ++ rest) b f.3) in
+    rw (count, drop_at blank (digits ++ rest) (length blank) refl) (digits_again comments digits rest n h e)
+
 -- a field is read again, whatever stands behind its end
 pub field_again : (comments : Bool) (text rest : List ℕ) (n : ℕ) → IsField text n → BeginsBlank comments rest → (digits : List ℕ) × IsNumber digits n × (field_at comments (text ++ rest) ≡ Ok (digits, rest))
-unfolding field_at
 field_again comments text rest n h b =
-    let f = first_digit h.1 n h.3 in
     let grouped : text ++ rest ≡ h.0 ++ (h.1 ++ rest) = ap (λ (t : List ℕ). t ++ rest) h.4 ∙ append_assoc h.0 h.1 rest in
-    let count : blank_count false (h.0 ++ (h.1 ++ rest)) ≡ length h.0 = subst (λ (t : List ℕ). blank_count false (h.0 ++ (t ++ rest)) ≡ length h.0) (sym f.2) (blank_again h.0 f.0 (f.1 ++ rest) h.2 f.3) in
-    (h.1, h.3, ap (field_at comments) grouped ∙ rw (count, drop_at h.0 (h.1 ++ rest) (length h.0) refl) (digits_again comments h.1 rest n h.3 b))
+    (h.1, h.3, ap (field_at comments) grouped ∙ field_reads comments h.0 h.1 rest n h.2 h.3 b)

@@ -1,18 +1,18 @@
 -- A header, read and spelled.
-use Rattle.std.proofs.Common.{◌≡◌, ℕ, zero, suc, ◌+◌, ◌-◌, ◌*◌, ◌^◌, ◌<◌, ◌≤◌, List, [], ◌∷◌, ◌++◌, length, take, drop, Bool, true, false, cond, ◌||◌, ◌&&◌, eqb, leb, ltb, Result, Ok, Err, refl, sym, ap, ◌∙◌, append_assoc, arith, inl, inr, subst}
+use Rattle.std.proofs.Common.{◌≡◌, ℕ, ◌*◌, ◌^◌, ◌≤◌, List, [], ◌∷◌, ◌++◌, drop, true, false, cond, ◌&&◌, eqb, leb, ltb, Result, Ok, Err, refl, sym, ap, ◌∙◌, append_assoc, arith, subst}
 use Rattle.std.specs.Prelude.{codes}
-use Rattle.std.proofs.lemmas.Bool.{cases_Bool, eqb-true, and_parts, leb-true, ltb-true, le-leb, lt-ltb}
+use Rattle.std.proofs.lemmas.Bool.{eqb-true, and_parts, leb-true, ltb-true, le-leb, lt-ltb}
 use Rattle.std.proofs.lemmas.Bool.Decides.{nat_tests}
 use Rattle.pf_ints.specs.declared.lane.LaneType.{LaneType}
 use Rattle.pf_ints.specs.Lanes.{lane_width}
 use Rattle.pf_images.specs.declared.fault.Fault.{Fault}
 use Rattle.pf_images.specs.declared.fault.PgmKind.TheVariants.{Magic, Size, Maxval}
 use Rattle.pf_images.specs.declared.header.Header.{Header}
-use Rattle.pf_images.specs.Pgm.{is_white, number_from, IsNumber, IsField, IsHead, IsMaxval, begins_blank}
+use Rattle.pf_images.specs.Pgm.{is_white, number_from, IsField, IsHead, IsMaxval, begins_blank}
 use Rattle.pf_images.specs.Faults.{IsSide}
 use Rattle.pf_images.specs.Reading.{◌>>=◌, at_these, at_number, begun, field_at, side_of, height_of, maxval_of, magic_of, header_of}
 use Rattle.pf_images.proofs.Blanks.{blank_begins}
-use Rattle.pf_images.proofs.Fields.{bind_ok, pass_ok, ok_is, BeginsBlank, begun_takes, begun_again, FieldTakes, field_takes, field_again}
+use Rattle.pf_images.proofs.Fields.{bind_ok, pass_ok, ok_is, BeginsBlank, begun_takes, begun_again, field_takes, field_again}
 
 -- ---- single steps
 
@@ -25,7 +25,7 @@ magic_takes (a ∷ b ∷ more) rest e =
     let both = and_parts (eqb a 80) (eqb b 53) p.0 in
     rw (eqb-true a 80 both.0, eqb-true b 53 both.1, p.1) refl
 
-magic_again : (rest : List ℕ) → magic_of (codes "P5" ++ rest) ≡ Ok rest
+pub magic_again : (rest : List ℕ) → magic_of (codes "P5" ++ rest) ≡ Ok rest
 unfolding magic_of
 magic_again rest = refl
 
@@ -36,7 +36,7 @@ side_takes field n e =
     let both = and_parts (leb 1 (number_from 0 field.0)) (leb (number_from 0 field.0) 8192) p.0 in
     (p.1, record { some = omega (arith, p.1, leb-true _ _ both.0); most = omega (arith, p.1, leb-true _ _ both.1) })
 
-side_again : (field : List ℕ × List ℕ) (n : ℕ) → number_from 0 field.0 ≡ n → IsSide n → side_of field ≡ Ok n
+pub side_again : (field : List ℕ × List ℕ) (n : ℕ) → number_from 0 field.0 ≡ n → IsSide n → side_of field ≡ Ok n
 unfolding side_of
 side_again field n e h =
     let low : leb 1 n ≡ true = le-leb _ _ h.some in
@@ -171,17 +171,17 @@ third_again ty text w h m c rest f most white =
     let a = field_again false text (c ∷ rest) m f (c, rest, refl, rw white refl) in
     rw (a.2, maxval_again ty (a.0, c ∷ rest) m a.1.2 most) refl
 
-second_again : (ty : LaneType) (text : List ℕ) (w h : ℕ) (rest : List ℕ) → IsField text h → IsSide h → w * h ≤ 16777216 → BeginsBlank true rest → at_second ty w (text ++ rest) ≡ at_third ty w h rest
+pub second_again : (ty : LaneType) (text : List ℕ) (w h : ℕ) (rest : List ℕ) → IsField text h → IsSide h → w * h ≤ 16777216 → BeginsBlank true rest → at_second ty w (text ++ rest) ≡ at_third ty w h rest
 second_again ty text w h rest f high most b =
     let a = field_again true text rest h f b in
     rw (a.2, height_again w (a.0, rest) h a.1.2 high most) refl
 
-first_again : (ty : LaneType) (text : List ℕ) (w : ℕ) (rest : List ℕ) → IsField text w → IsSide w → BeginsBlank true rest → at_first ty (text ++ rest) ≡ at_second ty w rest
+pub first_again : (ty : LaneType) (text : List ℕ) (w : ℕ) (rest : List ℕ) → IsField text w → IsSide w → BeginsBlank true rest → at_first ty (text ++ rest) ≡ at_second ty w rest
 first_again ty text w rest f wide b =
     let a = field_again true text rest w f b in
     rw (a.2, side_again (a.0, rest) w a.1.2 wide) refl
 
-field_begins : (text rest : List ℕ) (n : ℕ) → IsField text n → BeginsBlank true (text ++ rest)
+pub field_begins : (text rest : List ℕ) (n : ℕ) → IsField text n → BeginsBlank true (text ++ rest)
 field_begins text rest n f =
     subst (BeginsBlank true) (sym (ap (λ (t : List ℕ). t ++ rest) f.4 ∙ append_assoc f.0 f.1 rest)) (blank_begins f.0 (f.1 ++ rest) f.2)
 
@@ -190,7 +190,7 @@ regrouped head f2 t3 f1 t2 f0 t1 p tail e3 e2 e1 e0 =
     ap (λ (t : List ℕ). t ++ tail) e3 ∙ append_assoc f2 t3 tail ∙ ap (λ (t : List ℕ). t ++ (t3 ++ tail)) e2 ∙ append_assoc f1 t2 (t3 ++ tail)
     ∙ ap (λ (t : List ℕ). t ++ (t2 ++ (t3 ++ tail))) e1 ∙ append_assoc f0 t1 (t2 ++ (t3 ++ tail)) ∙ ap (λ (t : List ℕ). t ++ (t1 ++ (t2 ++ (t3 ++ tail)))) e0
 
-start_again : (ty : LaneType) (rest : List ℕ) → BeginsBlank true rest → header_of ty (codes "P5" ++ rest) ≡ at_first ty rest
+pub start_again : (ty : LaneType) (rest : List ℕ) → BeginsBlank true rest → header_of ty (codes "P5" ++ rest) ≡ at_first ty rest
 unfolding header_of
 start_again ty rest b = rw (magic_again rest, begun_again true rest b) refl
 

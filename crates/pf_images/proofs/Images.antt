@@ -1,27 +1,22 @@
 -- A whole file, read and spelled.
-use Rattle.std.proofs.Common.{◌≡◌, ℕ, zero, suc, ◌+◌, ◌-◌, ◌*◌, ◌^◌, ◌<◌, ◌≤◌, List, [], ◌∷◌, ◌++◌, length, take, drop, Bool, true, false, cond, ◌||◌, ◌&&◌, eqb, leb, ltb, Result, Ok, Err, refl, sym, ap, ◌∙◌, append_assoc, arith, inl, inr, subst, All, pos}
-use Rattle.std.specs.Prelude.{codes}
+use Rattle.std.proofs.Common.{◌≡◌, ℕ, ◌*◌, ◌^◌, ◌<◌, ◌≤◌, List, [], ◌∷◌, ◌++◌, length, drop, Bool, true, false, cond, ltb, Ok, Err, refl, sym, ap, ◌∙◌, append_assoc, arith, inl, inr, subst, pos}
 use Rattle.std.specs.List.{AllByRecursion, flat_map}
 use Rattle.std.specs.Int.{w16, to_be_bytes}
-use Rattle.std.proofs.lemmas.Bool.{cases_Bool, cases_lt, ltb-false, le-ltb, lt-ltb, ltb-true}
-use Rattle.std.proofs.lemmas.Bool.Decides.{nat_tests}
+use Rattle.std.proofs.lemmas.Bool.{cases_Bool, cases_lt, ltb-false, le-ltb, lt-ltb}
 use Rattle.std.proofs.lemmas.Int.{ints}
-use Rattle.std.proofs.lemmas.List.{length-append}
 use Rattle.std.proofs.lemmas.List.Elements.{All-from_recursion, recursion_from_All}
 use Rattle.pf_ints.specs.declared.lane.LaneType.{LaneType}
 use Rattle.pf_ints.specs.declared.lane.Bits.{Bits}
 use Rattle.pf_ints.specs.declared.lane.Bits.TheVariants.{Eight, Sixteen, ThirtyTwo}
 use Rattle.pf_ints.specs.Lanes.{lane_width, bit_count, IsIn}
-use Rattle.pf_ints.specs.Images.{Picture, IsPicture, IsPixelType}
-use Rattle.pf_images.specs.declared.fault.Fault.{Fault}
+use Rattle.pf_ints.specs.Images.{Picture, IsPixelType}
 use Rattle.pf_images.specs.declared.fault.PgmKind.TheVariants.{Short, Extra}
 use Rattle.pf_images.specs.declared.header.Header.{Header}
-use Rattle.pf_images.specs.Pgm.{is_white, IsHead, IsMaxval, IsPgm, samples, sample_bytes}
-use Rattle.pf_images.specs.Faults.{IsSide}
-use Rattle.pf_images.specs.Reading.{◌>>=◌, at_these, counted, header_of, parts_of, pairs, pixels_of, picture_of, image_of}
+use Rattle.pf_images.specs.Pgm.{IsMaxval, IsPgm, samples, sample_bytes}
+use Rattle.pf_images.specs.Reading.{at_these, counted, header_of, parts_of, pairs, pixels_of, picture_of, image_of}
 use Rattle.pf_images.proofs.Pairs.{IsBytes, spelled_pairs, pairs_again, length-pairs, pairs_below}
 use Rattle.pf_images.proofs.Fields.{bind_ok, test_ok, ok_is}
-use Rattle.pf_images.proofs.Headers.{HeaderTakes, header_takes, header_again}
+use Rattle.pf_images.proofs.Headers.{header_takes, header_again}
 
 -- ---- pixels
 

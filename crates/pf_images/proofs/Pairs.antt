@@ -1,9 +1,8 @@
 -- Pairs of bytes and the numbers that they spell.
-use Rattle.std.proofs.Common.{◌≡◌, ℕ, zero, suc, ◌+◌, ◌-◌, ◌*◌, ◌/◌, ◌%◌, ◌^◌, ◌<◌, ◌≤◌, List, [], ◌∷◌, ◌++◌, length, take, drop, get_or, refl, sym, ap, ◌∙◌, append_assoc, arith, All}
+use Rattle.std.proofs.Common.{◌≡◌, ℕ, zero, suc, ◌+◌, ◌*◌, ◌/◌, ◌%◌, ◌^◌, ◌<◌, ◌≤◌, List, [], ◌∷◌, ◌++◌, length, drop, get_or, refl, sym, ap, ◌∙◌, append_assoc, arith}
 use Rattle.std.specs.List.{flat_map, AllByRecursion}
-use Rattle.std.specs.Int.{w16, to_be_bytes, from_be_bytes}
-use Rattle.std.proofs.lemmas.List.{drop_more, drop_all, append-nil, length-drop}
-use Rattle.std.proofs.lemmas.Nat.{be_bytes_2, from_be_bytes-to_be_bytes_2}
+use Rattle.std.specs.Int.{w16, to_be_bytes}
+use Rattle.std.proofs.lemmas.List.{drop_more, append-nil, length-drop}
 use Rattle.pf_images.specs.Reading.{pairs}
 
 pairs_more : (n : ℕ) (bytes : List ℕ) → 2 * n + 1 < length bytes → pairs (drop (2 * n) bytes) ≡ (256 * get_or bytes (2 * n) 0 + get_or bytes (2 * n + 1) 0) ∷ pairs (drop (2 * (n + 1)) bytes)

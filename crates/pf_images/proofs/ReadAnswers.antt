@@ -10,11 +10,12 @@ use Rattle.pf_images.specs.declared.fault.ImageFault.{ImageFault}
 use Rattle.pf_images.specs.declared.fault.ImageFault.TheVariants.{At, Memory}
 use Rattle.pf_images.specs.declared.header.Header.{Header}
 use Rattle.pf_images.specs.Pgm.{IsPgm}
-use Rattle.pf_images.specs.Faults.{IsReadAs, IsFault, IsFaultAt}
-use Rattle.pf_images.specs.Reading.{Answers, parts_of, pixels_of, picture_of, image_of}
+use Rattle.pf_images.specs.Faults.{IsReadAs, IsFault, IsFaultAt, IsToldAs}
+use Rattle.pf_images.specs.Reading.{Answers, parts_of, pixels_of, image_of}
 use Rattle.pf_images.proofs.Pairs.{IsBytes}
 use Rattle.pf_images.proofs.Images.{parts_take, image_takes, image_again}
 use Rattle.pf_images.proofs.Faults.{left_within, image_told}
+use Rattle.pf_images.proofs.FaultsAgain.{fault_again, at_within}
 
 pub bytes_fit : (bytes : List ℕ) → ((i : ℕ) → get_or bytes i 0 < 256) → IsBytes bytes
 bytes_fit bytes h = recursion_from_All (λ b. b < 256) bytes (All-from_get_or (λ b. b < 256) bytes 0 (λ i lt. h i))
@@ -54,3 +55,20 @@ fault_from ty bytes (Err (At at kind)) a =
     let back : length bytes - (length bytes - at) ≡ at = omega (arith, a.0) in
     subst (λ (n : ℕ). IsFaultAt ty bytes n kind) back (image_told ty bytes (record { left = length bytes - at; kind = kind }) a.1)
 fault_from ty bytes (Err Memory) a = tt
+
+err_is : (f g : Fault) → ◌≡◌ {A = Result Picture Fault} (Err f) (Err g) → f ≡ g
+err_is f g e = cc
+
+pub told_from : (ty : LaneType) (bytes : List ℕ) (r : Result Picture ImageFault) → Answers bytes r (image_of ty bytes) → (at : ℕ) (kind : PgmKind) → IsFaultAt ty bytes at kind → IsToldAs at kind r
+told_from ty bytes (Ok p) a at kind f = no_both a (fault_again ty bytes at kind f)
+  where
+    no_both : image_of ty bytes ≡ Ok p → image_of ty bytes ≡ Err (record { left = length bytes - at; kind = kind }) → ⊥
+    no_both d e = cc
+told_from ty bytes (Err (At place which)) a at kind f = same a.1 (fault_again ty bytes at kind f)
+  where
+    same : image_of ty bytes ≡ Err (record { left = length bytes - place; kind = which }) → image_of ty bytes ≡ Err (record { left = length bytes - at; kind = kind }) → (place ≡ at) × (which ≡ kind)
+    same d e =
+        let both = err_is (record { left = length bytes - place; kind = which }) (record { left = length bytes - at; kind = kind }) (sym d ∙ e) in
+        let one : length bytes - place ≡ length bytes - at = ap (λ (g : Fault). g.left) both in
+        (omega (arith, a.0, at_within ty bytes at kind f), ap (λ (g : Fault). g.kind) both)
+told_from ty bytes (Err Memory) a at kind f = tt

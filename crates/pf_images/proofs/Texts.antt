@@ -1,17 +1,16 @@
 -- What is written spells the image.
-use Rattle.std.proofs.Common.{◌≡◌, ℕ, suc, ◌+◌, ◌-◌, ◌*◌, ◌^◌, ◌<◌, ◌≤◌, List, [], ◌∷◌, ◌++◌, length, true, refl, sym, ap, ◌∙◌, append_assoc, arith, rules, inl, inr, subst, pos, All}
+use Rattle.std.proofs.Common.{◌≡◌, ℕ, ◌-◌, ◌^◌, ◌<◌, ◌≤◌, List, [], ◌∷◌, ◌++◌, true, refl, append_assoc, arith, rules, inl, pos, All}
 use Rattle.std.specs.Prelude.{codes, decimal}
 use Rattle.std.specs.List.{list_all}
 use Rattle.std.proofs.lemmas.Fmt.{digits_decimal, digits_value-decimal, decimal_nonempty}
 use Rattle.std.proofs.lemmas.Str.Parse.{IsNumeralModel, numerals_by_fold}
 use Rattle.std.proofs.lemmas.List.Elements.{All-from_recursion, recursion_from_All}
-use Rattle.pf_ints.specs.declared.lane.LaneType.{LaneType}
 use Rattle.pf_ints.specs.declared.lane.Bits.{Bits}
 use Rattle.pf_ints.specs.declared.lane.Bits.TheVariants.{Eight, Sixteen, ThirtyTwo}
 use Rattle.pf_ints.specs.Lanes.{lane_width, bit_count, IsIn}
-use Rattle.pf_ints.specs.Images.{Picture, IsPicture, IsPixelType}
+use Rattle.pf_ints.specs.Images.{Picture, IsPicture}
 use Rattle.pf_ints.specs.Words.{is_digit}
-use Rattle.pf_images.specs.Pgm.{is_white, number_from, IsNumber, IsField, IsHead, IsMaxval, IsPgm, samples, greatest_sample, header_text, pgm_text}
+use Rattle.pf_images.specs.Pgm.{is_white, number_from, IsNumber, IsField, IsPgm, samples, greatest_sample, pgm_text}
 use Rattle.pf_images.proofs.Images.{weaker, out_type}
 
 own : IsNumeralModel (λ ds. list_all is_digit ds ≡ true) (number_from 0)

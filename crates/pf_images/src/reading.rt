@@ -1,9 +1,9 @@
 //! Images of PGM files.
 
-ghost use Rattle.std.specs.Prelude.{◌≡◌, ◌-◌, ◌≤◌, ◌*◌, length, IfOk, IfErr};
+ghost use Rattle.std.specs.Prelude.{◌≡◌, ◌-◌, ◌≤◌, ◌*◌, length, ℕ, IfOk, IfErr};
 ghost use Rattle.pf_ints.specs.Images.{Picture, IsPixelType};
 ghost use Rattle.pf_images.specs.Pgm.{IsPgm, sample_bytes};
-ghost use Rattle.pf_images.specs.Faults.{IsReadAs, IsFault};
+ghost use Rattle.pf_images.specs.Faults.{IsReadAs, IsFault, IsFaultAt, IsToldAs};
 ghost use Rattle.pf_images.specs.Reading.{Gives, Answers, counted, parts_of, pairs, pixels_of, image_of};
 
 use crate::fault::{Fault, ImageFault, PgmKind};
@@ -136,8 +136,8 @@ pub fn read_pgm(alloc: Global, bytes: &[u8], ty: LaneType) -> Result<Image, Imag
     ensures only { (p : Picture) → IsPgm bytes.now ty p → IsReadAs p result }
     // A fault stands where it is told.
     ensures fault { IfErr result (IsFault ty bytes.now) }
-    // Which fault it is.
-    ensures exact { Answers bytes.now result (image_of ty bytes.now) }
+    // Where a fault stands, it is told, unless memory runs out.
+    ensures told { (at : ℕ) (kind : PgmKind) → IsFaultAt ty bytes.now at kind → IsToldAs at kind result }
 {
     image_of(alloc, bytes, ty)
 }

@@ -1,5 +1,5 @@
 -- A row's run, a step at a time, beside what the machine answers.
-use Rattle.std.proofs.Common.{◌≡◌, ℕ, zero, suc, ◌+◌, ◌-◌, ◌<◌, List, Bool, true, false, Result, Ok, Err, refl, sym, ap, ◌∙◌, arith}
+use Rattle.std.proofs.Common.{◌≡◌, ℕ, suc, ◌+◌, List, true, false, Ok, Err, refl, sym, ap}
 use Rattle.pf_isa.specs.declared.steps.Trap.{Trap}
 use Rattle.pf_isa.specs.declared.steps.Trap.TheVariants.{Outside, Spent as Overspent}
 use Rattle.pf_isa.specs.declared.code.Line.{Line}

@@ -1,11 +1,8 @@
 -- The printed text of a term stands inside a line.
-use Rattle.std.proofs.Common.{◌≡◌, refl, sym, ap, ◌∙◌, subst, ℕ, Bool, true, false, List, [], ◌∷◌, ◌++◌, length, map, take, drop, get_or}
+use Rattle.std.proofs.Common.{◌≡◌, refl, sym, subst, ℕ, Bool, true, false, List, [], ◌∷◌, ◌++◌, map, take, drop, get_or}
 use Rattle.std.specs.Prelude.{decimal, codes, ℤ}
 use Rattle.std.specs.Fmt.{signed_decimal}
-use Rattle.std.specs.List.{list_all}
 use Rattle.pf_ints.specs.declared.lane.LaneType.{LaneType}
-use Rattle.pf_ints.specs.declared.lane.Bits.{Bits}
-use Rattle.pf_ints.specs.declared.lane.Bits.TheVariants.{Eight, Sixteen, ThirtyTwo}
 use Rattle.pf_ints.specs.Lanes.{lane_width}
 use Rattle.pf_terms.specs.declared.names.Names.{Names}
 use Rattle.pf_terms.specs.declared.names.Tap.{Tap as TapOf}
@@ -18,8 +15,8 @@ use Rattle.pf_terms.specs.declared.term.Leaf.TheVariants.{Tap, Const, Def}
 use Rattle.pf_terms.specs.declared.term.Term.{Term, roll-Term, map-Term}
 use Rattle.pf_terms.specs.declared.term.Term.TheOpen.{Term-F}
 use Rattle.pf_terms.specs.declared.term.Term.TheOpen.Term-F.{Leaf, Node}
-use Rattle.pf_terms.specs.declared.term.Term.TheFolds.{fold-Term, fold-roll-Term, ind-Term}
-use Rattle.pf_terms.specs.TermTexts.{type_word, sign_letter, no_image, no_tap, no_def, placed_text, leaf_text, joined, called, signed_by, bracketed, op_word, spelled, spelling_of, node_text, text_step, term_text}
+use Rattle.pf_terms.specs.declared.term.Term.TheFolds.{fold-roll-Term, ind-Term}
+use Rattle.pf_terms.specs.TermTexts.{type_word, sign_letter, no_image, no_tap, no_def, placed_text, leaf_text, joined, called, signed_by, bracketed, op_word, spelled, spelling_of, text_step, term_text}
 use Rattle.pf_isa.proofs.TextLaws.{inner, is_inner, all-append, inner_decimal, inner_signed}
 
 -- a text inside a line

@@ -13,9 +13,9 @@ use Rattle.std.proofs.lemmas.List.Splits.{slice_split_at}
 use Rattle.pf_ints.specs.Words.{is_name_byte, is_letter, is_digit, is_spelled, is_reserved, is_name}
 use Rattle.pf_isa.specs.declared.code.Line.{Line}
 use Rattle.pf_isa.specs.declared.code.Label.{Label}
-use Rattle.pf_isa.specs.Lines.{is_blank, tight, tight_on}
+use Rattle.pf_isa.specs.Lines.{is_blank, tight_on}
 use Rattle.pf_isa.specs.Tables.{Table}
-use Rattle.pf_isa.specs.Texts.{Said, Nothing, Named, Does, printed, line_text, label_text, label_lines, labels_at, labels_behind, named, code_lines, code_of, labels_of, said_from, said_line, uncommented, Says}
+use Rattle.pf_isa.specs.Texts.{Said, Nothing, Named, Does, printed, line_text, label_lines, labels_at, labels_behind, named, code_lines, code_of, labels_of, said_from, uncommented}
 
 pub printed-append : (a b : List (List ℕ)) → printed (a ++ b) ≡ printed a ++ printed b
 printed-append a b = flat_map-append (λ l. l ++ 10 ∷ []) a b

@@ -1,15 +1,14 @@
 -- What is written of a program is a text of it.
-use Rattle.std.proofs.Common.{◌≡◌, ◌≢◌, refl, sym, ap, ◌∙◌, subst, ℕ, zero, suc, ◌+◌, ◌<◌, ◌≤◌, Bool, true, false, not, ◌&&◌, List, [], ◌∷◌, ◌++◌, length, map, get_or, arith, All, ◌==◌, Option, Some, None, rules}
-use Rattle.std.specs.Prelude.{codes, decimal, IsTrue, nat_le, if◌then◌else◌}
+use Rattle.std.proofs.Common.{◌≡◌, ◌≢◌, refl, sym, ap, ◌∙◌, subst, ℕ, zero, suc, ◌+◌, ◌<◌, ◌≤◌, true, false, not, List, [], ◌∷◌, ◌++◌, length, map, get_or, arith, All, ◌==◌, rules}
+use Rattle.std.specs.Prelude.{codes, IsTrue, nat_le, if◌then◌else◌}
 use Rattle.std.specs.List.{list_all, AllByRecursion, AllPairs, AllZip}
 use Rattle.std.specs.Str.Lines.{lines}
-use Rattle.std.proofs.lemmas.Bool.{and_parts, not-true, ne_eqb}
+use Rattle.std.proofs.lemmas.Bool.{and_parts, ne_eqb}
 use Rattle.std.proofs.lemmas.List.{append-nil}
 use Rattle.std.proofs.lemmas.List.Elements.{recursion_from_All}
 use Rattle.pf_ints.specs.declared.target.Target.{Target}
 use Rattle.pf_ints.specs.declared.target.Target.TheVariants.{Neon, Avx2, Hvx}
-use Rattle.pf_ints.specs.Targets.{target_word}
-use Rattle.pf_ints.specs.Words.{is_name, is_name_byte}
+use Rattle.pf_ints.specs.Words.{is_name}
 use Rattle.pf_terms.specs.declared.kernel.Definition.{Definition}
 use Rattle.pf_terms.specs.declared.kernel.ImageDecl.{ImageDecl}
 use Rattle.pf_terms.specs.declared.names.Names.{Names}
@@ -21,12 +20,12 @@ use Rattle.pf_isa.specs.declared.program.Head.{Head}
 use Rattle.pf_isa.specs.declared.code.Line.{Line}
 use Rattle.pf_isa.specs.declared.code.Line.TheVariants.{Vector, Control as Controls}
 use Rattle.pf_isa.specs.declared.code.Label.{Label}
-use Rattle.pf_isa.specs.Lines.{tight, tight_on, IsLine, IsPlain, IsInstruction}
+use Rattle.pf_isa.specs.Lines.{tight, IsLine, IsPlain, IsInstruction}
 use Rattle.pf_isa.specs.Tables.{Table, IsTable}
 use Rattle.pf_isa.specs.Heads.{IsHead, IsDecl, AreLiftedNames, image_name, def_name, names_of, with_def}
 use Rattle.pf_isa.specs.Programs.{Text, IsProgram, IsInstructionOf, IsLabel}
-use Rattle.pf_isa.specs.Texts.{Said, Named, Does, printed, line_text, label_text, label_lines, labels_at, labels_behind, named, code_lines, code_of, labels_of, said_from, uncommented, Says, IsOpOf, IsText, head_lines, target_line, image_line, range_text, tap_line, offsets_text, out_line, scratch_line, typed_term_text, lifted_line, lifted_lines, cost_line}
-use Rattle.pf_isa.proofs.TextLaws.{inner, is_inner, solid, all-append, all-weaker, name_bytes, inner_name, lines-printed, code_of-said_from, Ascend, ascend_at, labels_of-named, is_solid_name, tight-solid, uncommented-no_slash, solid_no_slash, no_slash}
+use Rattle.pf_isa.specs.Texts.{Named, Does, printed, line_text, label_text, label_lines, labels_at, labels_behind, named, code_lines, labels_of, said_from, uncommented, Says, IsOpOf, IsText, head_lines, target_line, image_line, range_text, tap_line, offsets_text, typed_term_text, lifted_lines, cost_line}
+use Rattle.pf_isa.proofs.TextLaws.{inner, is_inner, solid, all-append, all-weaker, inner_name, lines-printed, code_of-said_from, Ascend, ascend_at, labels_of-named, is_solid_name, tight-solid, uncommented-no_slash, solid_no_slash, no_slash}
 use Rattle.pf_isa.proofs.TermLaws.{IsInner, Inner, literal, inner_append, decimal_inner, signed_inner, inner_type, inner_term, InnerNames}
 
 -- ---- lists of lines
@@ -131,9 +130,13 @@ plain_no_slash : (cs : List ℕ) → AllByRecursion IsPlain cs → list_all no_s
 plain_no_slash [] h = refl
 plain_no_slash (c ∷ cs) h = rw (ne_eqb c 47 h.0.2) (plain_no_slash cs h.1)
 
+no_return : (cs : List ℕ) → is_inner cs ≡ true → list_all (λ c. not (c == 13)) cs ≡ true
+no_return cs h = all-weaker inner (λ c. not (c == 13)) (λ c k. (and_parts (not (c == 10)) (not (c == 13)) k).1) cs h
+
 line_says : {I O : Type 0} (t : Table O) (line : Line I O) → IsInstruction (line_text t line) → Says t (line_text t line) (Does line)
 line_says t line h =
-    ap tight (uncommented-no_slash (line_text t line) (plain_no_slash (line_text t line) (recursion_from_All IsPlain (line_text t line) h.plain)))
+    let plain = recursion_from_All IsPlain (line_text t line) h.plain in
+    (no_return (line_text t line) (plain_inner (line_text t line) plain), ap tight (uncommented-no_slash (line_text t line) (plain_no_slash (line_text t line) plain)))
 
 label_solid : (name : List ℕ) → is_name name ≡ true → list_all solid (label_text name) ≡ true
 label_solid name h = all-append solid name (codes ":") (is_solid_name name h) refl
@@ -144,7 +147,8 @@ label_says I t name h =
     let is : is_name name ≡ true = search rules in
     let solid_label = label_solid name is in
     let whole : uncommented (label_text name) ≡ label_text name = uncommented-no_slash (label_text name) (all-weaker solid no_slash solid_no_slash (label_text name) solid_label) in
-    (h, ap tight whole ∙ tight-solid true (label_text name) solid_label)
+    let inside : is_inner (label_text name) ≡ true = all-append inner name (codes ":") (inner_name name is) refl in
+    (no_return (label_text name) inside, (h, ap tight whole ∙ tight-solid true (label_text name) solid_label))
 
 labels_say : {O : Type 0} (I : Type 0) (t : Table O) (ls : List Label) → AreNames ls → AllZip (Says {I = I} t) (label_lines ls) (named ls)
 labels_say I t [] h = tt

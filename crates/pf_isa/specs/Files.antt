@@ -1,5 +1,5 @@
 -- The register file, and what an instruction does to it: it takes what its uses hold to what its defs then hold.
-use Rattle.std.specs.Prelude.{ℕ, ◌<◌, List, [], ◌∷◌, map, Bool, true, false, nat_lt, ◌==◌, if◌then◌else◌, slice_set, slice_index, slice_index_or}
+use Rattle.std.specs.Prelude.{ℕ, ◌<◌, List, [], ◌∷◌, map, nat_lt, ◌==◌, if◌then◌else◌, slice_set, slice_index, slice_index_or}
 use Rattle.pf_isa.specs.declared.registers.Reg.{Reg}
 use Rattle.pf_isa.specs.declared.registers.Reg.TheVariants.{V, K, Q}
 use Rattle.pf_isa.specs.declared.registers.RegFile.{RegFile}

@@ -1,7 +1,6 @@
 -- What a text says before its code.
 use Rattle.std.specs.Prelude.{◌≡◌, ◌≢◌, ℕ, pos, ◌^◌, ◌≤◌, ◌<◌, ◌≤ℤ◌, neg_ℤ, List, [], ◌∷◌, ◌++◌, length, map, sum, IsTrue, All, codes, true}
-use Rattle.std.specs.List.{AllPairs, last_or}
-use Rattle.std.specs.Prelude.{Option, Some, None}
+use Rattle.std.specs.List.{AllPairs}
 use Rattle.pf_ints.specs.Lanes.{IsIn}
 use Rattle.pf_ints.specs.Images.{IsPixelType}
 use Rattle.pf_ints.specs.Words.{is_name}

@@ -1,7 +1,7 @@
 -- Lines of assembly text, and which differences between two lines don't count.
-use Rattle.std.specs.Prelude.{◌≡◌, ◌≢◌, ℕ, List, [], ◌∷◌, Bool, true, false, ◌||◌, ◌==◌, if◌then◌else◌, All}
+use Rattle.std.specs.Prelude.{◌≡◌, ◌≢◌, ℕ, List, [], ◌∷◌, Bool, true, ◌||◌, ◌==◌, if◌then◌else◌, All}
 use Rattle.std.specs.List.{last_or}
-use Rattle.std.specs.Prelude.{Option, Some, None}
+use Rattle.std.specs.Prelude.{Some, None}
 
 -- a space or a TAB
 abbrev pub is_blank : ℕ → Bool

@@ -1,5 +1,5 @@
 -- A machine: its program and its state, and what its calls answer.
-use Rattle.std.specs.Prelude.{◌≡◌, ℕ, ◌+◌, ◌*◌, ◌^◌, ◌<◌, List, [], ◌∷◌, length, map, Bool, true, false, IsTrue, ◌&&◌, ◌==◌, Option, Some, None, Result, Ok, Err, slice_index_or, slice_set, position, is_some, All}
+use Rattle.std.specs.Prelude.{◌≡◌, ℕ, ◌+◌, ◌*◌, ◌^◌, ◌<◌, List, length, map, Bool, true, false, IsTrue, ◌&&◌, ◌==◌, Option, Some, None, Result, Ok, Err, slice_index_or, slice_set, position, is_some, All}
 use Rattle.std.specs.List.{AllPairs}
 use Rattle.pf_isa.specs.declared.steps.Core.{Core}
 use Rattle.pf_isa.specs.declared.steps.Trap.{Trap}

@@ -1,5 +1,5 @@
 -- Programs: a head, code and labels.
-use Rattle.std.specs.Prelude.{◌≡◌, ◌≢◌, ℕ, ◌≤◌, List, [], ◌∷◌, length, map, IsTrue, All, Contains, Option, Some, None}
+use Rattle.std.specs.Prelude.{◌≢◌, ℕ, ◌≤◌, List, length, map, IsTrue, All, Contains, Option, Some, None}
 use Rattle.std.specs.List.{AllPairs, last_or}
 use Rattle.pf_ints.specs.Words.{is_name}
 use Rattle.pf_isa.specs.declared.program.Head.{Head}
@@ -7,7 +7,7 @@ use Rattle.pf_isa.specs.declared.code.Line.{Line}
 use Rattle.pf_isa.specs.declared.code.Line.TheVariants.{Vector, Control as Controls}
 use Rattle.pf_isa.specs.declared.code.Label.{Label}
 use Rattle.pf_isa.specs.declared.control.Control.{Control}
-use Rattle.pf_isa.specs.declared.control.Control.TheVariants.{LoadPtr, StorePtr, Imm, AddImm, AddReg, LoadByte, LoadHalf, StoreByte, StoreHalf, Compare, Below, Jump, Return}
+use Rattle.pf_isa.specs.declared.control.Control.TheVariants.{Below, Jump, Return}
 use Rattle.pf_isa.specs.Tables.{Table, IsOver}
 use Rattle.pf_isa.specs.Control.{IsControl}
 use Rattle.pf_isa.specs.Heads.{IsHead}

@@ -1,5 +1,5 @@
 -- The machine: one step, and a row of steps.
-use Rattle.std.specs.Prelude.{◌≡◌, ℕ, zero, suc, ◌+◌, ◌-◌, ◌*◌, ◌%◌, ◌^◌, List, [], ◌∷◌, length, Bool, true, false, if◌then◌else◌, nat_lt, Option, Some, None, slice_get, slice_set, slice_index, slice_index_or, replicate}
+use Rattle.std.specs.Prelude.{ℕ, zero, suc, ◌+◌, ◌-◌, ◌*◌, ◌%◌, ◌^◌, List, [], ◌∷◌, length, Bool, false, if◌then◌else◌, nat_lt, Option, Some, None, slice_get, slice_set, slice_index, slice_index_or, replicate}
 use Rattle.std.specs.Str.{bytes_eq}
 use Rattle.pf_ints.specs.declared.target.Target.{Target}
 use Rattle.pf_ints.specs.declared.target.Target.TheVariants.{Neon, Avx2, Hvx}

@@ -1,9 +1,9 @@
 -- A set of vector instructions as one table, and the laws that every such set meets.
-use Rattle.std.specs.Prelude.{◌≡◌, ◌≢◌, ℕ, ◌+◌, ◌*◌, ◌<◌, ◌≤◌, List, [], ◌∷◌, length, map, Bool, true, false, IsTrue, Option, Some, None, MatchOption, All, Contains}
+use Rattle.std.specs.Prelude.{◌≡◌, ℕ, ◌+◌, ◌*◌, ◌<◌, ◌≤◌, List, [], ◌∷◌, length, map, Bool, true, false, IsTrue, Option, Some, None, MatchOption, All, Contains}
 use Rattle.std.specs.Option.{option_map}
 use Rattle.pf_ints.specs.declared.target.Target.{Target}
 use Rattle.pf_isa.specs.declared.registers.Reg.{Reg}
-use Rattle.pf_isa.specs.declared.registers.Reg.TheVariants.{V}
+use Rattle.pf_isa.specs.declared.registers.Reg.TheVariants.{V, K, Q}
 use Rattle.pf_isa.specs.declared.registers.RegFile.{RegFile}
 use Rattle.pf_isa.specs.declared.access.Access.{Access}
 use Rattle.pf_isa.specs.declared.control.Control.{Control}
@@ -82,16 +82,28 @@ Accesses uses defs a = (a.base < 8) × (IsTrue a.load → Contains defs (V a.vec
 abbrev pub renamed_access : ℕ → ℕ → Access → Access
 renamed_access from to a = record a { vector = renamed_vector from to a.vector }
 
+-- how many of the registers are vectors
+abbrev pub vector_count : List Reg → ℕ
+vector_count [] = 0
+vector_count (V n ∷ rs) = 1 + vector_count rs
+vector_count (K ∷ rs) = vector_count rs
+vector_count (Q ∷ rs) = vector_count rs
+
 -- the laws, over the values that are operations
 pub record IsTable {O : Type 0} (t : Table O) (is_op : O → Type 0) : Type 0 where
   -- an operation that runs keeps the sizes of the file
   pub sized : (op : O) (f : RegFile) → is_op op → CanRun t op f → IsFile t (length f.vectors) (after t op f)
+  -- it names at most four vectors
+  pub few : (op : O) → is_op op → vector_count (t.uses op) + vector_count (t.defs op) ≤ 4
   -- a new name stands in place of the old one in uses, defs and access; results, cost and the rest of the access stay
   pub rename_uses : (op : O) (from to : ℕ) → t.fixed from ≡ false → t.fixed to ≡ false → t.uses (t.renamed op from to) ≡ map (λ r. renamed_register from to r) (t.uses op)
   pub rename_defs : (op : O) (from to : ℕ) → t.fixed from ≡ false → t.fixed to ≡ false → t.defs (t.renamed op from to) ≡ map (λ r. renamed_register from to r) (t.defs op)
   pub rename_outcome : (op : O) (from to : ℕ) (held : List (List ℕ)) → t.outcome (t.renamed op from to) held ≡ t.outcome op held
   pub rename_access : (op : O) (from to : ℕ) → t.access (t.renamed op from to) ≡ option_map (λ a. renamed_access from to a) (t.access op)
   pub rename_cost : (op : O) (from to : ℕ) → t.cost (t.renamed op from to) ≡ t.cost op
+  -- a vector has 1 to 128 bytes
+  pub some_bytes : 1 ≤ t.vector
+  pub few_bytes : t.vector ≤ 128
   -- the vectors of the machine have room for four names more than an allocator hands out, none of them fixed
   pub room : t.names + 4 ≤ t.vectors
   pub free : (n : ℕ) → n < t.names + 4 → t.fixed n ≡ false
@@ -100,6 +112,8 @@ pub record IsTable {O : Type 0} (t : Table O) (is_op : O → Type 0) : Type 0 wh
   pub accesses : (op : O) → is_op op → MatchOption (t.access op) (Unit {0}) (λ a. Accesses (t.uses op) (t.defs op) a)
   pub load_access : (to j : ℕ) → j ≤ 7 → t.access (t.load to j) ≡ Some (record { load = true; vector = to; base = 5; offset = j * t.vector })
   pub store_access : (from j : ℕ) → j ≤ 7 → t.access (t.store from j) ≡ Some (record { load = false; vector = from; base = 5; offset = j * t.vector })
+  pub load_over : (to j : ℕ) → to < t.vectors → j ≤ 7 → IsOver t (t.load to j)
+  pub store_over : (from j : ℕ) → from < t.vectors → j ≤ 7 → IsOver t (t.store from j)
   pub load_cost : (to j : ℕ) → t.cost (t.load to j) ≡ 0
   pub store_cost : (from j : ℕ) → t.cost (t.store from j) ≡ 0
   -- a line means one operation, or one control instruction, or neither, and no label, comment or blank line

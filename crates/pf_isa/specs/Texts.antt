@@ -1,7 +1,7 @@
 -- Programs as texts.
-use Rattle.std.specs.Prelude.{◌≡◌, ℕ, ◌+◌, List, [], ◌∷◌, ◌++◌, map, Bool, ◌&&◌, ◌==◌, nat_le, if◌then◌else◌, IsTrue, All, codes, decimal}
+use Rattle.std.specs.Prelude.{◌≡◌, ℕ, ◌+◌, List, [], ◌∷◌, ◌++◌, map, true, not, ◌&&◌, ◌==◌, nat_le, if◌then◌else◌, IsTrue, All, codes, decimal}
 use Rattle.std.specs.Fmt.{signed_decimal}
-use Rattle.std.specs.List.{AllZip, flat_map}
+use Rattle.std.specs.List.{AllZip, flat_map, list_all}
 use Rattle.std.specs.Str.Lines.{lines}
 use Rattle.pf_ints.specs.declared.target.Target.{Target}
 use Rattle.pf_ints.specs.declared.lane.LaneType.{LaneType}
@@ -85,10 +85,14 @@ line_text t (Controls c) = t.control_text c
 abbrev pub label_text : List ℕ → List ℕ
 label_text name = name ++ codes ":"
 
+abbrev pub SaysBare : {I O : Type 0} → Table O → List ℕ → Said I O → Type 0
+SaysBare t bare Nothing = tight bare ≡ []
+SaysBare t bare (Named name) = IsTrue (is_name name) × (tight bare ≡ label_text name)
+SaysBare t bare (Does l) = IsLine bare (line_text t l)
+
+-- a line without a carriage return, also in its comment, says this
 abbrev pub Says : {I O : Type 0} → Table O → List ℕ → Said I O → Type 0
-Says t line Nothing = tight (uncommented line) ≡ []
-Says t line (Named name) = IsTrue (is_name name) × (tight (uncommented line) ≡ label_text name)
-Says t line (Does l) = IsLine (uncommented line) (line_text t l)
+Says t line said = (list_all (λ c. not (c == 13)) line ≡ true) × SaysBare t (uncommented line) said
 
 -- the instructions of the lines
 abbrev pub code_of : {I O : Type 0} → List (Said I O) → List (Line I O)

@@ -1,20 +1,20 @@
 -- The table meets the laws of every set of instructions.
-use Rattle.std.proofs.Common.{◌≡◌, ◌≢◌, ℕ, ◌*◌, ◌/◌, ◌^◌, ◌<◌, List, [], ◌++◌, true, false, nat_le, length, map, Some, None, MatchOption, refl, arith, sym, ⊎_elim}
+use Rattle.std.proofs.Common.{◌≡◌, ◌≢◌, ℕ, ◌+◌, ◌*◌, ◌/◌, ◌^◌, ◌<◌, ◌≤◌, List, [], ◌∷◌, ◌++◌, All, true, false, nat_le, length, map, Some, None, MatchOption, refl, arith, sym, ⊎_elim}
 use Rattle.std.specs.Prelude.{codes, slice_index_or}
 use Rattle.std.specs.Fmt.{decimal}
 use Rattle.std.specs.Option.{option_map}
 use Rattle.std.proofs.lemmas.Bool.{cases_Bool}
 use Rattle.std.proofs.lemmas.List.{length-set}
-use Rattle.std.proofs.lemmas.List.Elements.{All-set, All-get_or}
+use Rattle.std.proofs.lemmas.List.Elements.{All-set, All-get_or, All-from_recursion}
 use Rattle.std.proofs.lemmas.List.Folds.{list_all-append}
 use Rattle.pf_isa.specs.declared.registers.RegFile.{RegFile}
 use Rattle.pf_isa.specs.declared.registers.Reg.TheVariants.{V}
 use Rattle.pf_isa.specs.declared.control.Control.{Control}
 use Rattle.pf_isa.specs.declared.control.Control.TheVariants.{LoadPtr, StorePtr, Imm, AddImm, AddReg, LoadByte, LoadHalf, StoreByte, StoreHalf, Compare, Below, Jump, Return}
 use Rattle.pf_isa.specs.Control.{IsControl}
-use Rattle.pf_isa.specs.Files.{renamed_register}
+use Rattle.pf_isa.specs.Files.{IsIn, renamed_register}
 use Rattle.pf_isa.specs.Lines.{tight, IsInstruction}
-use Rattle.pf_isa.specs.Tables.{IsTable, IsOver, IsFile, CanRun, MeansOp, MeansControl, Accesses, renamed_access, after}
+use Rattle.pf_isa.specs.Tables.{IsTable, IsOver, IsFile, CanRun, MeansOp, MeansControl, Accesses, renamed_access, vector_count, after}
 use Rattle.pf_isa.proofs.QuietLaws.{is_quiet, are_quiet, quiet_number, quiet_before, quiet_label, instruction}
 use Rattle.pf_neon.specs.declared.op.Form.{Form}
 use Rattle.pf_neon.specs.declared.op.Form.TheVariants.{Load, Store, Copy, Lanewise}
@@ -192,9 +192,26 @@ some_control Return = λ e. cc
 control_instruction : (c : Control) → IsControl c → IsInstruction (control_text c)
 control_instruction c is = instruction (control_text c) (quiet_control c is) (some_control c)
 
+few : (op : Form) → IsForm op → vector_count (uses op) + vector_count (defs op) ≤ 4
+few (Load to j) is = omega arith
+few (Store from j) is = omega arith
+few (Copy to from) is = omega arith
+few (Lanewise name lanes to left right) is = omega arith
+
+one_in : (n : ℕ) → n < 32 → All (λ r. IsIn 32 r) (V n ∷ [])
+one_in n h = All-from_recursion (λ r. IsIn 32 r) (V n ∷ []) (h, tt)
+
+none_in : All (λ r. IsIn 32 r) []
+none_in = All-from_recursion (λ r. IsIn 32 r) [] tt
+
 pub is_table : IsTable table IsForm
 is_table = record {
   sized = sized;
+  few = few;
+  some_bytes = omega arith;
+  few_bytes = omega arith;
+  load_over = λ to j h k. record { uses = none_in; defs = one_in to h };
+  store_over = λ from j h k. record { uses = one_in from h; defs = none_in };
   rename_uses = λ op from to free other. rename_uses op from to;
   rename_defs = λ op from to free other. rename_defs op from to;
   rename_outcome = rename_outcome;

@@ -100,7 +100,7 @@ module _ (I O : Type 0) (t : Table O) (is_op : O → Type 0) (laws : IsTable t i
   place = place_of_tap h fit.head s images taps pictures keeps y
 
   abbrev place_is : RowPlace t.vector pictures at entries widths width slots n h.scratch (output_size h pictures) line image place
-  place_is = row_placed h fit.head s images taps pictures keeps t.vector slots fit.some fit.most fit.scratch at scratch output placed y inside
+  place_is = row_placed h fit.head s images taps pictures keeps t.vector slots laws.some_bytes laws.few_bytes fit.scratch at scratch output placed y inside
 
   count_is : length widths ≡ length h.taps
   count_is = length-map h.taps (λ t. pixel_bytes (get_or h.images t.image no_decl).ty)

@@ -110,5 +110,5 @@ module _ (I O : Type 0) (t : Table O) (is_op : O → Type 0) (laws : IsTable t i
       leaves t p pictures s value_at taps ty keeps values
       (λ at scratch output placed y inside.
       let done = block_row I O t is_op laws h slots block ones fit s images taps pictures keeps at scratch output placed y inside in
-      let same : done.0 ≡ row_in_memory value_at h pictures y = row_of_lanes t h slots block fit.some value lanewise pictures y done.0 done.1 in
+      let same : done.0 ≡ row_in_memory value_at h pictures y = row_of_lanes t h slots block laws.some_bytes value lanewise pictures y done.0 done.1 in
       subst (λ row. RowDone t p pictures at y row scratch output) same done.2)

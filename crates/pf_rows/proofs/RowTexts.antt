@@ -43,20 +43,22 @@ module _ (I O : Type 0) (t : Table O) (h : Head) (slots : ℕ) (block : List (It
   small : All (λ w. w ≤ 2) (tap_widths h)
   small = widths_low h fit.head
 
-  pub row_is_program : IsProgram t (row_text I t h block)
-  row_is_program =
-      let width = pixel_bytes h.out_ty in
-      let widths = tap_widths h in
-      let clean = fit.clean in
-      record {
-        head = fit.head;
-        code = code_is I O t widths width block few fit.most fit.some slots fit.loads fit.keeps small small_out clean.within fit.steps;
-        last = code_ends I O t widths width block few fit.most fit.some slots fit.loads fit.keeps small small_out clean.within fit.steps;
-        labels = labels_are I O t widths width block few;
-        distinct = labels_distinct I O t widths width block few;
-      }
-
   module _ (is_op : O → Type 0) (laws : IsTable t is_op) where
+    pub row_is_program : IsProgram t (row_text I t h block)
+    row_is_program =
+        let loads = λ (to part : ℕ) (known : to < t.vectors) (low : part ≤ 1). laws.load_over to part known (omega arith) in
+        let keeps = λ (from part : ℕ) (known : from < t.vectors) (low : part ≤ 1). laws.store_over from part known (omega arith) in
+        let width = pixel_bytes h.out_ty in
+        let widths = tap_widths h in
+        let clean = fit.clean in
+        record {
+          head = fit.head;
+          code = code_is I O t widths width block few laws.few_bytes laws.some_bytes slots loads keeps small small_out clean.within fit.steps;
+          last = code_ends I O t widths width block few laws.few_bytes laws.some_bytes slots loads keeps small small_out clean.within fit.steps;
+          labels = labels_are I O t widths width block few;
+          distinct = labels_distinct I O t widths width block few;
+        }
+
     pub row_is_moved : Moved t (length h.taps) (row_code {I = I} t (tap_widths h) (pixel_bytes h.out_ty) block) (row_labels I t (tap_widths h) (pixel_bytes h.out_ty) block)
     row_is_moved =
         let clean = fit.clean in

@@ -18,7 +18,7 @@ use Rattle.pf_isa.specs.Heads.{IsHead}
 use Rattle.pf_isa.specs.Programs.{Text}
 use Rattle.pf_isa.specs.Runs.{Places, IsPlaced, Leaves, pixel_bytes, columns, rows}
 use Rattle.pf_isa.specs.RowEnds.{row_size, RowDone}
-use Rattle.pf_isa.specs.Tables.{Table, IsFile, IsOver}
+use Rattle.pf_isa.specs.Tables.{Table, IsFile}
 use Rattle.pf_rows.specs.RowCode.{row_code, row_labels, scratch_bytes, slot_at, buffer_at}
 
 abbrev pub no_decl : ImageDecl
@@ -98,11 +98,6 @@ pub record IsRowBlock {O : Type 0} (t : Table O) (h : Head) (slots : ℕ) (block
   pub clean : IsClean t t.vectors slots (pixel_bytes h.out_ty) block
   pub steps : All (IsStep (tap_widths h) (pixel_bytes h.out_ty)) block
   pub stores : StoresEach (pixel_bytes h.out_ty) block
-  -- of the set of instructions: the size of a vector, and that loads and stores name the machine's vectors alone
-  pub some : 1 ≤ t.vector
-  pub most : t.vector ≤ 128
-  pub loads : (to part : ℕ) → to < t.vectors → part ≤ 1 → IsOver t (t.load to part)
-  pub keeps : (from part : ℕ) → from < t.vectors → part ≤ 1 → IsOver t (t.store from part)
 
 -- the images are those that the head asks for, and the output has a pixel
 abbrev pub KeepsHead : Head → List Picture → Type 0

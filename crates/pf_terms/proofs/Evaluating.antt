@@ -1,12 +1,12 @@
 -- The values of a node's operands, as they are found one after another.
-use Rattle.std.proofs.Common.{◌≡◌, refl, sym, ap, ◌∙◌, subst, ℕ, ◌+◌, ◌-◌, ◌*◌, ◌<◌, ◌≤◌, zero, suc, ℤ, pos, arith, Bool, true, false, ◌&&◌, List, [], ◌∷◌, ◌++◌, length, map, get_or, take, set}
-use Rattle.std.specs.Prelude.{All, nat_le, Ok}
-use Rattle.std.proofs.lemmas.List.{length-map, map-append, take_more, take_more_set, take_all}
+use Rattle.std.proofs.Common.{◌≡◌, sym, ap, ◌∙◌, subst, ℕ, ◌+◌, ◌<◌, ◌≤◌, zero, suc, ℤ, arith, true, List, [], ◌∷◌, ◌++◌, length, map, get_or, take, set}
+use Rattle.std.specs.Prelude.{All, nat_le}
+use Rattle.std.proofs.lemmas.List.{map-append, take_more, take_more_set, take_all}
 use borrow.Author.Tests.{leb-true}
 use Rattle.pf_ints.specs.declared.lane.LaneType.{LaneType}
 use Rattle.pf_ints.specs.declared.lane.Bits.{Bits}
 use Rattle.pf_ints.specs.declared.lane.Bits.TheVariants.{Eight, Sixteen, ThirtyTwo}
-use Rattle.pf_ints.specs.Lanes.{lane_width, bit_count, IsIn}
+use Rattle.pf_ints.specs.Lanes.{bit_count, IsIn}
 use Rattle.pf_terms.specs.declared.op.Op.{Op}
 use Rattle.pf_terms.specs.declared.row.Amounts.{Amounts}
 use Rattle.pf_terms.specs.declared.row.Amounts.TheVariants.{Without, Shift, RoundingShift, Product, RoundingProduct}
@@ -18,11 +18,11 @@ use Rattle.pf_terms.specs.declared.term.Term.TheVariants.{Leaf, Node}
 use Rattle.pf_terms.specs.declared.term.Leaf.{Leaf as LeafOf}
 use Rattle.pf_terms.specs.Operators.{row_of}
 use Rattle.pf_terms.specs.Small.{IsSmall}
-use Rattle.pf_terms.specs.Terms.{all_true, stated_type, Val, IsWellTyped, is_env_of, operand_count, is_amount, least_amount, greatest_amount, first_width, node_type, leaf_value, is_env_leaf}
+use Rattle.pf_terms.specs.Terms.{all_true, stated_type, Val, IsWellTyped, is_env_of, operand_count, is_amount, least_amount, greatest_amount, first_width, leaf_value, is_env_leaf}
 use Rattle.pf_terms.proofs.Typing.{and_left, and_right, all_true_at}
 use Rattle.pf_terms.proofs.Ranges.{small_member}
 use Rattle.pf_terms.proofs.NodeRanges.{judged}
-use Rattle.pf_terms.proofs.TermRanges.{AreTyped, IsTypedNode, typed_node, env_node, value_node, value_leaf, env_leaf, value_in_type}
+use Rattle.pf_terms.proofs.TermRanges.{AreTyped, typed_node, env_node, value_node, value_leaf, env_leaf, value_in_type}
 
 width_below : (b : Bits) → bit_count b ≤ 32
 width_below Eight = omega arith

@@ -1,9 +1,15 @@
 pub mod Typing
 pub mod Printing
-pub mod Nodes
+pub mod NodeParts
 pub mod Bounds
 pub mod Floors
 pub mod Ranges
 pub mod NodeRanges
 pub mod TermRanges
 pub mod Evaluating
+pub mod Lexing
+pub mod Viable
+pub mod Complete
+pub mod Sound
+pub mod Advancing
+pub mod FirstFaults

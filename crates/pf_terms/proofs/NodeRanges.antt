@@ -1,6 +1,6 @@
 -- A well-typed node's value lies in its type where its operands' values lie in theirs.
-use Rattle.std.proofs.Common.{◌≡◌, refl, sym, ap, ◌∙◌, subst, ℕ, ◌+◌, ◌-◌, ◌*◌, ◌^◌, ◌≤◌, ◌<◌, suc, ℤ, pos, negsuc, ◌+ℤ◌, ◌-ℤ◌, ◌*ℤ◌, ◌≤ℤ◌, arith, Bool, true, false, ◌&&◌, List, [], ◌∷◌, length, lit<}
-use Rattle.std.specs.Prelude.{int_lt, Option, Some, None, Result, Ok, Err, nat_le, if◌then◌else◌}
+use Rattle.std.proofs.Common.{◌≡◌, refl, sym, ap, ◌∙◌, subst, ℕ, ◌-◌, ◌^◌, ◌<◌, ℤ, pos, ◌+ℤ◌, ◌-ℤ◌, ◌*ℤ◌, arith, Bool, true, false, List, [], ◌∷◌, length, lit<}
+use Rattle.std.specs.Prelude.{int_lt, Option, Some, None, Ok, nat_le, if◌then◌else◌}
 use Rattle.std.specs.Option.{option_or}
 use Rattle.std.proofs.lemmas.Int.{ints}
 use Rattle.std.proofs.lemmas.Nat.{pow_below, pow_pos}
@@ -10,13 +10,12 @@ use Rattle.pf_ints.specs.declared.lane.Bits.{Bits}
 use Rattle.pf_ints.specs.declared.lane.Bits.TheVariants.{Eight, Sixteen, ThirtyTwo}
 use Rattle.pf_ints.specs.Lanes.{lane_width, IsIn}
 use Rattle.pf_ints.specs.Whole.{floor_div}
-use Rattle.pf_terms.specs.declared.fault.TermFault.{TermFault}
 use Rattle.pf_terms.specs.declared.op.Op.{Op}
 use Rattle.pf_terms.specs.declared.op.Op.TheVariants.{Cast, Add, Sub, Mul, ShiftLeft, ShiftRight, Min, Max, SelectGreater, SelectEqual, Abs, WideningAdd, WideningSub, WideningMul, ExtendingAdd, HalvingAdd, RoundingHalvingAdd, HalvingSub, SaturatingAdd, SaturatingSub, SaturatingCast, Absd, RoundingShr, MulShr, RoundingMulShr}
-use Rattle.pf_terms.specs.declared.row.Operands.TheVariants.{One, OneSigned, Alike, Narrow, WideFirst, Choice}
-use Rattle.pf_terms.specs.declared.row.Amounts.TheVariants.{Shift, RoundingShift}
+use Rattle.pf_terms.specs.declared.row.Operands.TheVariants.{OneSigned, Alike, Narrow, Choice}
+use Rattle.pf_terms.specs.declared.row.Amounts.TheVariants.{RoundingShift}
 use Rattle.pf_terms.specs.Operators.{Row, row_of, shifted, half_step, int_same}
-use Rattle.pf_terms.specs.Terms.{same_bool, same_bits, same_type, typed_as, at_most_sixteen, doubled, wanted, first_difference, result_type, is_amount, least_amount, greatest_amount, first_width, type_fault, unless_differs, node_type, operand_count}
+use Rattle.pf_terms.specs.Terms.{same_bool, same_bits, same_type, typed_as, at_most_sixteen, doubled, wanted, first_difference, result_type, is_amount, first_width, type_fault, unless_differs, node_type, operand_count}
 use Rattle.pf_terms.proofs.Typing.{and_left, and_right}
 use Rattle.pf_terms.proofs.Ranges.{wrapped_in, clamped_in, shifted_in, halved_in, lesser_in, greater_in, one_of_in, abs_in, absd_in, IsNarrow, sum_in, difference_in, product_in}
 

@@ -1,6 +1,6 @@
 -- A node's text is its pieces, one after another.
-use Rattle.std.proofs.Common.{◌≡◌, refl, sym, ap, ◌∙◌, ℕ, ◌+◌, ◌<◌, List, [], ◌∷◌, ◌++◌, length, arith, append_assoc, append-nil}
-use Rattle.std.specs.Prelude.{codes, decimal}
+use Rattle.std.proofs.Common.{◌≡◌, sym, ap, ◌∙◌, ℕ, ◌+◌, List, [], ◌∷◌, ◌++◌, length, arith, append_assoc}
+use Rattle.std.specs.Prelude.{codes}
 use Rattle.pf_ints.specs.declared.lane.LaneType.{LaneType}
 use Rattle.pf_terms.specs.declared.op.Op.{Op}
 use Rattle.pf_terms.specs.declared.op.Op.TheVariants.{Cast, Add, Sub, Mul, ShiftLeft, ShiftRight, Min, Max, SelectGreater, SelectEqual, Abs, WideningAdd, WideningSub, WideningMul, ExtendingAdd, HalvingAdd, RoundingHalvingAdd, HalvingSub, SaturatingAdd, SaturatingSub, SaturatingCast, Absd, RoundingShr, MulShr, RoundingMulShr}
@@ -8,8 +8,8 @@ use Rattle.pf_terms.specs.declared.row.Spelling.{Spelling}
 use Rattle.pf_terms.specs.declared.row.Spelling.TheVariants.{TypeCall, Infix, ShiftBy, Call, CallWithType, CallWithAmount, Select}
 use Rattle.pf_terms.specs.Operators.{row_of}
 use Rattle.pf_terms.specs.Terms.{operand_count}
-use Rattle.pf_terms.specs.TermTexts.{node_text, op_word, spelling_of, spelled, type_word}
-use Rattle.pf_terms.specs.Pieces.{opening, onward, spaced, closing, separator, before}
+use Rattle.pf_terms.specs.TermTexts.{node_text, op_word, spelling_of, spelled}
+use Rattle.pf_terms.specs.Pieces.{opening, onward, before}
 
 -- by how an operator is spelled and how many operands it has
 module _ (word : List ℕ) (ty : LaneType) (k : ℕ) where

@@ -1,18 +1,16 @@
 -- The value of each operator lies in the type of its result.
-use Rattle.std.proofs.Common.{◌≡◌, refl, sym, ap, ◌∙◌, subst, ℕ, ◌+◌, ◌-◌, ◌*◌, ◌^◌, ◌≤◌, ◌<◌, suc, ◌⊎◌, inl, inr, ℤ, pos, negsuc, neg_ℤ, ◌+ℤ◌, ◌-ℤ◌, ◌*ℤ◌, ◌≤ℤ◌, ◌<ℤ◌, arith, Bool, true, false, ◌&&◌, List, [], ◌∷◌, length, lit<}
-use Rattle.std.specs.Prelude.{unsigned_abs, if◌then◌else◌, int_lt}
+use Rattle.std.proofs.Common.{ℕ, ◌-◌, ◌*◌, ◌^◌, ◌<◌, ℤ, pos, negsuc, neg_ℤ, ◌+ℤ◌, ◌-ℤ◌, ◌*ℤ◌, ◌≤ℤ◌, arith, Bool, true, false, lit<}
+use Rattle.std.specs.Prelude.{unsigned_abs, if◌then◌else◌}
 use Rattle.std.specs.Int.{int_min, int_max}
 use Rattle.std.proofs.lemmas.Int.{ints, clamps}
-use Rattle.std.proofs.lemmas.Nat.{pow_below}
 use Rattle.pf_ints.specs.declared.lane.LaneType.{LaneType}
 use Rattle.pf_ints.specs.declared.lane.Bits.{Bits}
 use Rattle.pf_ints.specs.declared.lane.Bits.TheVariants.{Eight, Sixteen, ThirtyTwo}
 use Rattle.pf_ints.specs.Whole.{floor_div}
-use Rattle.pf_ints.specs.Lanes.{least, greatest, lane_width, modulus, IsIn, wrapped, clamped}
+use Rattle.pf_ints.specs.Lanes.{least, greatest, IsIn, wrapped, clamped}
 use Rattle.pf_ints.proofs.LaneLaws.{spans, member, nearest}
-use Rattle.pf_terms.specs.Operators.{unary, binary, choice, shifted, half_step}
 use Rattle.pf_terms.specs.Small.{IsSmall}
-use Rattle.pf_terms.specs.Terms.{typed_as, doubled, at_most_sixteen}
+use Rattle.pf_terms.specs.Terms.{typed_as, doubled}
 use Rattle.pf_terms.proofs.Bounds.{IsWithin, within_product}
 use Rattle.pf_terms.proofs.Floors.{floor_least, floor_greatest, floor_toward}
 

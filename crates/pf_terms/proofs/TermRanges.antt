@@ -1,6 +1,6 @@
 -- The value of a well-typed term lies in its type, where each leaf's number lies in the leaf's.
-use Rattle.std.proofs.Common.{◌≡◌, refl, sym, ap, ◌∙◌, subst, ℕ, ◌+◌, ◌<◌, ◌≤◌, zero, suc, ℤ, pos, arith, Bool, true, false, ◌&&◌, List, [], ◌∷◌, length, map, get_or}
-use Rattle.std.specs.Prelude.{Result, Ok, Err, All, int_le, nat_lt, ◌≤ℤ◌}
+use Rattle.std.proofs.Common.{◌≡◌, refl, sym, ap, ◌∙◌, subst, ℕ, ◌+◌, ℤ, arith, Bool, true, List, [], ◌∷◌, length, map}
+use Rattle.std.specs.Prelude.{Result, Ok, Err, int_le, nat_lt, ◌≤ℤ◌}
 use Rattle.std.proofs.lemmas.List.{length-map}
 use Rattle.std.proofs.lemmas.Int.{ints}
 use Rattle.pf_ints.specs.declared.lane.LaneType.{LaneType}
@@ -17,11 +17,9 @@ use Rattle.pf_terms.specs.declared.term.Term.TheOpen.Term-F.{Leaf as LeafLayer, 
 use Rattle.pf_terms.specs.declared.term.Term.TheViews.{roll-Term}
 use Rattle.pf_terms.specs.declared.term.Term.TheFolds.{fold-roll-Term, ind-Term, map-Term}
 use Rattle.pf_terms.specs.Operators.{row_of, Row}
-use Rattle.pf_terms.specs.Small.{IsSmall}
-use Rattle.pf_terms.specs.Terms.{all_true, is_in, is_well_formed, formed_step, is_formed_leaf, typing, typing_step, types_from, with_type, then_node, node_type, unless_differs, type_fault, is_amount, first_width, stated_type, stated_step, Val, value_step, leaf_value, IsWellTyped, is_env_of, env_step, is_env_leaf, operand_count, fault_below}
-use Rattle.pf_terms.proofs.Typing.{and_left, and_right, all_true_at}
-use Rattle.pf_terms.proofs.Nodes.{node_formed, typing_is}
-use Rattle.pf_terms.proofs.Ranges.{small_member}
+use Rattle.pf_terms.specs.Terms.{all_true, is_in, is_well_formed, formed_step, is_formed_leaf, typing, typing_step, types_from, with_type, then_node, node_type, stated_type, stated_step, Val, value_step, leaf_value, IsWellTyped, is_env_of, env_step, is_env_leaf, operand_count}
+use Rattle.pf_terms.proofs.Typing.{and_left, and_right}
+use Rattle.pf_terms.proofs.NodeParts.{node_formed, typing_is}
 use Rattle.pf_terms.proofs.NodeRanges.{AreIn, judged, value_in}
 
 -- each definition at a leaf and at a node

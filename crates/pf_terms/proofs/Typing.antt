@@ -1,5 +1,5 @@
 -- Types of operands as they are gathered, one after another.
-use Rattle.std.proofs.Common.{◌≡◌, refl, sym, ap, ◌∙◌, ℕ, ◌+◌, ◌-◌, ◌<◌, ◌≤◌, Bool, true, false, ◌&&◌, List, [], ◌∷◌, ◌++◌, length, map, get_or, take, drop, drop-cons, append_assoc, append-nil, add-one, arith, zero, suc, subst}
+use Rattle.std.proofs.Common.{◌≡◌, refl, sym, ℕ, ◌+◌, ◌<◌, Bool, true, false, ◌&&◌, List, [], ◌∷◌, ◌++◌, length, map, get_or, append_assoc, append-nil, arith, zero, suc, subst}
 use Rattle.std.specs.Prelude.{Result, Ok, Err, Option, Some, None, if◌then◌else◌}
 use Rattle.std.specs.Option.{option_or}
 use Rattle.pf_ints.specs.declared.lane.LaneType.{LaneType}
@@ -10,7 +10,7 @@ use Rattle.pf_terms.specs.declared.row.Operands.TheVariants.{Choice}
 use Rattle.pf_terms.specs.declared.fault.TermFault.{TermFault}
 use Rattle.pf_terms.specs.declared.fault.TermFault.TheVariants.{Types, Amount, Memory}
 use Rattle.pf_terms.specs.declared.term.Term.{Term}
-use Rattle.pf_terms.specs.Terms.{all_true, typing, types_from, with_type, fault_below, same_bool, same_bits, same_type, typed_as, wanted, first_difference, Tells, then_node, node_type}
+use Rattle.pf_terms.specs.Terms.{all_true, types_from, with_type, fault_below, same_bool, same_bits, same_type, typed_as, wanted, first_difference, Tells}
 
 -- types that were found, before the rest
 abbrev pub behind : List LaneType → Result (List LaneType) TermFault → Result (List LaneType) TermFault

@@ -4,3 +4,7 @@ pub mod Kernels
 pub mod TermTexts
 pub mod Pieces
 pub mod Small
+pub mod Tokens
+pub mod Grammar
+pub mod Parsing
+pub mod Limits

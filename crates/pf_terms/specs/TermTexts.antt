@@ -1,5 +1,5 @@
 -- The printed texts of terms.
-use Rattle.std.specs.Prelude.{Bool, nat_lt, length, take, drop, ◌&&◌, ℕ, ℤ, pos, negsuc, List, [], ◌∷◌, ◌++◌, codes, decimal, slice_index_or, true, false}
+use Rattle.std.specs.Prelude.{Bool, nat_lt, length, take, drop, ◌&&◌, ℕ, pos, List, [], ◌∷◌, ◌++◌, codes, decimal, slice_index_or, true, false}
 use Rattle.std.specs.Fmt.{signed_decimal}
 use Rattle.pf_ints.specs.declared.lane.LaneType.{LaneType}
 use Rattle.pf_ints.specs.declared.lane.Bits.TheVariants.{Eight}

@@ -1,5 +1,5 @@
 -- What terms mean, and which are well-formed and well-typed.
-use Rattle.std.specs.Prelude.{nat_lt, not, IsTrue, option_map, ◌≡◌, ℕ, ℤ, pos, ◌+◌, ◌-◌, ◌*◌, max, Bool, true, false, ◌&&◌, ◌||◌, ◌==◌, nat_le, if◌then◌else◌, int_le, List, [], ◌∷◌, ◌++◌, length, map, sum, slice_index_or, Option, Some, None, Result, Ok, Err}
+use Rattle.std.specs.Prelude.{nat_lt, not, ◌≡◌, ℕ, ℤ, pos, ◌+◌, ◌-◌, ◌*◌, max, Bool, true, false, ◌&&◌, ◌||◌, ◌==◌, nat_le, if◌then◌else◌, int_le, List, [], ◌∷◌, length, sum, slice_index_or, Option, Some, None, Result, Ok, Err}
 use Rattle.std.specs.Option.{option_or}
 use Rattle.pf_ints.specs.declared.lane.LaneType.{LaneType}
 use Rattle.pf_ints.specs.declared.lane.Bits.{Bits}
@@ -7,7 +7,6 @@ use Rattle.pf_ints.specs.declared.lane.Bits.TheVariants.{Eight, Sixteen, ThirtyT
 use Rattle.pf_ints.specs.Lanes.{lane_width, least, greatest}
 use Rattle.pf_terms.specs.declared.fault.TermFault.{TermFault}
 use Rattle.pf_terms.specs.declared.fault.TermFault.TheVariants.{Types, Amount, Memory}
-use Rattle.pf_terms.specs.declared.op.Op.{Op}
 use Rattle.pf_terms.specs.declared.row.Operands.{Operands}
 use Rattle.pf_terms.specs.declared.row.Operands.TheVariants.{One, OneSigned, Alike, Narrow, WideFirst, Choice}
 use Rattle.pf_terms.specs.declared.row.Gives.{Gives}

@@ -1,26 +1,40 @@
 //! Terms over the lanes of images: operators with their types, weights and values, and the texts of terms.
 #![tactic(auto)]
 
+mod draft;
 mod fault;
 mod kernel;
+mod lexer;
+mod limit;
 mod names;
 mod op;
+mod parse;
 mod print;
 mod row;
+mod sizes;
+mod stack;
+mod symbol;
 mod term;
 #[cfg(test)]
 mod tests;
+mod token;
 mod types;
 mod values;
 mod weights;
 
+pub use draft::{Draft, Drafts};
 pub use fault::TermFault;
 pub use kernel::{Definition, Definitions, ImageDecl, ImageList};
+pub use lexer::{tokens, type_of_word};
+pub use limit::LimitKind;
 pub use names::{DefName, DefNames, ImageName, ImageNames, Names, Tap, TapList};
 pub use op::Op;
+pub use parse::{first_fault, syntax_fault};
 pub use print::{print_term, write_term, write_type};
 pub use row::{Amounts, Gives, Operands, Spelling};
+pub use sizes::{depth, nodes};
 pub use term::{Env, Leaf, Term, Terms};
+pub use token::{Kind, LineWord, Token};
 pub use types::type_of;
 pub use values::value;
 pub use weights::weight;

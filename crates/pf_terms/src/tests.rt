@@ -1,4 +1,7 @@
-use crate::{DefName, Env, ImageName, Leaf, Names, Tap, Term, print_term, type_of, value, weight};
+use crate::{
+    DefName, Env, ImageName, Kind, Leaf, Names, Tap, Term, print_term, syntax_fault, tokens,
+    type_of, value, weight,
+};
 use pf_ints::{Bits, Duplicate, LaneType, Name, Sequence};
 use std::alloc::{AllocError, Global};
 use std::test::Fail;
@@ -47,5 +50,42 @@ fn constants(rt: HostRuntime) -> Result<(), Fail> {
     assert_eq!(rt; weight(&same), 1);
     assert_eq!(rt; value(&three, &env), -3);
     assert!(rt; print_term(alloc, &three, &names)?.as_slice() == b"-3i16".as_slice());
+    Ok(())
+}
+
+#[test]
+fn places(rt: HostRuntime) -> Result<(), Fail> {
+    let alloc = rt.alloc();
+    assert_eq!(rt; syntax_fault(alloc, b"a[0,0] - b[-1,2] - c")?, None);
+    assert_eq!(rt; syntax_fault(alloc, b"x >> 1 << 2")?, None);
+    assert_eq!(rt; syntax_fault(alloc, b"select(a < b, -3i16, i16(y))")?, None);
+    assert_eq!(rt;
+        syntax_fault(alloc, b"saturating_cast(u8, mul_shr(x, y, 7) * 2u8)")?,
+        None
+    );
+    assert_eq!(rt; syntax_fault(alloc, b"min(a, 3 i16)")?, Some(7));
+    assert_eq!(rt; syntax_fault(alloc, b"a >>> 1")?, Some(4));
+    assert_eq!(rt; syntax_fault(alloc, b"x >> 1 + y")?, Some(7));
+    assert_eq!(rt; syntax_fault(alloc, b"abs(x, y)")?, Some(5));
+    assert_eq!(rt; syntax_fault(alloc, b"(a + ")?, Some(4));
+    assert_eq!(rt; syntax_fault(alloc, b"")?, Some(0));
+    assert_eq!(rt; syntax_fault(alloc, b"x << 12345678901")?, Some(5));
+    assert_eq!(rt; syntax_fault(alloc, b"def")?, Some(0));
+    assert_eq!(rt; syntax_fault(alloc, b"-128i8 + 127i8")?, None);
+    assert_eq!(rt; syntax_fault(alloc, b"x + 128i8")?, Some(4));
+    Ok(())
+}
+
+#[test]
+fn numbers(rt: HostRuntime) -> Result<(), Fail> {
+    let alloc = rt.alloc();
+    let one = tokens(alloc, b" 3i16")?;
+    assert_eq!(rt; one.len(), 1);
+    assert!(rt; matches!(one[0].kind, Kind::Typed(3, I16)));
+    assert_eq!(rt; one[0].start, 1);
+    let two = tokens(alloc, b"3 i16")?;
+    assert_eq!(rt; two.len(), 2);
+    assert!(rt; matches!(two[0].kind, Kind::Number(3)));
+    assert!(rt; matches!(two[1].kind, Kind::TypeWord(I16)));
     Ok(())
 }

@@ -1,5 +1,5 @@
 use Rattle.std.proofs.Common.{arith}
-use Rattle.pf_images.proofs.ReadAnswers.{bytes_fit, found_from, only_from, fault_from}
+use Rattle.pf_images.proofs.ReadAnswers.{bytes_fit, found_from, only_from, fault_from, told_from}
 use Rattle.pf_images.proofs.reading.read_pgm.Goals as goal
 
 pub returns-clause-found : goal.returns-clause-found
@@ -10,3 +10,6 @@ returns-clause-only c = only_from c.args.ty c.args.bytes.now c.image_of.result c
 
 pub returns-clause-fault : goal.returns-clause-fault
 returns-clause-fault c = fault_from c.args.ty c.args.bytes.now c.image_of.result c.image_of.ensures
+
+pub returns-clause-told : goal.returns-clause-told
+returns-clause-told c = told_from c.args.ty c.args.bytes.now c.image_of.result c.image_of.ensures

@@ -1,4 +1,4 @@
-use Rattle.std.proofs.Common.{arith, ◌<◌, length}
+use Rattle.std.proofs.Common.{arith}
 use Rattle.pf_isa.proofs.MachineLaws.{cleared_more}
 use Rattle.pf_isa.proofs.machine.clear_predicate.Goals as goal
 

@@ -1,5 +1,3 @@
-use Rattle.std.proofs.Common.{arith, ◌≡◌, ◌+◌, ◌-◌, ◌*◌, ◌≤◌, length}
-use Rattle.pf_isa.proofs.ByteLaws.{length-bytes}
 use Rattle.pf_isa.proofs.MachineLaws.{entries_more, entries_written}
 use Rattle.pf_isa.proofs.machine.write_entries.Goals as goal
 

@@ -1,4 +1,4 @@
-use Rattle.std.proofs.Common.{arith, ◌-◌, ◌*◌, ◌^◌, ◌<◌, length, take, drop, rules}
+use Rattle.std.proofs.Common.{arith, ◌-◌, ◌*◌, ◌^◌, ◌<◌, length, take, drop}
 use Rattle.std.proofs.lemmas.Grind.{common_steps}
 use Rattle.pf_isa.proofs.MachineLaws.{one_byte_more}
 use Rattle.pf_isa.proofs.memory_access.+number_of.Goals as goal

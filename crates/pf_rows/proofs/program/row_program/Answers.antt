@@ -6,6 +6,12 @@ use Rattle.pf_rows.proofs.Lanewise.{runs_block, leaves_lanes}
 use Rattle.pf_rows.proofs.RowTexts.{widths_pixels, near_block, row_is_program, row_is_moved, row_is_work, text_is}
 use Rattle.pf_rows.proofs.program.row_program.Goals as goal
 
+pub lines-requires-clause-some : goal.lines-requires-clause-some
+lines-requires-clause-some g c = let laws = g.met.I.Isa.laws in laws.some_bytes
+
+pub lines-requires-clause-most : goal.lines-requires-clause-most
+lines-requires-clause-most g c = let laws = g.met.I.Isa.laws in laws.few_bytes
+
 pub lines-requires-clause-pixels : goal.lines-requires-clause-pixels
 lines-requires-clause-pixels g c = widths_pixels c.args.head c.requires.head c.as_slice.result.now (c.as_slice.ensures ∙ c.in_ok-widths.ensures)
 
@@ -15,7 +21,7 @@ lines-requires-clause-near g c = near_block g.I.Isa.table c.args.head (slots_in 
 pub new-requires : goal.new-requires
 new-requires g c =
     let whole = text_is g.row.I.Denot g.row.I-Op.Denot g.I.Isa.table c.args.head c.args.block c.as_slice.result.now c.pixel_bytes-width.result c.in_ok-code.code c.in_ok-code.labels c.in_ok-code.ensures.code c.in_ok-code.ensures.labels (c.as_slice.ensures ∙ c.in_ok-widths.ensures) c.pixel_bytes-width.ensures in
-    subst (λ p. IsProgram g.I.Isa.table p) (sym whole) (row_is_program g.row.I.Denot g.row.I-Op.Denot g.I.Isa.table c.args.head (slots_in g.I.Isa.table c.args.head) c.args.block c.requires)
+    subst (λ p. IsProgram g.I.Isa.table p) (sym whole) (row_is_program g.row.I.Denot g.row.I-Op.Denot g.I.Isa.table c.args.head (slots_in g.I.Isa.table c.args.head) c.args.block c.requires g.I.Isa.is_op g.met.I.Isa.laws)
 
 pub returns-clause-value : goal.returns-clause-value
 returns-clause-value g c =

@@ -1,9 +1,9 @@
-use Rattle.std.proofs.Common.{rules, arith, ◌≡◌, ◌∷◌, ◌++◌, sym, ap, ◌∙◌, map, drop, drop-cons, suc, ◌+◌, true, add-one, append_assoc, ◌<◌, length}
+use Rattle.std.proofs.Common.{arith, ◌≡◌, ◌∷◌, ◌++◌, sym, ap, ◌∙◌, map, drop, ◌+◌, true, append_assoc, ◌<◌, length}
 use Rattle.std.proofs.lemmas.List.{drop_more}
 use Rattle.pf_terms.specs.Terms.{is_well_formed, all_true}
 use Rattle.pf_terms.specs.TermTexts.{term_text, op_word, spelling_of}
-use Rattle.pf_terms.specs.Pieces.{onward, opening}
-use Rattle.pf_terms.proofs.Nodes.{node_formed, formed_each, named_each, text_told}
+use Rattle.pf_terms.specs.Pieces.{onward}
+use Rattle.pf_terms.proofs.NodeParts.{node_formed, formed_each, named_each, text_told}
 use Rattle.pf_terms.proofs.Printing.{written_more}
 use Rattle.pf_terms.proofs.print.+write_term.Goals as goal
 

@@ -1,6 +1,6 @@
-use Rattle.std.proofs.Common.{arith, sym, ap, ◌∙◌, ◌≡◌, true, length, [], map}
+use Rattle.std.proofs.Common.{arith, ap, ◌∙◌, ◌≡◌, true, length, map}
 use Rattle.pf_terms.specs.Terms.{is_well_formed, typing, types_from, all_true}
-use Rattle.pf_terms.proofs.Nodes.{node_formed, formed_each, fault_told, type_told}
+use Rattle.pf_terms.proofs.NodeParts.{node_formed, formed_each, fault_told, type_told}
 use Rattle.pf_terms.proofs.Typing.{behind, behind_nil}
 use Rattle.pf_terms.proofs.types.+type_of.Goals as goal
 

@@ -1,6 +1,6 @@
 use Rattle.std.proofs.Common.{◌≡◌, drop, length, map, true, All}
 use Rattle.pf_terms.specs.Operators.{row_of}
-use Rattle.pf_terms.specs.Terms.{typing, types_from, is_well_formed, all_true, operand_count}
+use Rattle.pf_terms.specs.Terms.{typing, types_from, is_well_formed, operand_count}
 use Rattle.pf_terms.proofs.Typing.{behind}
 use Rattle.pf_terms.proofs.types.+type_of.Given as goal
 

@@ -1,10 +1,10 @@
-use Rattle.std.proofs.Common.{rules, arith, ◌≡◌, ◌<◌, take, length, map, true, get_or, set, ◌+◌, ap, sym, ◌∙◌, All, List, subst}
+use Rattle.std.proofs.Common.{rules, arith, ◌≡◌, ◌<◌, take, length, sym, All, List, subst}
 use Rattle.std.specs.Prelude.{ℤ}
 use Rattle.std.proofs.lemmas.Int.{to_z-of_z}
 use Rattle.std.proofs.lemmas.List.{length-set}
 use Rattle.pf_terms.specs.Operators.{row_of}
 use Rattle.pf_terms.specs.Small.{IsSmall}
-use Rattle.pf_terms.specs.Terms.{Val, IsWellTyped, is_env_of, operand_count}
+use Rattle.pf_terms.specs.Terms.{Val}
 use Rattle.pf_terms.proofs.Evaluating.{ready, found_more, found_all, value_told, member_told, count_most}
 use Rattle.pf_terms.proofs.values.+value.Goals as goal
 

@@ -1,15 +1,14 @@
 -- What is said of a node, by its parts.
-use Rattle.std.proofs.Common.{◌≡◌, refl, sym, ap, ◌∙◌, subst, ℕ, ◌+◌, ◌<◌, Bool, true, false, ◌&&◌, ◌||◌, List, [], ◌∷◌, length, map, get_or, arith, eqb, eqb-true, drop, drop-cons, suc, ◌≤◌, ◌++◌}
+use Rattle.std.proofs.Common.{◌≡◌, sym, ap, ◌∙◌, subst, ℕ, ◌<◌, Bool, true, ◌&&◌, List, ◌∷◌, length, map, get_or, eqb-true, drop, drop-cons, suc, ◌≤◌, ◌++◌}
 use Rattle.std.proofs.lemmas.List.{length-map, drop_all}
 use Rattle.std.specs.Prelude.{All}
-use Rattle.std.specs.Prelude.{Result, Ok, Err, ℤ}
+use Rattle.std.specs.Prelude.{Result, Ok, Err}
 use Rattle.pf_ints.specs.declared.lane.LaneType.{LaneType}
 use Rattle.pf_terms.specs.declared.fault.TermFault.{TermFault}
 use Rattle.pf_terms.specs.declared.op.Op.{Op}
-use Rattle.pf_terms.specs.declared.term.Env.{Env}
 use Rattle.pf_terms.specs.declared.term.Term.{Term}
-use Rattle.pf_terms.specs.declared.term.Term.TheVariants.{Leaf, Node, rolls-Leaf, rolls-Node}
-use Rattle.pf_terms.specs.declared.term.Term.TheOpen.Term-F.{Leaf as LeafLayer, Node as NodeLayer}
+use Rattle.pf_terms.specs.declared.term.Term.TheVariants.{Node, rolls-Node}
+use Rattle.pf_terms.specs.declared.term.Term.TheOpen.Term-F.{Node as NodeLayer}
 use Rattle.pf_terms.specs.declared.term.Term.TheFolds.{fold-roll-Term}
 use Rattle.pf_terms.specs.Operators.{row_of}
 use Rattle.pf_terms.specs.declared.names.Names.{Names}
@@ -17,7 +16,7 @@ use Rattle.pf_terms.specs.TermTexts.{is_named, named_step, term_text, text_step,
 use Rattle.pf_terms.specs.Pieces.{opening, onward}
 use Rattle.pf_terms.proofs.Printing.{pieces}
 use Rattle.pf_terms.proofs.Typing.{and_left, and_right, all_true_at, behind, stopped, gathered, tells_below}
-use Rattle.pf_terms.specs.Terms.{all_true, is_formed_node, is_well_formed, typing, types_from, then_node, Val, operand_count, formed_step, typing_step, Tells, fault_below, node_type}
+use Rattle.pf_terms.specs.Terms.{all_true, is_formed_node, is_well_formed, typing, types_from, then_node, operand_count, formed_step, typing_step, Tells, fault_below, node_type}
 
 pub formed_is : (op : Op) (ty : LaneType) (k : ℕ) (args : List Term) → is_well_formed (Node op ty k args) ≡ (is_formed_node (row_of op) k (length (map is_well_formed args)) && all_true (map is_well_formed args))
 formed_is op ty k args = ap is_well_formed (sym (rolls-Node op ty k args)) ∙ fold-roll-Term Bool formed_step (NodeLayer op ty k args)

@@ -1,0 +1,53 @@
+use crate::op::Op;
+use pf_ints::{LaneType, Name};
+
+/// A word that begins a line of a kernel.
+#[derive(Clone, Copy, Debug, PartialEq, Eq)]
+pub enum LineWord {
+    Kernel,
+    Image,
+    Def,
+    Out,
+}
+
+/// What a token is.
+#[derive(Clone, Copy, Debug)]
+pub enum Kind {
+    Name(Name),
+    TypeWord(LaneType),
+    /// A number of at most 10 digits.
+    Number(i64),
+    /// A number of at most 10 digits with its type right behind it.
+    Typed(i64, LaneType),
+    /// The word of an operator that is written before round brackets.
+    Word(Op),
+    /// `select`.
+    Choose,
+    Line(LineWord),
+    Open,
+    Close,
+    OpenSquare,
+    CloseSquare,
+    Comma,
+    Plus,
+    Minus,
+    Times,
+    ShiftLeft,
+    ShiftRight,
+    Less,
+    Greater,
+    /// `==`.
+    Same,
+    /// `=`.
+    Equals,
+    /// What fits nowhere.
+    Other,
+}
+
+/// A token: the places of its first byte and behind its last one, counted from 0, and what it is.
+#[derive(Clone, Copy, Debug)]
+pub struct Token {
+    pub start: usize,
+    pub end: usize,
+    pub kind: Kind,
+}
