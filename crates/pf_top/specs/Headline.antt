@@ -13,7 +13,7 @@ use Rattle.pf_neon.specs.Neon.{table}
 -- The text parses as a program for neon, with the kernel's images, taps and output type in its head. And for all images
 -- that keep the kernel's ranges, of every width, there is the kernel's output as it is written, and the program leaves
 -- it, under every placement and from every content of scratch and output: all rows return within their steps, and
--- nothing but output and scratch has changed.
+-- nothing but table, scratch and output has changed.
 pub record Headline (source : Source) (text : List ℕ) : Type 0 where
   pub program : Text Neon Form
   pub parses : IsText table IsForm text program
