@@ -128,10 +128,6 @@ module _ (h : Head) (first second : ℕ) (has : HasTaps h first second) where
         clean = subst (λ width. IsClean table 32 0 width (least_block first second)) (sym out_width) clean;
         steps = All-from_recursion (IsStep (tap_widths h) (pixel_bytes h.out_ty)) (least_block first second) ((omega arith, omega arith), ((omega arith, omega arith), (tt, (omega arith, tt))));
         stores = stores_each (pixel_bytes h.out_ty) out_width;
-        some = omega arith;
-        most = omega arith;
-        loads = λ to part inside few. record { uses = All-nil (IsIn 32); defs = All-from_recursion (IsIn 32) (V to ∷ []) (inside, tt) };
-        keeps = λ from part inside few. record { uses = All-from_recursion (IsIn 32) (V from ∷ []) (inside, tt); defs = All-nil (IsIn 32) };
       }
 
   pub is_lanewise : IsLanewise table 0 (least_block first second) (tap_widths h) (pixel_bytes h.out_ty) (lesser_of first second)
