@@ -6,7 +6,7 @@ use Rattle.std.specs.List.{concat}
 use Rattle.std.proofs.Math.Nat.{mod-eq_of_lt}
 use Rattle.std.proofs.lemmas.Int.{ints, int_min_is}
 use Rattle.std.proofs.lemmas.List.{get_or-map, length-map, append-nil, take_all}
-use Rattle.std.proofs.lemmas.List.Elements.{All-get_or, All-weaker, All-from_recursion, All-nil, All-head, All-tail}
+use Rattle.std.proofs.lemmas.List.Elements.{All-get_or, All-weaker, All-from_recursion, All-head, All-tail}
 use Rattle.std.proofs.lemmas.Slice.Zip.{get_or-zip, length-zip}
 use Rattle.pf_ints.specs.Images.{Picture, IsPicture}
 use Rattle.pf_ints.specs.Lanes.{IsIn as IsNumber}
@@ -21,11 +21,9 @@ use Rattle.pf_terms.specs.Terms.{Val, value_step}
 use Rattle.pf_terms.specs.TermTexts.{no_tap}
 use Rattle.pf_terms.specs.Kernels.{Keeps, KeepsRange, no_picture, out_value, tap_value, tap_values}
 use Rattle.pf_isa.specs.declared.program.Head.{Head}
-use Rattle.pf_isa.specs.declared.registers.Reg.TheVariants.{V}
 use Rattle.pf_isa.specs.declared.registers.RegFile.{RegFile}
 use Rattle.pf_isa.specs.Blocks.{BVal, IsClean, IsWithin}
 use Rattle.pf_isa.specs.Bytes.{bytes, number, lanes, map2}
-use Rattle.pf_isa.specs.Files.{IsIn}
 use Rattle.pf_isa.specs.Heads.{IsTap}
 use Rattle.pf_isa.specs.Programs.{Text}
 use Rattle.pf_isa.specs.Runs.{pixel_bytes}
