@@ -6,7 +6,7 @@ use Rattle.std.specs.List.{concat}
 use Rattle.std.proofs.Math.Nat.{mod-eq_of_lt}
 use Rattle.std.proofs.lemmas.Int.{ints, int_min_is}
 use Rattle.std.proofs.lemmas.List.{get_or-map, length-map, append-nil, take_all}
-use Rattle.std.proofs.lemmas.List.Elements.{All-get_or, All-weaker, All-from_recursion, All-nil, All-head, All-tail}
+use Rattle.std.proofs.lemmas.List.Elements.{All-get_or, All-weaker, All-from_recursion, All-head, All-tail}
 use Rattle.std.proofs.lemmas.Slice.Zip.{get_or-zip, length-zip}
 use Rattle.pf_ints.specs.Images.{Picture, IsPicture}
 use Rattle.pf_ints.specs.Lanes.{IsIn as IsNumber}
@@ -21,11 +21,9 @@ use Rattle.pf_terms.specs.Terms.{Val, value_step}
 use Rattle.pf_terms.specs.TermTexts.{no_tap}
 use Rattle.pf_terms.specs.Kernels.{Keeps, KeepsRange, no_picture, out_value, tap_value, tap_values}
 use Rattle.pf_isa.specs.declared.program.Head.{Head}
-use Rattle.pf_isa.specs.declared.registers.Reg.TheVariants.{V}
 use Rattle.pf_isa.specs.declared.registers.RegFile.{RegFile}
 use Rattle.pf_isa.specs.Blocks.{BVal, IsClean, IsWithin}
 use Rattle.pf_isa.specs.Bytes.{bytes, number, lanes, map2}
-use Rattle.pf_isa.specs.Files.{IsIn}
 use Rattle.pf_isa.specs.Heads.{IsTap}
 use Rattle.pf_isa.specs.Programs.{Text}
 use Rattle.pf_isa.specs.Runs.{pixel_bytes}
@@ -128,10 +126,6 @@ module _ (h : Head) (first second : ℕ) (has : HasTaps h first second) where
         clean = subst (λ width. IsClean table 32 0 width (least_block first second)) (sym out_width) clean;
         steps = All-from_recursion (IsStep (tap_widths h) (pixel_bytes h.out_ty)) (least_block first second) ((omega arith, omega arith), ((omega arith, omega arith), (tt, (omega arith, tt))));
         stores = stores_each (pixel_bytes h.out_ty) out_width;
-        some = omega arith;
-        most = omega arith;
-        loads = λ to part inside few. record { uses = All-nil (IsIn 32); defs = All-from_recursion (IsIn 32) (V to ∷ []) (inside, tt) };
-        keeps = λ from part inside few. record { uses = All-from_recursion (IsIn 32) (V from ∷ []) (inside, tt); defs = All-nil (IsIn 32) };
       }
 
   pub is_lanewise : IsLanewise table 0 (least_block first second) (tap_widths h) (pixel_bytes h.out_ty) (lesser_of first second)
