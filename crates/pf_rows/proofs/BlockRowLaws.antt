@@ -1,40 +1,35 @@
 -- A row's program writes the block's pixels.
-use Rattle.std.proofs.Common.{◌≡◌, ℕ, zero, suc, ◌+◌, ◌-◌, ◌*◌, ◌/◌, ◌%◌, ◌^◌, ◌<◌, ◌≤◌, List, [], ◌∷◌, ◌++◌, length, map, take, drop, get_or, All, Bool, true, false, refl, arith, ap, sym, subst, ◌∙◌, ⊎_elim, ltb, length-append, length-take, length-drop}
-use Rattle.std.specs.Prelude.{pos, replicate}
-use Rattle.std.specs.List.{concat, range_with_len}
-use Rattle.std.proofs.Math.Nat.{mul_comm, mul_assoc, mul-add}
-use Rattle.std.proofs.lemmas.Nat.{mul-le, div-add-mod'}
-use Rattle.std.proofs.lemmas.Bool.{cases_lt, cond-true, cond-false, lt-ltb, le-ltb}
-use Rattle.std.proofs.lemmas.List.{take_all, take-append-drop, drop-drop, length-map, get_or-map, length-replicate}
-use Rattle.std.proofs.lemmas.List.FromFn.{get_or-map-range_with_len, length-map-range_with_len}
-use Rattle.std.proofs.lemmas.List.Elements.{All-replicate, All-weaker}
+use Rattle.std.proofs.Common.{◌≡◌, ℕ, ◌+◌, ◌-◌, ◌*◌, ◌<◌, ◌≤◌, List, ◌++◌, length, take, drop, get_or, All, false, arith, ap, sym, subst, ◌∙◌, ⊎_elim, length-append, length-drop}
+use Rattle.std.specs.Prelude.{replicate}
+use Rattle.std.specs.List.{concat}
+use Rattle.std.proofs.Math.Nat.{mul_assoc, mul-add}
+use Rattle.std.proofs.lemmas.Nat.{mul-le}
+use Rattle.std.proofs.lemmas.Bool.{cases_lt}
+use Rattle.std.proofs.lemmas.List.{take_all, take-append-drop, drop-drop, length-map, length-replicate}
+use Rattle.std.proofs.lemmas.List.Elements.{All-replicate}
 use Rattle.pf_ints.specs.Images.{Picture}
-use Rattle.pf_terms.specs.TermTexts.{no_tap}
-use Rattle.pf_terms.specs.Kernels.{Source, Keeps, Out, out_value}
+use Rattle.pf_terms.specs.Kernels.{Source, Keeps}
 use Rattle.pf_isa.specs.declared.registers.RegFile.{RegFile}
 use Rattle.pf_isa.specs.declared.code.Line.{Line}
 use Rattle.pf_isa.specs.declared.block.Item.{Item}
 use Rattle.pf_isa.specs.declared.program.Head.{Head}
 use Rattle.pf_isa.specs.Bytes.{number, bytes, packed}
-use Rattle.pf_isa.specs.Blocks.{Bench, items_run, BVal, IsWithin, IsClean}
-use Rattle.pf_isa.specs.Heads.{IsHead}
-use Rattle.pf_isa.specs.Runs.{Places, IsPlaced, Leaves, pixel_bytes, columns, rows, row_entries, row_budget, memory, output_size}
-use Rattle.pf_isa.specs.RowEnds.{row_size, with_row, RowDone, row_values, row_in_memory}
+use Rattle.pf_isa.specs.Blocks.{BVal}
+use Rattle.pf_isa.specs.Runs.{Places, IsPlaced, pixel_bytes, columns, rows, row_entries, row_budget, memory, output_size}
+use Rattle.pf_isa.specs.RowEnds.{row_size, with_row, RowDone}
 use Rattle.pf_isa.specs.Steps.{State, started}
 use Rattle.pf_isa.specs.Tables.{Table, IsTable, IsFile}
-use Rattle.pf_isa.proofs.ByteLaws.{length-packed, bytes-number, length-bytes, bytes_below, lane_at}
+use Rattle.pf_isa.proofs.ByteLaws.{bytes-number}
 use Rattle.pf_isa.proofs.MemoryLaws.{image_bytes, take-drop-part}
-use Rattle.pf_isa.proofs.RowLaws.{leaves, length-row_in_memory, length-row_values}
-use Rattle.pf_rows.specs.RowCode.{row_code, row_labels, begin_lines, block_lines, next_lines, tail_lines, last_lines, narrow_lines, back_lines}
-use Rattle.pf_rows.specs.BlockRows.{IsOne, tap_widths, row_text, start_of, pixel_part, tap_pixel, AreBlocks, IsGiven, IsBlockRow, IsLanewise, IsStep, StoresEach, IsRowBlock, KeepsHead, RunsBlock, LeavesLanes, no_decl}
-use Rattle.pf_rows.proofs.Paths.{now}
-use Rattle.pf_rows.proofs.Cells.{part, length-part, Agree, Cells, cells_of, cells-of, cells-joined, length-cells_of, get_or-cells_of}
+use Rattle.pf_rows.specs.RowCode.{row_code, row_labels, block_lines, next_lines, tail_lines, last_lines, narrow_lines, back_lines}
+use Rattle.pf_rows.specs.BlockRows.{IsOne, tap_widths, row_text, start_of, pixel_part, AreBlocks, IsGiven, IsBlockRow, IsRowBlock, no_decl}
+use Rattle.pf_rows.proofs.Cells.{part, length-part, Agree}
 use Rattle.pf_rows.proofs.RowPlaces.{RowPlace, span}
 use Rattle.pf_rows.proofs.Wide.{wide_taps, wide_tap}
 use Rattle.pf_rows.proofs.WideRow.{RowLeft, longer, wide_row, given_by}
 use Rattle.pf_rows.proofs.NarrowRow.{Finds, narrow_row, given_from}
 use Rattle.pf_rows.proofs.Parts.{laid}
-use Rattle.pf_rows.proofs.Placed.{row_placed, image_of_tap, place_of_tap, pixel_is, line_at, some_columns}
+use Rattle.pf_rows.proofs.Placed.{row_placed, image_of_tap, place_of_tap, pixel_is, some_columns}
 
 -- the code has more instructions than the block
 code_long : (I O : Type 0) (t : Table O) (widths : List ℕ) (width : ℕ) (block : List (Item O)) → length (block_lines {I = I} t widths width block) + 20 ≤ length (row_code {I = I} t widths width block)

@@ -1,33 +1,30 @@
 -- The taps of a narrow row are copied into their buffers.
-use Rattle.std.proofs.Common.{◌≡◌, ℕ, zero, suc, ◌+◌, ◌-◌, ◌*◌, ◌/◌, ◌%◌, ◌^◌, ◌<◌, ◌≤◌, List, [], ◌∷◌, ◌++◌, length, take, drop, get_or, All, Bool, true, false, Some, refl, arith, ltb, ap, sym, subst, ◌∙◌, ⊎_elim, length-append, append_assoc}
-use Rattle.std.proofs.Math.Nat.{mul_comm, mul-le-mul_left, mul-le-mul_right}
+use Rattle.std.proofs.Common.{◌≡◌, ℕ, suc, ◌+◌, ◌-◌, ◌*◌, ◌^◌, ◌<◌, ◌≤◌, List, [], ◌∷◌, ◌++◌, length, take, drop, get_or, All, Bool, false, Some, refl, arith, ap, sym, subst, ◌∙◌, length-append}
+use Rattle.std.proofs.Math.Nat.{mul_comm, mul-le-mul_left}
 use Rattle.std.proofs.lemmas.Nat.{mul-le}
-use Rattle.std.proofs.lemmas.List.{take-append-drop, take_all, length-take-le}
+use Rattle.std.proofs.lemmas.List.{take-append-drop, length-take-le}
 use Rattle.std.proofs.lemmas.List.Elements.{All-take, All-drop, All-get_or}
-use Rattle.std.proofs.lemmas.Bool.{cases_lt}
 use Rattle.pf_ints.specs.Images.{Picture}
 use Rattle.pf_terms.specs.Kernels.{no_picture}
 use Rattle.pf_isa.specs.declared.registers.RegFile.{RegFile}
 use Rattle.pf_isa.specs.declared.memory.Region.{Region}
-use Rattle.pf_isa.specs.declared.control.Control.TheVariants.{LoadPtr, StorePtr, Imm, AddImm}
+use Rattle.pf_isa.specs.declared.control.Control.TheVariants.{LoadPtr, StorePtr, Imm}
 use Rattle.pf_isa.specs.declared.code.Line.{Line}
-use Rattle.pf_isa.specs.declared.code.Line.TheVariants.{Vector, Control as Controls}
+use Rattle.pf_isa.specs.declared.code.Line.TheVariants.{Control as Controls}
 use Rattle.pf_isa.specs.declared.code.Label.{Label}
 use Rattle.pf_isa.specs.Bytes.{number, bytes, packed}
 use Rattle.pf_isa.specs.Memory.{loaded, stored}
 use Rattle.pf_isa.specs.Runs.{Places, pixel_bytes}
 use Rattle.pf_isa.specs.Tables.{Table}
-use Rattle.pf_isa.specs.Steps.{wrapped, pointer_bytes, place_of}
+use Rattle.pf_isa.specs.Steps.{pointer_bytes, place_of}
 use Rattle.pf_isa.proofs.ByteLaws.{packed_below, bytes-number, length-bytes}
 use Rattle.pf_isa.proofs.MemoryLaws.{image_bytes, overwritten, length-overwritten, overwritten-overwritten, take-drop-part, stored-scratch}
-use Rattle.pf_isa.proofs.StepLaws.{wrapped_small}
-use Rattle.pf_rows.specs.RowCode.{buffer_at, table_bytes, scratch_lines, copy_turn, copy_label, tap_copy, tap_copies}
-use Rattle.pf_rows.proofs.Paths.{Stands, stands-front, stands-back, now, Comes, comes-none, comes-on, comes-one}
+use Rattle.pf_rows.specs.RowCode.{buffer_at, table_bytes, scratch_lines, copy_turn, copy_label, tap_copy}
+use Rattle.pf_rows.proofs.Paths.{Stands, stands-front, stands-back, now, Comes, comes-on, comes-one}
 use Rattle.pf_rows.proofs.Pointers.{scratch_count, length-scratch_lines, comes-scratch}
-use Rattle.pf_rows.proofs.Cells.{part, length-part, part-before, part-behind, part-within}
-use Rattle.pf_rows.proofs.RowPlaces.{RowPlace, span, holding, entry-given, tap-given, some-pointer, most-pointer}
+use Rattle.pf_rows.proofs.Cells.{part, length-part}
+use Rattle.pf_rows.proofs.RowPlaces.{RowPlace, span, entry-given, tap-given, some-pointer, most-pointer}
 use Rattle.pf_rows.proofs.Wide.{mem}
-use Rattle.pf_rows.proofs.Ways.{Copies}
 use Rattle.pf_rows.proofs.PixelCopies.{pointer_stored, Copy, turn_count, copied, from_stands, to_stands, length-copy_turn}
 
 pub image_bytes_below : (pictures : List Picture) (k : ℕ) → All (λ b. b < 256) (image_bytes pictures k)

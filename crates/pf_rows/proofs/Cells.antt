@@ -1,12 +1,12 @@
 -- Parts of bytes that are written over, and lists of parts one after another.
-use Rattle.std.proofs.Common.{◌≡◌, ℕ, zero, suc, ◌+◌, ◌-◌, ◌*◌, ◌<◌, ◌≤◌, List, [], ◌∷◌, ◌++◌, length, take, drop, set, get_or, refl, arith, ap, sym, ◌∙◌, inl, inr, ⊎_elim, ◌⊎◌, append_assoc, length-append, length-take, length-drop}
+use Rattle.std.proofs.Common.{◌≡◌, ℕ, zero, suc, ◌+◌, ◌-◌, ◌*◌, ◌<◌, ◌≤◌, List, [], ◌∷◌, ◌++◌, length, take, drop, set, get_or, refl, arith, ap, sym, ◌∙◌, ⊎_elim, ◌⊎◌, append_assoc, length-append, length-take, length-drop}
 use Rattle.std.specs.Prelude.{replicate}
 use Rattle.std.specs.List.{concat}
 use Rattle.std.proofs.Math.Seq.{take-add}
-use Rattle.std.proofs.lemmas.List.{take_at, drop_at, drop-drop, take_all, take-append-le, drop-append-le, get_or-set_same, get_or-set_other, get_or-replicate, length-set, length-replicate, length-take-le}
+use Rattle.std.proofs.lemmas.List.{drop_at, drop-drop, take_all, take-append-le, drop-append-le, get_or-set_same, get_or-set_other, get_or-replicate, length-set, length-replicate, length-take-le}
 use Rattle.std.proofs.lemmas.Nat.{column_fits}
 use Rattle.std.proofs.lemmas.Bool.{cases_order, cases_eq}
-use Rattle.pf_isa.proofs.MemoryLaws.{overwritten, length-overwritten, take-drop-part}
+use Rattle.pf_isa.proofs.MemoryLaws.{overwritten, take-drop-part}
 
 -- a part of bytes
 abbrev pub part : ℕ → ℕ → List ℕ → List ℕ

@@ -1,27 +1,23 @@
 -- The code of a row is a program's.
-use Rattle.std.proofs.Common.{◌≡◌, ◌≢◌, ℕ, zero, suc, ◌+◌, ◌-◌, ◌*◌, ◌/◌, ◌%◌, ◌<◌, ◌≤◌, List, [], ◌∷◌, ◌++◌, length, map, get_or, All, Bool, true, false, Option, Some, None, ◌||◌, ◌&&◌, refl, arith, rules, ap, sym, subst, ◌∙◌}
-use Rattle.std.specs.Prelude.{codes, replicate, Contains, IsTrue}
+use Rattle.std.proofs.Common.{◌≡◌, ℕ, zero, suc, ◌+◌, ◌*◌, ◌/◌, ◌%◌, ◌<◌, ◌≤◌, List, [], ◌∷◌, ◌++◌, length, map, get_or, All, true, false, Option, Some, None, refl, arith, sym, subst}
+use Rattle.std.specs.Prelude.{codes, replicate, Contains}
 use Rattle.std.specs.List.{last_or}
 use Rattle.std.proofs.lemmas.Bool.{le-leb, or_left, or_right, and_from, eq-eqb}
-use Rattle.std.proofs.lemmas.Nat.{mul-le}
-use Rattle.std.proofs.Math.Nat.{mul-mod_left, mul_comm}
-use Rattle.std.proofs.lemmas.List.Elements.{All-nil, All-cons, All-head, All-tail, All-append, All-replicate, All-get_or, All-from_recursion}
+use Rattle.std.proofs.lemmas.List.Elements.{All-nil, All-cons, All-head, All-tail, All-append, All-replicate, All-get_or}
 use Rattle.pf_ints.specs.Words.{is_name}
-use Rattle.pf_isa.specs.declared.control.Control.{Control}
-use Rattle.pf_isa.specs.declared.control.Control.TheVariants.{LoadPtr, StorePtr, Imm, AddImm, AddReg, LoadByte, LoadHalf, StoreByte, StoreHalf, Compare, Below, Jump, Return}
+use Rattle.pf_isa.specs.declared.control.Control.TheVariants.{LoadPtr, StorePtr, Imm, AddImm, AddReg, Compare, Below, Jump, Return}
 use Rattle.pf_isa.specs.declared.code.Line.{Line}
 use Rattle.pf_isa.specs.declared.code.Line.TheVariants.{Vector, Control as Controls}
 use Rattle.pf_isa.specs.declared.code.Label.{Label}
 use Rattle.pf_isa.specs.declared.block.Item.{Item}
 use Rattle.pf_isa.specs.declared.block.Item.TheVariants.{Vector as Operation, TapLoad, OutStore, SlotLoad, SlotStore}
-use Rattle.pf_isa.specs.declared.program.Head.{Head}
-use Rattle.pf_isa.specs.Control.{is_offset, IsControl}
-use Rattle.pf_isa.specs.Tables.{Table, IsTable, IsOver}
+use Rattle.pf_isa.specs.Control.{is_offset}
+use Rattle.pf_isa.specs.Tables.{Table, IsOver}
 use Rattle.pf_isa.specs.Blocks.{IsWithin}
-use Rattle.pf_isa.specs.Programs.{IsProgram, IsInstructionOf, IsLast, Text}
-use Rattle.pf_rows.specs.RowCode.{begin_lines, pixel_lines, page_lines, scratch_lines, item_lines, block_lines, next_lines, tail_lines, last_lines, load_value, store_value, copy_turn, copy_label, tap_copy, tap_copies, narrow_lines, back_lines, row_code, row_labels, slot_at, buffer_at}
-use Rattle.pf_rows.specs.BlockRows.{IsStep, IsRowBlock, row_text, tap_widths}
-use Rattle.pf_rows.proofs.LabelLaws.{block_named, tail_named, last_named, narrow_named, back_named, loop_named, copy_named, block_there, tail_there, to_last_there, narrow_there, back_there, loop_there, copy_there, labels_are, labels_distinct}
+use Rattle.pf_isa.specs.Programs.{IsInstructionOf, IsLast}
+use Rattle.pf_rows.specs.RowCode.{begin_lines, pixel_lines, scratch_lines, item_lines, block_lines, next_lines, tail_lines, last_lines, load_value, store_value, copy_turn, copy_label, tap_copy, tap_copies, narrow_lines, back_lines, row_code, row_labels, slot_at, buffer_at}
+use Rattle.pf_rows.specs.BlockRows.{IsStep}
+use Rattle.pf_rows.proofs.LabelLaws.{block_named, tail_named, last_named, narrow_named, back_named, loop_named, copy_named, block_there, tail_there, to_last_there, narrow_there, back_there, loop_there, copy_there}
 
 -- numbers that may be added
 offset_low : (by : ℕ) → by ≤ 4095 → is_offset false by ≡ true

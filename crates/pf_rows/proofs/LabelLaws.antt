@@ -1,10 +1,10 @@
 -- The labels of a row's code.
-use Rattle.std.proofs.Common.{◌≡◌, ◌≢◌, ℕ, zero, suc, ◌+◌, ◌-◌, ◌*◌, ◌/◌, ◌%◌, ◌<◌, ◌≤◌, List, [], ◌∷◌, ◌++◌, length, map, get_or, All, Bool, true, false, refl, arith, rules, ap, sym, subst, ◌∙◌, ⊎_elim, append_assoc, length-append}
+use Rattle.std.proofs.Common.{◌≡◌, ◌≢◌, ℕ, ◌+◌, ◌<◌, ◌≤◌, List, [], ◌∷◌, ◌++◌, length, map, get_or, All, true, false, refl, arith, ap, sym, subst, ◌∙◌, ⊎_elim, length-append}
 use Rattle.std.specs.Prelude.{codes, Contains}
 use Rattle.std.specs.Str.{bytes_eq}
 use Rattle.std.specs.List.{AllPairs}
 use Rattle.std.proofs.lemmas.Bool.{agree_below, agree_below_at, cases_eq, false≢true}
-use Rattle.std.proofs.lemmas.List.{map-append, length-map}
+use Rattle.std.proofs.lemmas.List.{map-append}
 use Rattle.std.proofs.lemmas.List.Kept.{AllPairs-cons}
 use Rattle.std.proofs.lemmas.List.Elements.{All-nil, All-cons, All-append, All-weaker, Contains-get_or, Contains-append_right, Contains-append_left}
 use Rattle.pf_ints.specs.Words.{is_name, is_reserved}
@@ -16,7 +16,7 @@ use Rattle.pf_isa.specs.declared.block.Item.{Item}
 use Rattle.pf_isa.specs.Tables.{Table}
 use Rattle.pf_isa.specs.Programs.{IsLabel}
 use Rattle.pf_rows.proofs.Parts.{bytes_eq-same, copy_label-other}
-use Rattle.pf_rows.specs.RowCode.{begin_lines, block_lines, next_lines, tail_lines, last_lines, narrow_lines, back_lines, row_code, row_labels, copy_labels, copy_label, tap_copy, tap_copies, label, next_at, narrow_at, back_at, scratch_lines, buffer_at}
+use Rattle.pf_rows.specs.RowCode.{block_lines, next_lines, tail_lines, last_lines, narrow_lines, back_lines, row_code, row_labels, copy_labels, copy_label, tap_copy, tap_copies, label, next_at, narrow_at, back_at, scratch_lines, buffer_at}
 
 pub block_named : is_name (codes "block") ≡ true
 unfolding is_name is_reserved

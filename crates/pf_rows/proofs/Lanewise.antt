@@ -1,24 +1,23 @@
 -- Rows of a block whose pixels are each a function of the taps' numbers there.
-use Rattle.std.proofs.Common.{◌≡◌, ℕ, zero, suc, ◌+◌, ◌-◌, ◌*◌, ◌/◌, ◌%◌, ◌<◌, ◌≤◌, List, [], ◌∷◌, ◌++◌, length, map, take, drop, get_or, All, Bool, true, false, refl, arith, ap, sym, subst, ◌∙◌, ⊎_elim, ltb}
-use Rattle.std.specs.Prelude.{pos, replicate}
-use Rattle.std.specs.List.{concat, range_with_len}
+use Rattle.std.proofs.Common.{◌≡◌, ℕ, ◌+◌, ◌-◌, ◌*◌, ◌/◌, ◌%◌, ◌<◌, ◌≤◌, List, [], length, map, take, get_or, All, false, refl, arith, ap, sym, subst, ◌∙◌, ⊎_elim, ltb}
+use Rattle.std.specs.Prelude.{replicate}
+use Rattle.std.specs.List.{concat}
 use Rattle.std.proofs.lemmas.Nat.{div-add-mod'}
 use Rattle.std.proofs.lemmas.Bool.{cases_lt, cond-true, cond-false, lt-ltb, le-ltb}
 use Rattle.std.proofs.lemmas.List.{take_all, length-map, get_or-map, length-replicate}
-use Rattle.std.proofs.lemmas.List.FromFn.{get_or-map-range_with_len, length-map-range_with_len}
+use Rattle.std.proofs.lemmas.List.FromFn.{get_or-map-range_with_len}
 use Rattle.std.proofs.Math.Nat.{mul_comm}
 use Rattle.pf_ints.specs.Images.{Picture}
 use Rattle.pf_terms.specs.TermTexts.{no_tap}
-use Rattle.pf_terms.specs.Kernels.{Source, Keeps, Out, out_value}
 use Rattle.pf_isa.specs.declared.registers.RegFile.{RegFile}
 use Rattle.pf_isa.specs.declared.block.Item.{Item}
 use Rattle.pf_isa.specs.declared.program.Head.{Head}
-use Rattle.pf_isa.specs.Bytes.{bytes, packed}
+use Rattle.pf_isa.specs.Bytes.{bytes}
 use Rattle.pf_isa.specs.Blocks.{BVal}
-use Rattle.pf_isa.specs.Runs.{Places, IsPlaced, Leaves, pixel_bytes, columns, rows}
-use Rattle.pf_isa.specs.RowEnds.{row_size, RowDone, row_values, row_in_memory}
-use Rattle.pf_isa.specs.Tables.{Table, IsTable, IsFile}
-use Rattle.pf_isa.proofs.ByteLaws.{length-packed, bytes_below, lane_at}
+use Rattle.pf_isa.specs.Runs.{pixel_bytes, columns}
+use Rattle.pf_isa.specs.RowEnds.{RowDone, row_values, row_in_memory}
+use Rattle.pf_isa.specs.Tables.{Table, IsTable}
+use Rattle.pf_isa.proofs.ByteLaws.{bytes_below, lane_at}
 use Rattle.pf_isa.proofs.RowLaws.{leaves, length-row_in_memory, length-row_values}
 use Rattle.pf_rows.specs.BlockRows.{IsOne, tap_widths, row_text, start_of, pixel_part, tap_pixel, IsBlockRow, IsLanewise, IsRowBlock, RunsBlock, LeavesLanes, no_decl}
 use Rattle.pf_rows.proofs.Cells.{part, length-part, Cells, cells_of, cells-of, cells-joined, length-cells_of, get_or-cells_of}

@@ -1,10 +1,8 @@
 -- The code of a row moves addresses and whole pixels alone, and its work is the block's.
-use Rattle.std.proofs.Common.{◌≡◌, ◌≢◌, ℕ, zero, suc, ◌+◌, ◌*◌, ◌/◌, ◌%◌, ◌≤◌, List, [], ◌∷◌, ◌++◌, length, map, sum, get_or, All, Option, Some, None, MatchOption, true, false, refl, arith, rules, ap, sym, ◌∙◌, inl, inr, subst}
+use Rattle.std.proofs.Common.{◌≡◌, ℕ, zero, suc, ◌+◌, ◌*◌, ◌/◌, ◌%◌, ◌≤◌, List, [], ◌∷◌, ◌++◌, length, get_or, All, false, refl, arith, rules}
 use Rattle.std.specs.Prelude.{codes, replicate}
-use Rattle.std.proofs.lemmas.List.{map-append}
 use Rattle.std.proofs.lemmas.List.Elements.{All-nil, All-cons, All-head, All-tail, All-append, All-replicate, All-weaker, All-from_recursion, All-get_or}
-use Rattle.pf_isa.specs.declared.control.Control.{Control}
-use Rattle.pf_isa.specs.declared.control.Control.TheVariants.{LoadPtr, StorePtr, Imm, AddImm, AddReg, LoadByte, LoadHalf, StoreByte, StoreHalf, Compare, Below, Jump, Return}
+use Rattle.pf_isa.specs.declared.control.Control.TheVariants.{LoadPtr, StorePtr, Imm, AddImm, AddReg, Compare, Below, Jump, Return}
 use Rattle.pf_isa.specs.declared.code.Line.{Line}
 use Rattle.pf_isa.specs.declared.code.Line.TheVariants.{Vector, Control as Controls}
 use Rattle.pf_isa.specs.declared.code.Label.{Label}
@@ -12,8 +10,8 @@ use Rattle.pf_isa.specs.declared.block.Item.{Item}
 use Rattle.pf_isa.specs.declared.block.Item.TheVariants.{Vector as Operation, TapLoad, OutStore, SlotLoad, SlotStore}
 use Rattle.pf_isa.specs.Tables.{Table, IsTable}
 use Rattle.pf_isa.specs.Blocks.{IsWithin}
-use Rattle.pf_isa.specs.Moved.{Moved, Work, line_cost, WritesOnly, OfControl, MovesPixel, MovesTable, MovesEnd, MovesPointer, MovesValue, StoresValue, Compares, StoresPointer, AccessesPointer}
-use Rattle.pf_rows.specs.RowCode.{begin_lines, pixel_lines, page_lines, scratch_lines, item_lines, block_lines, next_lines, tail_lines, last_lines, load_value, store_value, copy_turn, copy_label, tap_copy, tap_copies, narrow_lines, back_lines, row_code, row_labels, slot_at, buffer_at, label, copy_labels, next_at, narrow_at, back_at}
+use Rattle.pf_isa.specs.Moved.{Moved, WritesOnly, OfControl, MovesPixel, MovesTable, MovesEnd, MovesPointer, MovesValue, StoresValue, Compares, StoresPointer, AccessesPointer}
+use Rattle.pf_rows.specs.RowCode.{pixel_lines, page_lines, scratch_lines, item_lines, block_lines, next_lines, tail_lines, last_lines, load_value, store_value, copy_turn, copy_label, tap_copy, tap_copies, narrow_lines, back_lines, row_code, row_labels, slot_at, buffer_at, label, copy_labels, next_at, narrow_at, back_at}
 use Rattle.pf_rows.specs.BlockRows.{IsStep}
 
 -- what holds of each line behind the first

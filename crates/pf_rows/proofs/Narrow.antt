@@ -1,14 +1,12 @@
 -- A block over a narrow row's buffers.
-use Rattle.std.proofs.Common.{◌≡◌, ℕ, zero, suc, ◌+◌, ◌-◌, ◌*◌, ◌%◌, ◌^◌, ◌<◌, ◌≤◌, List, [], ◌∷◌, ◌++◌, length, map, take, drop, set, get_or, All, Bool, true, false, Some, refl, arith, ap, sym, subst, ◌∙◌, ⊎_elim, inl, inr}
-use Rattle.std.specs.Prelude.{replicate}
-use Rattle.std.specs.List.{range_with_len, concat, list_any}
+use Rattle.std.proofs.Common.{◌≡◌, ℕ, ◌+◌, ◌*◌, ◌<◌, ◌≤◌, List, [], length, map, take, drop, set, get_or, Some, refl, arith, ap, sym, ◌∙◌}
+use Rattle.std.specs.List.{range_with_len}
 use Rattle.std.proofs.Math.Nat.{mul_comm}
 use Rattle.std.proofs.lemmas.Nat.{mul-le}
-use Rattle.std.proofs.lemmas.List.{length-set, length-replicate}
+use Rattle.std.proofs.lemmas.List.{length-set}
 use Rattle.std.proofs.lemmas.List.Elements.{All-weaker, All-get_or}
 use Rattle.std.proofs.lemmas.List.FromFn.{get_or-map-range_with_len}
 use Rattle.pf_ints.specs.Images.{Picture}
-use Rattle.pf_isa.specs.declared.registers.RegFile.{RegFile}
 use Rattle.pf_isa.specs.declared.memory.Region.{Region}
 use Rattle.pf_isa.specs.declared.code.Line.{Line}
 use Rattle.pf_isa.specs.declared.code.Label.{Label}
@@ -17,15 +15,15 @@ use Rattle.pf_isa.specs.Memory.{loaded, stored}
 use Rattle.pf_isa.specs.Steps.{wrapped, pointer_bytes}
 use Rattle.pf_isa.specs.Runs.{Places}
 use Rattle.pf_isa.specs.Tables.{Table}
-use Rattle.pf_isa.proofs.MemoryLaws.{image_bytes, overwritten, length-overwritten, take-drop-part, loaded-scratch, stored-scratch}
+use Rattle.pf_isa.proofs.MemoryLaws.{overwritten, length-overwritten, take-drop-part, loaded-scratch, stored-scratch}
 use Rattle.pf_isa.proofs.StepLaws.{wrapped_small}
 use Rattle.pf_rows.specs.RowCode.{slot_at, buffer_at}
-use Rattle.pf_rows.proofs.Cells.{part, length-part, Agree, agree-trans, agree-same, agree-before, agree-behind, Cells, cells-agree, cells-set, cells-none, cells-joined}
+use Rattle.pf_rows.proofs.Cells.{part, length-part, Agree, agree-trans, agree-before, agree-behind, Cells, cells-agree, cells-set}
 use Rattle.pf_rows.proofs.Steps.{Desk}
-use Rattle.pf_rows.proofs.RowPlaces.{RowPlace, span, number-pointer, some-pointer, most-pointer, Slots, slots-agree, slot-given, slot-stored}
+use Rattle.pf_rows.proofs.RowPlaces.{RowPlace, span, number-pointer, some-pointer, most-pointer, slots-agree, slot-given, slot-stored}
 use Rattle.pf_rows.proofs.Wide.{mem, SlotsIn}
 use Rattle.pf_rows.proofs.Buffers.{buffer_room, table_ends}
-use Rattle.pf_rows.proofs.Prepared.{Filled, buffer}
+use Rattle.pf_rows.proofs.Prepared.{Filled}
 
 module _ {I O : Type 0} (t : Table O) (code : List (Line I O)) (labels : List Label) (pictures : List Picture) (at : Places) (entries widths : List ℕ) (width slots n scratch_size output_size row : ℕ) (image place : ℕ → ℕ) (placed : RowPlace t.vector pictures at entries widths width slots n scratch_size output_size row image place) (narrow : n < t.vector) (some_pixel : 1 ≤ n) where
   abbrev memo : List ℕ → List ℕ → List Region

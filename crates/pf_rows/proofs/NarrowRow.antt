@@ -1,5 +1,5 @@
 -- A row of fewer pixels than a block.
-use Rattle.std.proofs.Common.{◌≡◌, ℕ, zero, suc, ◌+◌, ◌-◌, ◌*◌, ◌/◌, ◌%◌, ◌^◌, ◌<◌, ◌≤◌, List, [], ◌∷◌, ◌++◌, length, map, take, drop, set, get_or, All, Bool, true, false, Some, refl, arith, ap, sym, subst, ◌∙◌, ⊎_elim, inl, inr, ltb, cond}
+use Rattle.std.proofs.Common.{◌≡◌, ℕ, suc, ◌+◌, ◌-◌, ◌*◌, ◌/◌, ◌<◌, ◌≤◌, List, [], ◌∷◌, ◌++◌, length, take, drop, get_or, All, Bool, true, false, Some, refl, arith, ap, sym, subst, ◌∙◌, ltb}
 use Rattle.std.specs.Prelude.{replicate, codes}
 use Rattle.std.specs.List.{concat}
 use Rattle.std.proofs.Math.Nat.{mul_comm, mul-le-mul_left}
@@ -17,7 +17,7 @@ use Rattle.pf_isa.specs.declared.block.Item.{Item}
 use Rattle.pf_isa.specs.Bytes.{number, bytes, packed, lanes}
 use Rattle.pf_isa.specs.Memory.{loaded, stored}
 use Rattle.pf_isa.specs.Runs.{Places}
-use Rattle.pf_isa.specs.Steps.{State, wrapped, pointer_bytes}
+use Rattle.pf_isa.specs.Steps.{State}
 use Rattle.pf_isa.specs.Tables.{Table, IsTable, IsFile}
 use Rattle.pf_isa.specs.Blocks.{Bench, items_run, IsWithin}
 use Rattle.pf_isa.proofs.ByteLaws.{lane_at, get_or-lanes, length-lanes, length-packed, length-bytes}
@@ -27,15 +27,15 @@ use Rattle.pf_rows.specs.BlockRows.{IsOne, IsStep, StoresEach, start_of}
 use Rattle.pf_rows.proofs.Paths.{Stands, stands-front, stands-back, now, Comes, comes-on, comes-one}
 use Rattle.pf_rows.proofs.Pointers.{scratch_count, length-scratch_lines, comes-scratch}
 use Rattle.pf_rows.proofs.Cells.{part, length-part, part-within, Agree, agree-same, agree-before, agree-behind, cells-none, cells-joined, cells_of, length-cells_of}
-use Rattle.pf_rows.proofs.Steps.{Takes, block_takes}
+use Rattle.pf_rows.proofs.Steps.{block_takes}
 use Rattle.pf_rows.proofs.RowPlaces.{RowPlace, span, entry-given, row-stored}
 use Rattle.pf_rows.proofs.Wide.{mem}
 use Rattle.pf_rows.proofs.Ways.{Laid, Ends, comes-ends, returns, begins_narrow, parts_back}
 use Rattle.pf_rows.proofs.WideRow.{slots_are, RowLeft, longer, given_by}
 use Rattle.pf_rows.proofs.PixelCopies.{Copy, turn_count, copied, from_stands, to_stands, length-copy_turn}
 use Rattle.pf_rows.proofs.Buffers.{buffer_room, buffer_low}
-use Rattle.pf_rows.proofs.Prepared.{Filled, Ready, ready, row_of_tap}
-use Rattle.pf_rows.proofs.Narrow.{narrow_taps, narrow_tap, narrow_tap_long, buffer_block, Narrow, narrow_desk}
+use Rattle.pf_rows.proofs.Prepared.{Filled, ready}
+use Rattle.pf_rows.proofs.Narrow.{narrow_taps, narrow_tap, narrow_tap_long, Narrow, narrow_desk}
 
 -- taps of a block from pixel x of a row of n pixels on: as many as there are are those of the row
 pub record Finds (vector n : ℕ) (pictures : List Picture) (widths : List ℕ) (image place : ℕ → ℕ) (x : ℕ) (blocks : List (List ℕ)) : Type 0 where

@@ -1,16 +1,13 @@
 -- Instructions at a place in code, and a row that comes from one state to another.
-use Rattle.std.proofs.Common.{◌≡◌, ℕ, zero, suc, ◌+◌, ◌*◌, ◌/◌, ◌%◌, ◌^◌, ◌<◌, ◌≤◌, List, [], ◌∷◌, ◌++◌, length, set, get_or, Bool, true, false, Option, Some, None, refl, arith, ap, sym, subst, ◌∙◌, append_assoc, length-append}
-use Rattle.std.specs.Prelude.{slice_get, replicate}
+use Rattle.std.proofs.Common.{◌≡◌, ℕ, suc, ◌+◌, List, [], ◌∷◌, ◌++◌, length, Bool, Some, refl, arith, ap, subst, ◌∙◌, append_assoc, length-append}
+use Rattle.std.specs.Prelude.{slice_get}
 use Rattle.pf_isa.specs.declared.registers.RegFile.{RegFile}
 use Rattle.pf_isa.specs.declared.memory.Region.{Region}
-use Rattle.pf_isa.specs.declared.control.Control.{Control}
-use Rattle.pf_isa.specs.declared.control.Control.TheVariants.{LoadPtr, StorePtr, Imm, AddImm, AddReg, LoadByte, LoadHalf, StoreByte, StoreHalf, Compare, Below, Jump, Return}
 use Rattle.pf_isa.specs.declared.code.Line.{Line}
-use Rattle.pf_isa.specs.declared.code.Line.TheVariants.{Vector, Control as Controls}
 use Rattle.pf_isa.specs.declared.code.Label.{Label}
 use Rattle.pf_isa.specs.Tables.{Table}
-use Rattle.pf_isa.specs.Steps.{State, Outcome, Moved, End, Ended, run, step, line_step, wrapped}
-use Rattle.pf_isa.proofs.StepLaws.{run_moved, run_longer, slice_get-behind}
+use Rattle.pf_isa.specs.Steps.{State, Moved, run, step, line_step}
+use Rattle.pf_isa.proofs.StepLaws.{run_moved, slice_get-behind}
 
 -- the instructions stand in the code from this place on
 abbrev pub Stands : {A : Type 0} → List A → ℕ → List A → Type 0

@@ -1,13 +1,13 @@
 -- Pixels that are copied one by one.
-use Rattle.std.proofs.Common.{◌≡◌, ℕ, zero, suc, ◌+◌, ◌-◌, ◌*◌, ◌/◌, ◌%◌, ◌^◌, ◌<◌, ◌≤◌, List, [], ◌∷◌, ◌++◌, length, take, drop, get_or, All, Bool, true, false, Some, refl, arith, ltb, ap, sym, subst, ◌∙◌, ⊎_elim, length-append, append_assoc}
+use Rattle.std.proofs.Common.{◌≡◌, ℕ, zero, suc, ◌+◌, ◌-◌, ◌*◌, ◌^◌, ◌<◌, ◌≤◌, List, [], ◌∷◌, ◌++◌, length, Bool, true, false, Some, refl, arith, ltb, ap, subst, ◌∙◌, length-append}
 use Rattle.std.specs.Prelude.{slice_get}
 use Rattle.std.proofs.Math.Nat.{mul-le-mul_right}
 use Rattle.std.proofs.lemmas.Bool.{lt-ltb, le-ltb}
 use Rattle.pf_isa.specs.declared.registers.RegFile.{RegFile}
 use Rattle.pf_isa.specs.declared.memory.Region.{Region}
-use Rattle.pf_isa.specs.declared.control.Control.TheVariants.{LoadPtr, StorePtr, Imm, AddImm, AddReg, LoadByte, LoadHalf, StoreByte, StoreHalf, Compare, Below, Jump, Return}
+use Rattle.pf_isa.specs.declared.control.Control.TheVariants.{StorePtr, AddImm, LoadByte, LoadHalf, StoreByte, StoreHalf, Compare, Below}
 use Rattle.pf_isa.specs.declared.code.Line.{Line}
-use Rattle.pf_isa.specs.declared.code.Line.TheVariants.{Vector, Control as Controls}
+use Rattle.pf_isa.specs.declared.code.Line.TheVariants.{Control as Controls}
 use Rattle.pf_isa.specs.declared.code.Label.{Label}
 use Rattle.pf_isa.specs.Bytes.{number, bytes}
 use Rattle.pf_isa.specs.Memory.{loaded, stored}
@@ -15,7 +15,7 @@ use Rattle.pf_isa.specs.Tables.{Table}
 use Rattle.pf_isa.specs.Steps.{wrapped, pointer_bytes, place_of}
 use Rattle.pf_isa.proofs.StepLaws.{wrapped_small}
 use Rattle.pf_rows.specs.RowCode.{pixel_lines, load_value, store_value, copy_turn}
-use Rattle.pf_rows.proofs.Paths.{Stands, stands-front, stands-back, now, Comes, comes-none, comes-on, comes-one}
+use Rattle.pf_rows.proofs.Paths.{Stands, stands-front, stands-back, now, Comes, comes-on, comes-one}
 use Rattle.pf_rows.proofs.Pointers.{length-pixel_lines, comes-pixels}
 
 le_of : (x n : ℕ) → x < n → x ≤ n

@@ -1,19 +1,18 @@
 -- A run's placement places each of its rows.
-use Rattle.std.proofs.Common.{◌≡◌, ℕ, zero, suc, ◌+◌, ◌-◌, ◌*◌, ◌/◌, ◌%◌, ◌^◌, ◌<◌, ◌≤◌, List, [], ◌∷◌, ◌++◌, length, map, take, drop, get_or, All, refl, arith, ap, sym, subst, ◌∙◌, rules}
+use Rattle.std.proofs.Common.{◌≡◌, ℕ, suc, ◌+◌, ◌*◌, ◌/◌, ◌^◌, ◌<◌, ◌≤◌, List, [], ◌∷◌, length, map, get_or, arith, ap, sym, subst, ◌∙◌}
 use Rattle.std.specs.Prelude.{pos, zip, ◌≤ℤ◌}
 use Rattle.std.proofs.lemmas.Int.{ints}
-use Rattle.std.proofs.Math.Nat.{mul-add, mul_assoc, mul_comm, mul-le-mul_left}
+use Rattle.std.proofs.Math.Nat.{mul-add, mul_assoc, mul-le-mul_left}
 use Rattle.std.proofs.lemmas.Nat.{column_fits, mul-le}
 use Rattle.std.proofs.lemmas.List.{get_or_at, get_or-map, length-map, get_or_append_left, get_or-append-add}
-use Rattle.std.proofs.lemmas.List.Elements.{All-get_or, All-weaker, All-map, All-from_get_or}
+use Rattle.std.proofs.lemmas.List.Elements.{All-get_or, All-weaker, All-map}
 use Rattle.std.proofs.lemmas.Slice.Zip.{get_or-zip, length-zip}
-use Rattle.pf_ints.specs.Images.{Picture, IsPicture, IsPixelType, pixel}
-use Rattle.pf_ints.specs.Lanes.{lane_width, bit_count}
+use Rattle.pf_ints.specs.Images.{Picture, IsPicture, IsPixelType}
+use Rattle.pf_ints.specs.Lanes.{bit_count}
 use Rattle.pf_ints.specs.declared.lane.LaneType.{LaneType}
 use Rattle.pf_ints.specs.declared.lane.Bits.{Bits}
 use Rattle.pf_ints.specs.declared.lane.Bits.TheVariants.{Eight, Sixteen, ThirtyTwo}
 use Rattle.pf_terms.specs.declared.names.Tap.{Tap}
-use Rattle.pf_terms.specs.declared.kernel.ImageDecl.{ImageDecl}
 use Rattle.pf_terms.specs.TermTexts.{no_tap}
 use Rattle.pf_terms.specs.Kernels.{Source, Keeps, KeepsRange, no_picture, width_of, height_of, out_width, out_height, tap_column, tap_row}
 use Rattle.pf_isa.specs.declared.program.Head.{Head}

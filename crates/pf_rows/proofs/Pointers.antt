@@ -1,10 +1,9 @@
 -- Registers that become addresses.
-use Rattle.std.proofs.Common.{◌≡◌, ◌≢◌, ℕ, zero, suc, ◌+◌, ◌*◌, ◌/◌, ◌%◌, ◌^◌, ◌<◌, ◌≤◌, List, [], ◌∷◌, ◌++◌, length, set, get_or, Bool, true, false, Option, Some, None, refl, arith, ap, sym, subst, ◌∙◌, append_assoc, length-append}
+use Rattle.std.proofs.Common.{◌≡◌, ◌≢◌, ℕ, zero, suc, ◌+◌, ◌*◌, ◌/◌, ◌%◌, ◌^◌, ◌<◌, List, [], ◌∷◌, length, set, get_or, Bool, false, Some, refl, arith, ap, sym, subst, ◌∙◌, length-append}
 use Rattle.std.specs.Prelude.{slice_get, replicate}
 use Rattle.std.proofs.lemmas.List.{set-set, set-get_or, get_or-set_same, get_or-set_other, length-set, length-replicate}
 use Rattle.pf_isa.specs.declared.registers.RegFile.{RegFile}
 use Rattle.pf_isa.specs.declared.memory.Region.{Region}
-use Rattle.pf_isa.specs.declared.control.Control.{Control}
 use Rattle.pf_isa.specs.declared.control.Control.TheVariants.{AddImm, AddReg}
 use Rattle.pf_isa.specs.declared.code.Line.{Line}
 use Rattle.pf_isa.specs.declared.code.Line.TheVariants.{Control as Controls}
@@ -12,7 +11,7 @@ use Rattle.pf_isa.specs.declared.code.Label.{Label}
 use Rattle.pf_isa.specs.Tables.{Table}
 use Rattle.pf_isa.specs.Steps.{wrapped}
 use Rattle.pf_isa.proofs.StepLaws.{wrapped_small}
-use Rattle.pf_rows.specs.RowCode.{pixel_lines, page_lines, scratch_lines}
+use Rattle.pf_rows.specs.RowCode.{pixel_lines, scratch_lines}
 use Rattle.pf_rows.proofs.Paths.{Stands, stands-front, stands-back, now, Comes, comes-none, comes-on, comes-one}
 
 pub length-pixel_lines : (I O : Type 0) (r width : ℕ) → length (pixel_lines {I = I} {O = O} r width) ≡ width

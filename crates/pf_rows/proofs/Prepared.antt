@@ -1,5 +1,5 @@
 -- A narrow row, up to its block.
-use Rattle.std.proofs.Common.{◌≡◌, ℕ, zero, suc, ◌+◌, ◌-◌, ◌*◌, ◌/◌, ◌%◌, ◌^◌, ◌<◌, ◌≤◌, List, [], ◌∷◌, ◌++◌, length, take, drop, get_or, All, Bool, true, false, Some, refl, arith, ltb, ap, sym, subst, ◌∙◌, ⊎_elim, length-append, append_assoc}
+use Rattle.std.proofs.Common.{◌≡◌, ℕ, suc, ◌+◌, ◌*◌, ◌<◌, ◌≤◌, List, [], ◌∷◌, ◌++◌, length, take, get_or, Bool, false, Some, refl, arith, ap, sym, subst, ◌∙◌, ⊎_elim, length-append}
 use Rattle.std.specs.Prelude.{codes}
 use Rattle.std.proofs.lemmas.List.{take_all, length-take-le}
 use Rattle.std.proofs.lemmas.List.Elements.{All-get_or}
@@ -7,28 +7,27 @@ use Rattle.std.proofs.lemmas.Bool.{cases_lt}
 use Rattle.pf_ints.specs.Images.{Picture}
 use Rattle.pf_isa.specs.declared.registers.RegFile.{RegFile}
 use Rattle.pf_isa.specs.declared.memory.Region.{Region}
-use Rattle.pf_isa.specs.declared.control.Control.TheVariants.{LoadPtr, StorePtr, Imm, AddImm, Jump}
+use Rattle.pf_isa.specs.declared.control.Control.TheVariants.{StorePtr, Imm, AddImm, Jump}
 use Rattle.pf_isa.specs.declared.code.Line.{Line}
-use Rattle.pf_isa.specs.declared.code.Line.TheVariants.{Vector, Control as Controls}
+use Rattle.pf_isa.specs.declared.code.Line.TheVariants.{Control as Controls}
 use Rattle.pf_isa.specs.declared.code.Label.{Label}
-use Rattle.pf_isa.specs.declared.block.Item.{Item}
-use Rattle.pf_isa.specs.Bytes.{number, bytes, packed}
-use Rattle.pf_isa.specs.Memory.{loaded, stored}
+use Rattle.pf_isa.specs.Bytes.{bytes, packed}
+use Rattle.pf_isa.specs.Memory.{stored}
 use Rattle.pf_isa.specs.Runs.{Places}
 use Rattle.pf_isa.specs.Tables.{Table}
 use Rattle.pf_isa.specs.Steps.{wrapped, pointer_bytes, place_of}
 use Rattle.pf_isa.proofs.ByteLaws.{length-bytes}
 use Rattle.pf_isa.proofs.MemoryLaws.{image_bytes, overwritten, length-overwritten, stored-scratch}
 use Rattle.pf_isa.proofs.StepLaws.{wrapped_small}
-use Rattle.pf_rows.specs.RowCode.{buffer_at, table_bytes, scratch_lines, tap_copy, tap_copies, narrow_lines, narrow_at, copy_label}
+use Rattle.pf_rows.specs.RowCode.{buffer_at, scratch_lines, tap_copy, tap_copies, narrow_lines}
 use Rattle.pf_rows.proofs.Paths.{Stands, stands-front, stands-back, now, Comes, comes-none, comes-on, comes-one}
 use Rattle.pf_rows.proofs.Pointers.{scratch_count, length-scratch_lines, comes-scratch}
 use Rattle.pf_rows.proofs.Cells.{part, length-part, part-before, part-behind, part-within}
 use Rattle.pf_rows.proofs.RowPlaces.{RowPlace, span, some-pointer, most-pointer}
 use Rattle.pf_rows.proofs.Wide.{mem}
-use Rattle.pf_rows.proofs.Ways.{Laid, Copies}
+use Rattle.pf_rows.proofs.Ways.{Copies}
 use Rattle.pf_rows.proofs.PixelCopies.{pointer_stored}
-use Rattle.pf_rows.proofs.Buffers.{tap_row, at_buffer, buffer_regs, buffer_room, row_room, buffer_low, table_ends, TapCopied, tap_copied}
+use Rattle.pf_rows.proofs.Buffers.{tap_row, buffer_room, row_room, buffer_low, table_ends, tap_copied}
 
 module _ {I O : Type 0} (t : Table O) (code : List (Line I O)) (labels : List Label) (pictures : List Picture) (at : Places) (entries widths : List ℕ) (width slots n scratch_size output_size row : ℕ) (image place : ℕ → ℕ) (placed : RowPlace t.vector pictures at entries widths width slots n scratch_size output_size row image place) (narrow : n < t.vector) (some_pixel : 1 ≤ n) where
   abbrev memo : List ℕ → List ℕ → List Region

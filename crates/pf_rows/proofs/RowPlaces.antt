@@ -1,8 +1,8 @@
 -- Where a row's taps, output and scratch are in memory.
-use Rattle.std.proofs.Common.{◌≡◌, ℕ, zero, suc, ◌+◌, ◌-◌, ◌*◌, ◌%◌, ◌^◌, ◌<◌, ◌≤◌, List, [], ◌∷◌, ◌++◌, length, take, drop, set, get_or, All, true, false, Some, refl, arith, ap, sym, ◌∙◌, ◌≢◌}
+use Rattle.std.proofs.Common.{◌≡◌, ℕ, ◌+◌, ◌*◌, ◌^◌, ◌<◌, ◌≤◌, List, [], length, take, drop, set, get_or, All, Some, arith, ap, sym, ◌∙◌}
 use Rattle.std.specs.List.{AllPairs}
 use Rattle.std.proofs.Math.Nat.{mul_comm, mul-add, mul-le-mul_left}
-use Rattle.std.proofs.lemmas.List.{take-take, drop-drop, get_or-set_same, get_or-set_other, length-set}
+use Rattle.std.proofs.lemmas.List.{take-take, get_or-set_same, get_or-set_other, length-set}
 use Rattle.std.proofs.lemmas.Bool.{cases_eq}
 use Rattle.std.proofs.Common.{⊎_elim}
 use Rattle.pf_ints.specs.Images.{Picture}
@@ -13,12 +13,11 @@ use Rattle.pf_isa.specs.Bytes.{number, bytes, packed}
 use Rattle.pf_isa.specs.Memory.{Apart, loaded, stored}
 use Rattle.pf_isa.specs.Steps.{wrapped, pointer_bytes}
 use Rattle.pf_isa.specs.Runs.{Places, memory}
-use Rattle.pf_isa.specs.Tables.{Table}
 use Rattle.pf_isa.proofs.ByteLaws.{entry_at, length-packed, number-bytes, take-bytes}
-use Rattle.pf_isa.proofs.MemoryLaws.{image_bytes, overwritten, length-overwritten, take-drop-part, loaded-table, loaded-image, loaded-scratch, stored-scratch, stored-output}
+use Rattle.pf_isa.proofs.MemoryLaws.{image_bytes, overwritten, length-overwritten, loaded-table, loaded-image, loaded-scratch, stored-scratch, stored-output}
 use Rattle.pf_isa.proofs.StepLaws.{wrapped_small}
 use Rattle.pf_rows.specs.RowCode.{buffer_at, slot_at, scratch_bytes}
-use Rattle.pf_rows.proofs.Cells.{part, Agree, agree-trans, agree-same, agree-before, agree-behind, Cells, cells-agree, cells-set}
+use Rattle.pf_rows.proofs.Cells.{part, Agree, Cells, cells-agree, cells-set}
 
 -- A row of n pixels: its table, where its taps lie in their images, its place in the output, and the scratch.
 pub record RowPlace (vector : ℕ) (pictures : List Picture) (at : Places) (entries widths : List ℕ) (width slots n scratch_size output_size row : ℕ) (image place : ℕ → ℕ) : Type 0 where

@@ -1,5 +1,5 @@
 -- What is so of a row's whole program.
-use Rattle.std.proofs.Common.{◌≡◌, ℕ, ◌+◌, ◌*◌, ◌^◌, ◌<◌, ◌≤◌, List, [], ◌∷◌, ◌++◌, length, get_or, All, refl, arith, ap, sym, subst, ◌∙◌, append_assoc, length-append}
+use Rattle.std.proofs.Common.{◌≡◌, ℕ, ◌+◌, ◌*◌, ◌^◌, ◌<◌, ◌≤◌, List, [], ◌∷◌, ◌++◌, length, get_or, All, arith, ap, sym, subst, ◌∙◌, append_assoc, length-append}
 use Rattle.std.specs.Prelude.{codes}
 use Rattle.std.proofs.lemmas.List.{length-map}
 use Rattle.std.proofs.lemmas.List.Elements.{All-get_or, All-weaker, All-map}
@@ -15,8 +15,8 @@ use Rattle.pf_isa.specs.Moved.{Moved, Work}
 use Rattle.pf_isa.specs.Programs.{IsProgram, Text}
 use Rattle.pf_isa.specs.Runs.{pixel_bytes}
 use Rattle.pf_isa.specs.Tables.{Table, IsTable}
-use Rattle.pf_rows.specs.RowCode.{begin_lines, block_lines, next_lines, tail_lines, last_lines, narrow_lines, back_lines, row_code, row_labels, copy_labels, label, next_at, back_at, slot_at}
-use Rattle.pf_rows.specs.BlockRows.{IsOne, no_decl, tap_widths, row_text, IsRowBlock, block_cost, IsNear, IsPixel}
+use Rattle.pf_rows.specs.RowCode.{begin_lines, block_lines, next_lines, tail_lines, last_lines, narrow_lines, row_code, row_labels, copy_labels, label, next_at, back_at, slot_at}
+use Rattle.pf_rows.specs.BlockRows.{no_decl, tap_widths, row_text, IsRowBlock, block_cost, IsNear, IsPixel}
 use Rattle.pf_rows.proofs.RowPlaces.{span}
 use Rattle.pf_rows.proofs.Placed.{pixel_one_or_two}
 use Rattle.pf_rows.proofs.Moves.{row_moved}

@@ -1,27 +1,24 @@
 -- The instructions of a block do what the block does.
-use Rattle.std.proofs.Common.{◌≡◌, ◌≢◌, ℕ, zero, suc, ◌+◌, ◌*◌, ◌/◌, ◌%◌, ◌^◌, ◌<◌, ◌≤◌, List, [], ◌∷◌, ◌++◌, length, take, drop, set, get_or, All, Bool, true, false, Option, Some, None, refl, arith, ap, sym, subst, ◌∙◌, eqb, ⊎_elim, append_assoc, length-append, length-take, length-drop}
-use Rattle.std.specs.Prelude.{slice_get, replicate}
-use Rattle.std.proofs.lemmas.List.{set-set, set-get_or, get_or-set_same, get_or-set_other, length-set, length-replicate}
+use Rattle.std.proofs.Common.{◌≡◌, ℕ, zero, suc, ◌+◌, ◌*◌, ◌^◌, ◌<◌, ◌≤◌, List, [], ◌∷◌, ◌++◌, length, take, drop, set, get_or, All, Bool, true, false, Some, refl, arith, ap, sym, subst, ◌∙◌, eqb, ⊎_elim, length-append, length-take, length-drop}
+use Rattle.std.proofs.lemmas.List.{get_or-set_same, get_or-set_other, length-set}
 use Rattle.std.specs.List.{list_any}
 use Rattle.std.proofs.lemmas.Bool.{cases_eq, eqb-true, or_cases}
 use Rattle.std.proofs.lemmas.List.Elements.{All-head, All-tail, All-set, All-get_or}
 use Rattle.pf_isa.specs.declared.registers.Reg.TheVariants.{V}
 use Rattle.pf_isa.specs.declared.registers.RegFile.{RegFile}
 use Rattle.pf_isa.specs.declared.memory.Region.{Region}
-use Rattle.pf_isa.specs.declared.control.Control.{Control}
-use Rattle.pf_isa.specs.declared.control.Control.TheVariants.{LoadPtr, AddImm, AddReg}
-use Rattle.pf_isa.specs.declared.access.Access.{Access}
+use Rattle.pf_isa.specs.declared.control.Control.TheVariants.{LoadPtr}
 use Rattle.pf_isa.specs.declared.code.Line.{Line}
 use Rattle.pf_isa.specs.declared.code.Line.TheVariants.{Vector, Control as Controls}
 use Rattle.pf_isa.specs.declared.code.Label.{Label}
 use Rattle.pf_isa.specs.declared.block.Item.{Item}
 use Rattle.pf_isa.specs.declared.block.Item.TheVariants.{Vector as Operation, TapLoad, OutStore, SlotLoad, SlotStore}
 use Rattle.pf_isa.specs.Bytes.{number}
-use Rattle.pf_isa.specs.Files.{read, write, IsIn}
+use Rattle.pf_isa.specs.Files.{read, write}
 use Rattle.pf_isa.specs.Memory.{loaded, stored}
 use Rattle.pf_isa.specs.Tables.{Table, IsTable, IsFile, CanRun, after}
 use Rattle.pf_isa.specs.Blocks.{Bench, item_step, items_run, IsWithin}
-use Rattle.pf_isa.specs.Steps.{State, Moved, wrapped, pointer_bytes, line_step}
+use Rattle.pf_isa.specs.Steps.{State, wrapped, pointer_bytes}
 use Rattle.pf_isa.proofs.StepLaws.{wrapped_small}
 use Rattle.pf_rows.specs.RowCode.{pixel_lines, scratch_lines, item_lines, block_lines, slot_at}
 use Rattle.pf_rows.specs.BlockRows.{IsStep, IsOne, stores_part}

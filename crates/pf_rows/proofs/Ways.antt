@@ -1,23 +1,23 @@
 -- The ways that a row takes round its block.
-use Rattle.std.proofs.Common.{◌≡◌, ℕ, zero, suc, ◌+◌, ◌-◌, ◌*◌, ◌/◌, ◌%◌, ◌^◌, ◌<◌, ◌≤◌, List, [], ◌∷◌, ◌++◌, length, Bool, true, false, Some, refl, arith, ltb, ap, sym, subst, ◌∙◌}
+use Rattle.std.proofs.Common.{◌≡◌, ℕ, ◌+◌, ◌-◌, ◌*◌, ◌^◌, ◌<◌, ◌≤◌, List, [], ◌∷◌, length, Bool, true, false, Some, refl, arith, ltb, ap, ◌∙◌}
 use Rattle.std.specs.Prelude.{codes}
 use Rattle.std.proofs.lemmas.Bool.{lt-ltb, le-ltb}
 use Rattle.pf_ints.specs.declared.target.Target.{Target}
 use Rattle.pf_ints.specs.declared.target.Target.TheVariants.{Neon, Avx2, Hvx}
 use Rattle.pf_isa.specs.declared.registers.RegFile.{RegFile}
 use Rattle.pf_isa.specs.declared.memory.Region.{Region}
-use Rattle.pf_isa.specs.declared.control.Control.TheVariants.{LoadPtr, StorePtr, Imm, AddImm, AddReg, Compare, Below, Jump, Return}
+use Rattle.pf_isa.specs.declared.control.Control.TheVariants.{LoadPtr, Imm, AddImm, Compare, Below, Jump, Return}
 use Rattle.pf_isa.specs.declared.code.Line.{Line}
-use Rattle.pf_isa.specs.declared.code.Line.TheVariants.{Vector, Control as Controls}
+use Rattle.pf_isa.specs.declared.code.Line.TheVariants.{Control as Controls}
 use Rattle.pf_isa.specs.declared.code.Label.{Label}
 use Rattle.pf_isa.specs.declared.block.Item.{Item}
 use Rattle.pf_isa.specs.Bytes.{number}
-use Rattle.pf_isa.specs.Memory.{loaded, stored}
+use Rattle.pf_isa.specs.Memory.{loaded}
 use Rattle.pf_isa.specs.Tables.{Table}
-use Rattle.pf_isa.specs.Steps.{State, Moved, Returned, End, Ended, run, step, wrapped, pointer_bytes, place_of, sum_of}
+use Rattle.pf_isa.specs.Steps.{State, Returned, Ended, run, step, wrapped, pointer_bytes, place_of, sum_of}
 use Rattle.pf_isa.proofs.StepLaws.{wrapped_small, run_returned}
 use Rattle.pf_rows.specs.RowCode.{begin_lines, block_lines, next_lines, tail_lines, last_lines, narrow_lines, back_lines, next_at, narrow_at, back_at, tap_copy, copy_label}
-use Rattle.pf_rows.proofs.Paths.{Stands, stands-front, stands-back, now, Comes, comes-none, comes-on, comes-one}
+use Rattle.pf_rows.proofs.Paths.{Stands, now, Comes, comes-on, comes-one}
 
 -- the labels of the taps' copies, from tap k on, whose copies begin at this place
 abbrev pub Copies : (I O : Type 0) → List Label → (end vector taps k before : ℕ) → List ℕ → Type 0

@@ -1,29 +1,21 @@
 -- A block over a row in place.
-use Rattle.std.proofs.Common.{◌≡◌, ℕ, zero, suc, ◌+◌, ◌-◌, ◌*◌, ◌%◌, ◌^◌, ◌<◌, ◌≤◌, List, [], ◌∷◌, ◌++◌, length, map, take, drop, set, get_or, All, Bool, true, false, Some, refl, arith, ap, sym, subst, ◌∙◌, ⊎_elim, inl, inr}
-use Rattle.std.specs.Prelude.{replicate}
-use Rattle.std.specs.List.{range_with_len, concat, list_any}
+use Rattle.std.proofs.Common.{◌≡◌, ℕ, ◌+◌, ◌*◌, ◌^◌, ◌<◌, ◌≤◌, List, [], length, map, take, drop, set, get_or, Some, refl, arith, ap, sym, ◌∙◌, ⊎_elim}
+use Rattle.std.specs.List.{range_with_len}
 use Rattle.std.proofs.Math.Nat.{mul_comm}
-use Rattle.std.proofs.lemmas.List.{length-set, length-replicate}
-use Rattle.std.proofs.lemmas.List.Elements.{All-weaker, All-get_or}
+use Rattle.std.proofs.lemmas.List.{length-set}
+use Rattle.std.proofs.lemmas.List.Elements.{All-weaker}
 use Rattle.std.proofs.lemmas.List.FromFn.{get_or-map-range_with_len}
 use Rattle.std.proofs.lemmas.Bool.{cases_lt}
 use Rattle.pf_ints.specs.Images.{Picture}
-use Rattle.pf_isa.specs.declared.registers.RegFile.{RegFile}
 use Rattle.pf_isa.specs.declared.memory.Region.{Region}
-use Rattle.pf_isa.specs.declared.code.Line.{Line}
-use Rattle.pf_isa.specs.declared.code.Label.{Label}
-use Rattle.pf_isa.specs.declared.block.Item.{Item}
 use Rattle.pf_isa.specs.Memory.{loaded, stored}
 use Rattle.pf_isa.specs.Runs.{Places}
-use Rattle.pf_isa.specs.Tables.{Table, IsTable, IsFile}
-use Rattle.pf_isa.specs.Blocks.{Bench, items_run, IsWithin}
+use Rattle.pf_isa.specs.Tables.{Table}
 use Rattle.pf_isa.proofs.MemoryLaws.{image_bytes, overwritten, length-overwritten, take-drop-part}
-use Rattle.pf_rows.specs.RowCode.{slot_at, block_lines}
-use Rattle.pf_rows.specs.BlockRows.{IsOne, IsStep, StoresEach}
-use Rattle.pf_rows.proofs.Paths.{Stands, now, Comes}
-use Rattle.pf_rows.proofs.Cells.{part, length-part, Agree, agree-trans, agree-same, agree-before, agree-behind, Cells, cells-agree, cells-set, cells-none, cells-joined}
-use Rattle.pf_rows.proofs.Steps.{Desk, Takes, block_takes}
-use Rattle.pf_rows.proofs.RowPlaces.{RowPlace, span, holding, entry-given, tap-given, row-stored, Slots, slots-agree, slot-given, slot-stored}
+use Rattle.pf_rows.specs.RowCode.{slot_at}
+use Rattle.pf_rows.proofs.Cells.{part, length-part, Agree, agree-trans, agree-before, agree-behind, Cells, cells-set}
+use Rattle.pf_rows.proofs.Steps.{Desk}
+use Rattle.pf_rows.proofs.RowPlaces.{RowPlace, span, holding, entry-given, tap-given, row-stored, Slots, slot-given, slot-stored}
 
 module _ {O : Type 0} (t : Table O) (pictures : List Picture) (at : Places) (entries widths : List ℕ) (width slots n scratch_size output_size row : ℕ) (image place : ℕ → ℕ) (placed : RowPlace t.vector pictures at entries widths width slots n scratch_size output_size row image place) where
   -- what a block at pixel x finds of the taps

@@ -1,33 +1,31 @@
 -- A row of at least a block.
-use Rattle.std.proofs.Common.{◌≡◌, ℕ, zero, suc, ◌+◌, ◌-◌, ◌*◌, ◌/◌, ◌%◌, ◌^◌, ◌<◌, ◌≤◌, List, [], ◌∷◌, ◌++◌, length, map, take, drop, set, get_or, All, Bool, true, false, Some, refl, arith, ap, sym, subst, ◌∙◌, ⊎_elim, inl, inr, ltb, cond}
+use Rattle.std.proofs.Common.{◌≡◌, ℕ, zero, suc, ◌+◌, ◌-◌, ◌*◌, ◌/◌, ◌<◌, ◌≤◌, List, [], ◌∷◌, length, get_or, All, Bool, true, false, refl, arith, ap, sym, subst, ◌∙◌, ⊎_elim, ltb}
 use Rattle.std.specs.Prelude.{replicate}
-use Rattle.std.specs.List.{range_with_len, concat, list_any}
+use Rattle.std.specs.List.{concat}
 use Rattle.std.proofs.Math.Nat.{mul_comm, mul-add, le-mul_of_pos_right}
-use Rattle.std.proofs.lemmas.List.{length-set, length-replicate}
+use Rattle.std.proofs.lemmas.List.{length-replicate}
 use Rattle.std.proofs.lemmas.Nat.{div-mul-add}
-use Rattle.std.proofs.lemmas.Bool.{cases_lt, cases_order, lt-ltb, le-ltb, cond-true, cond-false}
+use Rattle.std.proofs.lemmas.Bool.{cases_lt, lt-ltb, le-ltb, cond-true, cond-false}
 use Rattle.pf_ints.specs.Images.{Picture}
 use Rattle.pf_isa.specs.declared.registers.RegFile.{RegFile}
 use Rattle.pf_isa.specs.declared.memory.Region.{Region}
 use Rattle.pf_isa.specs.declared.code.Line.{Line}
 use Rattle.pf_isa.specs.declared.code.Label.{Label}
 use Rattle.pf_isa.specs.declared.block.Item.{Item}
-use Rattle.pf_isa.specs.Bytes.{number}
-use Rattle.pf_isa.specs.Memory.{loaded, stored}
 use Rattle.pf_isa.specs.Runs.{Places}
-use Rattle.pf_isa.specs.Steps.{State, wrapped, pointer_bytes, run, Ended}
+use Rattle.pf_isa.specs.Steps.{State, run, Ended}
 use Rattle.pf_isa.proofs.StepLaws.{run_longer}
 use Rattle.pf_isa.specs.Tables.{Table, IsTable, IsFile}
 use Rattle.pf_isa.specs.Blocks.{Bench, items_run, IsWithin}
-use Rattle.pf_isa.proofs.MemoryLaws.{image_bytes, overwritten, length-overwritten, take-drop-part}
-use Rattle.pf_rows.specs.RowCode.{buffer_at, slot_at, block_lines, next_at}
+use Rattle.pf_isa.proofs.MemoryLaws.{take-drop-part}
+use Rattle.pf_rows.specs.RowCode.{buffer_at, block_lines, next_at}
 use Rattle.pf_rows.specs.BlockRows.{IsOne, IsStep, StoresEach, start_of}
-use Rattle.pf_rows.proofs.Paths.{Stands, now, Comes, comes-on}
-use Rattle.pf_rows.proofs.Cells.{part, length-part, Agree, agree-trans, agree-same, agree-within, Cells, cells-none, cells-joined, cells_of, length-cells_of, get_or-cells_of, cells-of}
-use Rattle.pf_rows.proofs.Steps.{Desk, Takes, block_takes}
-use Rattle.pf_rows.proofs.RowPlaces.{RowPlace, span, holding, entry-given, Slots, slots_at}
-use Rattle.pf_rows.proofs.Wide.{wide_taps, Wide, wide_desk, mem, SlotsIn}
-use Rattle.pf_rows.proofs.Ways.{Laid, Ends, comes-ends, returns, begins_wide, goes_on, goes_last, ends_wide}
+use Rattle.pf_rows.proofs.Paths.{now, Comes, comes-on}
+use Rattle.pf_rows.proofs.Cells.{part, length-part, Agree, agree-trans, agree-same, agree-within, cells-none, cells-joined, cells_of, length-cells_of, get_or-cells_of, cells-of}
+use Rattle.pf_rows.proofs.Steps.{block_takes}
+use Rattle.pf_rows.proofs.RowPlaces.{RowPlace, span, entry-given, Slots}
+use Rattle.pf_rows.proofs.Wide.{wide_taps, Wide, wide_desk, mem}
+use Rattle.pf_rows.proofs.Ways.{Laid, Ends, comes-ends, begins_wide, goes_on, goes_last, ends_wide}
 
 -- the slots that the scratch has
 pub slots_are : (vector : ℕ) (pictures : List Picture) (at : Places) (entries widths : List ℕ) (width slots n scratch_size output_size row : ℕ) (image place : ℕ → ℕ) (placed : RowPlace vector pictures at entries widths width slots n scratch_size output_size row image place) (scratch : List ℕ) → length scratch ≡ scratch_size

@@ -1,5 +1,5 @@
 -- What a block makes of a row: which block gives which pixel.
-use Rattle.std.specs.Prelude.{◌≡◌, ℕ, pos, ◌+◌, ◌-◌, ◌*◌, ◌/◌, ◌<◌, ◌≤◌, List, [], length, map, sum, take, drop, All, None, Bool, true, false, ◌==◌, if◌then◌else◌, nat_lt, slice_index, slice_index_or}
+use Rattle.std.specs.Prelude.{◌≡◌, ℕ, pos, ◌+◌, ◌-◌, ◌*◌, ◌/◌, ◌<◌, ◌≤◌, List, [], length, map, sum, take, drop, All, Bool, true, false, ◌==◌, if◌then◌else◌, nat_lt, slice_index, slice_index_or}
 use Rattle.std.specs.List.{concat, list_any}
 use Rattle.pf_ints.specs.Images.{Picture, pixel}
 use Rattle.pf_terms.specs.declared.kernel.ImageDecl.{ImageDecl}

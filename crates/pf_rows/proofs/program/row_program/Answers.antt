@@ -1,7 +1,7 @@
 use Rattle.std.proofs.Common.{◌≡◌, length, sym, subst, ◌∙◌}
 use Rattle.pf_isa.specs.Moved.{Moved, Work}
 use Rattle.pf_isa.specs.Programs.{IsProgram}
-use Rattle.pf_rows.specs.BlockRows.{row_text, slots_in, block_cost, RunsBlock, LeavesLanes}
+use Rattle.pf_rows.specs.BlockRows.{slots_in, block_cost, RunsBlock, LeavesLanes}
 use Rattle.pf_rows.proofs.Lanewise.{runs_block, leaves_lanes}
 use Rattle.pf_rows.proofs.RowTexts.{widths_pixels, near_block, row_is_program, row_is_moved, row_is_work, text_is}
 use Rattle.pf_rows.proofs.program.row_program.Goals as goal
