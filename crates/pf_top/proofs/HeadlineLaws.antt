@@ -1,8 +1,9 @@
 -- The headline of a text that is written of a program of the lesser of two taps.
-use Rattle.std.proofs.Common.{◌≡◌, ap, subst, ◌∙◌, ℕ, List}
+use Rattle.std.proofs.Common.{◌≡◌, sym, ap, subst, ◌∙◌, ℕ, List, length}
 use Rattle.pf_ints.specs.Images.{Picture}
 use Rattle.pf_terms.specs.Kernels.{Keeps, Out}
 use Rattle.pf_isa.specs.declared.program.Head.{Head}
+use Rattle.pf_isa.specs.Moved.{Moved, Work}
 use Rattle.pf_isa.specs.Programs.{Text}
 use Rattle.pf_isa.specs.Texts.{IsText}
 use Rattle.pf_isa.specs.Runs.{Places, IsPlaced, Leaves}
@@ -27,8 +28,21 @@ headline_at k text p is leaves parses =
           → (o : Picture) × Out (least_source h 0 (second_tap k.left k.right)) pictures o × ((at : Places) (scratch output : List ℕ) → IsPlaced p.head pictures at scratch output → Leaves table p pictures at scratch output o)) is leaves;
     }
 
-pub selected_from : (k : LeastKernel) (text : List ℕ) (head : Head) (second : ℕ) (p : Text Neon Form) → head ≡ head_of k → second ≡ second_tap k.left k.right → p.head ≡ head → LeavesLeast p 0 second
+-- what is known of a program that is made for a head
+pub record IsMade (wanted : Head) (second : ℕ) (p : Text Neon Form) : Type 0 where
+  pub head : p.head ≡ wanted
+  pub moved : Moved table (length p.head.taps) p.code p.labels
+  pub work : Work table p.code ≡ 1
+  pub right : LeavesLeast p 0 second
+
+pub selected_from : (k : LeastKernel) (text : List ℕ) (head : Head) (second : ℕ) (p : Text Neon Form) → head ≡ head_of k → second ≡ second_tap k.left k.right → IsMade head second p
     → IsText table IsForm text p → IsSelected k text
-unfolding IsSelected
-selected_from k text head second p same_head same_second is leaves parses =
-    headline_at k text p (is ∙ same_head) (rw same_second at leaves) parses
+unfolding headline_at
+selected_from k text head second p same_head same_second made parses =
+    let is : p.head ≡ head_of k = made.head ∙ same_head in
+    record {
+      headline = headline_at k text p is (rw same_second at made.right) parses;
+      head = is;
+      moved = made.moved;
+      work = made.work ∙ sym (ap (λ (h : Head). h.cost) is);
+    }

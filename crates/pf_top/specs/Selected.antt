@@ -1,11 +1,13 @@
 -- The texts that are selected for a kernel.
-use Rattle.std.specs.Prelude.{ℕ, List, [], ◌∷◌, length, codes, Bool, ◌&&◌, ◌==◌, if◌then◌else◌}
+use Rattle.std.specs.Prelude.{◌≡◌, ℕ, List, [], ◌∷◌, length, codes, Bool, ◌&&◌, ◌==◌, if◌then◌else◌}
 use Rattle.std.specs.Ordering.{int_eq}
 use Rattle.pf_terms.specs.declared.kernel.Definition.{Definition}
 use Rattle.pf_terms.specs.declared.kernel.ImageDecl.{ImageDecl}
 use Rattle.pf_terms.specs.declared.names.Tap.{Tap}
 use Rattle.pf_terms.specs.Kernels.{Source}
 use Rattle.pf_isa.specs.declared.program.Head.{Head}
+use Rattle.pf_isa.specs.Moved.{Moved, Work}
+use Rattle.pf_neon.specs.Neon.{table}
 use Rattle.pf_rows.specs.RowCode.{scratch_bytes}
 use Rattle.pf_top.specs.Least.{byte_type, least_term}
 use Rattle.pf_top.specs.declared.least.LeastKernel.{LeastKernel}
@@ -47,6 +49,10 @@ head_of k = record {
   cost = 1;
 }
 
--- the text may be written for the kernel
-unfoldable pub IsSelected : LeastKernel → List ℕ → Type 0
-IsSelected k text = Headline (source_of k) text
+-- The text may be written for the kernel: it keeps the headline's promise, its program has just this head, its control
+-- instructions compute with no pixel, and its vector instructions cost what the head says.
+pub record IsSelected (k : LeastKernel) (text : List ℕ) : Type 0 where
+  pub headline : Headline (source_of k) text
+  pub head : headline.program.head ≡ head_of k
+  pub moved : Moved table (length headline.program.head.taps) headline.program.code headline.program.labels
+  pub work : Work table headline.program.code ≡ headline.program.head.cost
