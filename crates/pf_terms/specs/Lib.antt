@@ -8,3 +8,5 @@ pub mod Tokens
 pub mod Grammar
 pub mod Parsing
 pub mod Limits
+pub mod KernelNames
+pub mod Meanings
