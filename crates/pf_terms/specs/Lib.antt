@@ -8,3 +8,4 @@ pub mod Tokens
 pub mod Grammar
 pub mod Parsing
 pub mod Limits
+pub mod Drafts
