@@ -1,5 +1,5 @@
 -- What an expression means, once its names are looked up.
-use Rattle.std.specs.Prelude.{◌≡◌, ℕ, ℤ, pos, neg_ℤ, ◌+◌, ◌≤◌, ◌<◌, Bool, true, false, ◌&&◌, ◌==◌, not, if◌then◌else◌, int_le, unsigned_abs, List, [], ◌∷◌, ◌++◌, length, map, slice_index_or, Option, Some, None, Result, Ok, Err}
+use Rattle.std.specs.Prelude.{◌≡◌, ℕ, ℤ, pos, neg_ℤ, ◌+◌, ◌≤◌, ◌<◌, Bool, true, ◌&&◌, ◌==◌, not, if◌then◌else◌, int_le, unsigned_abs, List, [], ◌∷◌, ◌++◌, length, map, slice_index_or, Option, Some, None, Result, Ok, Err}
 use Rattle.std.specs.List.{find, flat_map, list_any, position_or_len}
 use Rattle.std.specs.Option.{option_or}
 use Rattle.std.specs.Str.{bytes_eq}
@@ -15,11 +15,12 @@ use Rattle.pf_terms.specs.declared.names.ImageName.{ImageName}
 use Rattle.pf_terms.specs.declared.names.Names.{Names}
 use Rattle.pf_terms.specs.declared.names.Tap.{Tap}
 use Rattle.pf_terms.specs.declared.op.Op.{Op}
-use Rattle.pf_terms.specs.declared.read.ReadFault.{ReadFault}
-use Rattle.pf_terms.specs.declared.read.ReadFault.TheVariants.{Syntax, Name, Types, Amount, Limit, Memory}
+use Rattle.pf_terms.specs.declared.meaning.ReadFault.{ReadFault}
+use Rattle.pf_terms.specs.declared.meaning.ReadFault.TheVariants.{Syntax, Name, Types, Amount, Limit, Memory}
 use Rattle.pf_terms.specs.declared.term.Leaf.TheVariants.{Tap as TapOf, Const, Def}
 use Rattle.pf_terms.specs.declared.term.Term.{Term}
 use Rattle.pf_terms.specs.declared.term.Term.TheVariants.{Leaf as LeafTerm, Node as NodeTerm}
+use Rattle.pf_terms.specs.Drafts.{IsDraftText, IsSyntaxFault}
 use Rattle.pf_terms.specs.Operators.{row_of, int_same}
 use Rattle.pf_terms.specs.Terms.{result_type, stated_type, typing}
 use Rattle.pf_terms.specs.TermTexts.{no_type, no_image, no_def}
@@ -137,7 +138,7 @@ pub record Means (names : Names) (d : Draft) (t : Term) (after : Names) : Type 0
   pub few : HasFewTaps names d
   pub near : first_far d ≡ None
   pub term : t ≡ term_of after d
-  pub then : after ≡ names_after names d
+  pub made : after ≡ names_after names d
 
 -- the draft means nothing, and this is its first fault: an unknown name, else the fault of the first node in post-order of the term as it is read, else too many taps, else an offset
 abbrev pub IsMeaningFault : Names → Draft → ReadFault → Type 0
@@ -147,3 +148,21 @@ IsMeaningFault names d (Amount k) = IsKnown names d × ((path : List ℕ) × (ty
 IsMeaningFault names d (Limit Taps n) = IsKnown names d × IsTyped names d × (64 < length (names_after names d).taps) × (n ≡ pos (length (names_after names d).taps))
 IsMeaningFault names d (Limit Offset n) = IsKnown names d × IsTyped names d × HasFewTaps names d × (first_far d ≡ Some n)
 IsMeaningFault names d _ = ⊥
+
+-- the text means the term, and after it is read there are these names
+pub record IsTermText (names : Names) (text : List ℕ) (t : Term) (after : Names) : Type 0 where
+  pub draft : Draft
+  pub spelled : IsDraftText text draft
+  pub means : Means names draft t after
+
+-- what a refusal says of the text: where it ceases to be an expression, or else what is wrong with the expression
+abbrev pub IsReadFault : Names → List ℕ → ReadFault → Type 0
+IsReadFault names text (Syntax column) = (place : ℕ) × IsSyntaxFault text place × (column ≡ place + 1)
+IsReadFault names text Memory = Unit {0}
+IsReadFault names text fault = (d : Draft) × IsDraftText text d × IsMeaningFault names d fault
+
+-- the answer is this term with these names after it, or memory was wanting
+abbrev pub IsTermOr : Term → Names → Result Term ReadFault → Names → Type 0
+IsTermOr t after (Ok u) now = (u ≡ t) × (now ≡ after)
+IsTermOr t after (Err Memory) now = Unit {0}
+IsTermOr t after (Err _) now = ⊥

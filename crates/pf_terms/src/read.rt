@@ -1,57 +1,23 @@
-ghost use Rattle.std.specs.Prelude.{◌≡◌};
+ghost use Rattle.std.specs.Prelude.{IfOk, IfErr};
+ghost use Rattle.pf_terms.specs.declared.draft.Draft.{Draft};
+ghost use Rattle.pf_terms.specs.Drafts.{IsDraftText, IsDraftOr, IsRefusal};
 
-use crate::limit::LimitKind;
-use pf_ints::{LaneType, Name};
-use std::alloc::{AllocError, AllocFailed};
+use crate::draft::{Draft, DraftFault};
+use std::alloc::Global;
 
-/// Why a text is no term, judged in the order of these causes.
-#[derive(Debug, Drop)]
-pub enum ReadFault {
-    /// No expression begins as the text does up to and with the token at this column, counted in
-    /// bytes from 1; or the text ends there too early.
-    Syntax {
-        column: u64,
-    },
-    /// The first name that is unknown.
-    Name {
-        name: Name,
-    },
-    /// At the first node in post-order that has a fault an operand's type is `got` where `want` is
-    /// asked for.
-    Types {
-        want: LaneType,
-        got: LaneType,
-    },
-    /// That node has an amount that its operator doesn't take.
-    Amount {
-        amount: i128,
-    },
-    /// Of `LimitKind::Taps` the number of taps with all new ones of the text, above 64, and of
-    /// `LimitKind::Offset` the first offset outside -64 to 64.
-    Limit {
-        what: LimitKind,
-        count: i64,
-    },
-    /// Want of memory.
-    Memory,
-}
-
-impl From<AllocError> for ReadFault {
-    ghost use Rattle.pf_terms.specs.declared.read.ReadFault.TheVariants.{Memory};
-
-    ghost from_gives = { λ _ e. e ≡ Memory };
-
-    fn from(_error: AllocError) -> ReadFault {
-        ReadFault::Memory
-    }
-}
-
-impl<T: Drop> From<AllocFailed<T>> for ReadFault {
-    ghost use Rattle.pf_terms.specs.declared.read.ReadFault.TheVariants.{Memory};
-
-    ghost from_gives = { λ _ e. e ≡ Memory };
-
-    fn from(_error: AllocFailed<T>) -> ReadFault {
-        ReadFault::Memory
-    }
+/// The expression that a text spells, as it is written.
+///
+/// A fault stands at the first byte of the first token with which no expression begins, or one past
+/// the last token where the text ends too early. A number outside its type or of more than 10
+/// digits is told at its first byte, its own `-` included, and round brackets that are nested more
+/// than 1,024 deep at the bracket that passes this depth.
+pub fn read_draft(alloc: Global, text: &[u8]) -> Result<Draft, DraftFault>
+    // What is read is spelled so.
+    ensures found { IfOk result (λ d. IsDraftText text.now d) }
+    // What is spelled so is read, unless memory runs out.
+    ensures only { (d : Draft) → IsDraftText text.now d → IsDraftOr d result }
+    // A fault stands where it is told.
+    ensures fault { IfErr result (IsRefusal text.now) }
+{
+    Err(DraftFault::Memory)
 }
