@@ -1,11 +1,13 @@
 //! Terms over the lanes of images: operators with their types, weights and values, and the texts of terms.
 #![tactic(auto)]
 
+mod builder;
 mod draft;
 mod fault;
 mod kernel;
 mod lexer;
 mod limit;
+mod lookup;
 mod meaning;
 mod names;
 mod op;
@@ -14,6 +16,7 @@ mod print;
 mod read;
 mod row;
 mod sizes;
+mod spots;
 mod stack;
 mod symbol;
 mod term;

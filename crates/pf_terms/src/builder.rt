@@ -1,0 +1,133 @@
+ghost use Rattle.std.specs.Prelude.{◌≡◌, ◌≤◌, ◌+◌, length, true, unsigned_abs, slice_index_or, List, IfOk};
+ghost use Rattle.pf_terms.specs.declared.names.Tap.{Tap};
+ghost use Rattle.pf_terms.specs.Building.{is_formed_draft, with_these, IsFound, IsBuilt};
+ghost use Rattle.pf_terms.specs.Meanings.{term_of, image_number, def_number, written_type};
+ghost use Rattle.pf_terms.specs.Operators.{row_of};
+ghost use Rattle.pf_terms.specs.Terms.{operand_count, node_type, result_type, typing, stated_type};
+ghost use Rattle.pf_terms.specs.TermTexts.{no_image, no_def};
+
+use crate::draft::Draft;
+use crate::lookup::{def_number, image_number};
+use crate::meaning::ReadFault;
+use crate::names::{DefNames, ImageNames, Names};
+use crate::op::Op;
+use crate::spots::{Spot, place_in_order, spot_number};
+use crate::term::{Leaf, Term};
+use crate::types::{is_amount, result_type, type_fault};
+use pf_ints::{Bits, LaneType, Name};
+use sqlite_items::Items;
+use std::alloc::Global;
+
+// The type of what has no entry.
+const NO_TYPE: LaneType = LaneType {
+    signed: false,
+    bits: Bits::Eight,
+};
+
+/// The term of a draft, where each tap has its number among these, or the fault of the first node
+/// in post-order that has one.
+pub fn build(
+    alloc: Global,
+    draft: &Draft,
+    names: &Names,
+    taps: &[Spot],
+) -> Result<Term, ReadFault>
+    requires formed { is_formed_draft draft.now ≡ true }
+    requires few_defs { length names.now.defs ≤ 64 }
+    requires few_taps { length taps.now ≤ 64 }
+    requires few_images { length names.now.images ≤ 8 }
+    ensures made { IfOk result (λ t. t ≡ term_of (with_these names.now taps.now) draft.now) }
+    ensures found { (others : List Tap) → IsBuilt (typing (term_of (with_these names.now others) draft.now)) result }
+{
+    match draft {
+        Draft::Number(n, ty) => Ok(Term::Leaf {
+            leaf: Leaf::Const(*n),
+            ty: *ty,
+        }),
+        Draft::Named(name) => {
+            let n = def_number(&names.defs, name);
+            Ok(Term::Leaf {
+                leaf: Leaf::Def(n as u8),
+                ty: def_type(&names.defs, n),
+            })
+        }
+        Draft::Placed(name, dx, dy) => {
+            let image = image_number(&names.images, name);
+            let spot = Spot::new(image as u8, *dx, *dy);
+            Ok(Term::Leaf {
+                leaf: Leaf::Tap(spot_number(taps, spot) as u8),
+                ty: image_type(&names.images, image),
+            })
+        }
+        Draft::Node {
+            op,
+            less,
+            ty,
+            k,
+            args,
+        } => {
+            let drafts = args.as_slice();
+            let mut types = [NO_TYPE; 4];
+            let mut args = Items::new(alloc);
+            for n in 0..drafts.len() {
+                let arg = build(alloc, &drafts[place_in_order(*less, n)], names, taps)?;
+                types[n] = stated_type(&arg);
+                args.push(arg)?;
+            }
+            let ty = node_type(*op, *ty, *k, &types[..drafts.len()])?;
+            Ok(Term::Node {
+                op: *op,
+                ty,
+                k: k.unsigned_abs() as u8,
+                args,
+            })
+        }
+    }
+}
+
+fn def_type(defs: &DefNames, n: usize) -> LaneType
+    ensures { result ≡ (slice_index_or defs.now n no_def).ty }
+{
+    match defs.get(n) {
+        Some(def) => def.ty,
+        None => NO_TYPE,
+    }
+}
+
+fn image_type(images: &ImageNames, n: usize) -> LaneType
+    ensures { result ≡ (slice_index_or images.now n no_image).ty }
+{
+    match images.get(n) {
+        Some(image) => image.ty,
+        None => NO_TYPE,
+    }
+}
+
+fn stated_type(term: &Term) -> LaneType
+    ensures { result ≡ stated_type term.now }
+{
+    match term {
+        Term::Leaf { ty, .. } => *ty,
+        Term::Node { ty, .. } => *ty,
+    }
+}
+
+// The type of a node by its operands' types, or its fault.
+fn node_type(op: Op, ty: Option<LaneType>, k: i64, types: &[LaneType]) -> Result<LaneType, ReadFault>
+    requires { length types.now ≡ operand_count (row_of op).operands }
+    ensures found { IsFound (node_type (row_of op) (result_type (row_of op).gives (written_type ty) types.now) (unsigned_abs k) types.now) result }
+    ensures small { IfOk result (λ t. (unsigned_abs k ≤ 255) × (t ≡ result_type (row_of op).gives (written_type ty) types.now)) }
+{
+    let ty = result_type(op.gives(), ty.unwrap_or(NO_TYPE), types);
+    if let Some((want, got)) = type_fault(op, ty, types) {
+        return Err(ReadFault::Types { want, got });
+    }
+    let amount = k.unsigned_abs();
+    if amount <= 255 && is_amount(op.amounts(), types[0].width(), amount as u8) {
+        Ok(ty)
+    } else {
+        Err(ReadFault::Amount {
+            amount: amount as i128,
+        })
+    }
+}
