@@ -13,3 +13,6 @@ pub mod Complete
 pub mod Sound
 pub mod Advancing
 pub mod FirstFaults
+pub mod Lookups
+pub mod DraftParts
+pub mod Built

@@ -1,9 +1,9 @@
-ghost use Rattle.std.specs.Prelude.{◌≡◌, ◌≤◌, ◌+◌, length, true, unsigned_abs, slice_index_or, List, IfOk};
+ghost use Rattle.std.specs.Prelude.{◌≡◌, ◌≤◌, ◌+◌, length, true, unsigned_abs, slice_index_or, List, IfOk, IsTrue, ◌<◌};
 ghost use Rattle.pf_terms.specs.declared.names.Tap.{Tap};
 ghost use Rattle.pf_terms.specs.Building.{is_formed_draft, with_these, IsFound, IsBuilt};
 ghost use Rattle.pf_terms.specs.Meanings.{term_of, image_number, def_number, written_type};
 ghost use Rattle.pf_terms.specs.Operators.{row_of};
-ghost use Rattle.pf_terms.specs.Terms.{operand_count, node_type, result_type, typing, stated_type};
+ghost use Rattle.pf_terms.specs.Terms.{operand_count, node_type, result_type, typing, stated_type, is_amount};
 ghost use Rattle.pf_terms.specs.TermTexts.{no_image, no_def};
 
 use crate::draft::Draft;
@@ -85,6 +85,7 @@ pub fn build(
     }
 }
 
+#[tactic(auto, using(crate::proofs::Lookups::past_end))]
 fn def_type(defs: &DefNames, n: usize) -> LaneType
     ensures { result ≡ (slice_index_or defs.now n no_def).ty }
 {
@@ -94,6 +95,7 @@ fn def_type(defs: &DefNames, n: usize) -> LaneType
     }
 }
 
+#[tactic(auto, using(crate::proofs::Lookups::past_end))]
 fn image_type(images: &ImageNames, n: usize) -> LaneType
     ensures { result ≡ (slice_index_or images.now n no_image).ty }
 {
@@ -116,18 +118,27 @@ fn stated_type(term: &Term) -> LaneType
 fn node_type(op: Op, ty: Option<LaneType>, k: i64, types: &[LaneType]) -> Result<LaneType, ReadFault>
     requires { length types.now ≡ operand_count (row_of op).operands }
     ensures found { IsFound (node_type (row_of op) (result_type (row_of op).gives (written_type ty) types.now) (unsigned_abs k) types.now) result }
-    ensures small { IfOk result (λ t. (unsigned_abs k ≤ 255) × (t ≡ result_type (row_of op).gives (written_type ty) types.now)) }
+    ensures small { IfOk result (λ t. (unsigned_abs k < 64) × (t ≡ result_type (row_of op).gives (written_type ty) types.now)) }
 {
     let ty = result_type(op.gives(), ty.unwrap_or(NO_TYPE), types);
     if let Some((want, got)) = type_fault(op, ty, types) {
         return Err(ReadFault::Types { want, got });
     }
     let amount = k.unsigned_abs();
-    if amount <= 255 && is_amount(op.amounts(), types[0].width(), amount as u8) {
+    if takes(op, types[0].width(), amount) {
         Ok(ty)
     } else {
         Err(ReadFault::Amount {
             amount: amount as i128,
         })
     }
+}
+
+// Whether the operator takes the amount, for a first operand of w bits.
+fn takes(op: Op, w: u8, k: u64) -> bool
+    requires { w ≤ 32 }
+    ensures value { result ≡ is_amount (row_of op).amounts w k }
+    ensures small { IsTrue result → k < 64 }
+{
+    k < 64 && is_amount(op.amounts(), w, k as u8)
 }

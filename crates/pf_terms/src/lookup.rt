@@ -1,9 +1,10 @@
-ghost use Rattle.std.specs.Prelude.{◌≡◌, ◌≤◌, length};
-ghost use Rattle.std.specs.Option.{option_map};
+ghost use Rattle.std.specs.Prelude.{◌≡◌, ◌≤◌, ◌<◌, length, IfSome};
+ghost use Rattle.std.specs.List.{position};
+ghost use Rattle.std.specs.Str.{bytes_eq};
 ghost use Rattle.pf_terms.specs.Meanings.{image_number, def_number, is_image, is_def, first_unknown, first_far, is_near};
 
 use crate::draft::Draft;
-use crate::names::{DefNames, ImageNames, Names};
+use crate::names::{DefName, DefNames, ImageName, ImageNames, Names};
 use pf_ints::Name;
 
 /// The number of the image of this name, or the count of the images where there is none.
@@ -11,11 +12,16 @@ pub fn image_number(images: &ImageNames, name: &Name) -> usize
     ensures value { result ≡ image_number images.now name.now }
     ensures most { result ≤ length images.now }
 {
+    image_place(images.as_slice(), name).unwrap_or(images.len())
+}
+
+fn image_place(images: &[ImageName], name: &Name) -> Option<usize>
+    ensures value { result ≡ position (λ image. bytes_eq image.name name.now) images.now }
+    ensures within { IfSome result (λ n. n < length images.now) }
+{
     images
-        .as_slice()
         .iter()
         .position(|image| image.name.as_slice() == name.as_slice())
-        .unwrap_or(images.len())
 }
 
 /// The number of the definition of this name, or the count of the definitions where there is none.
@@ -23,10 +29,15 @@ pub fn def_number(defs: &DefNames, name: &Name) -> usize
     ensures value { result ≡ def_number defs.now name.now }
     ensures most { result ≤ length defs.now }
 {
-    defs.as_slice()
-        .iter()
+    def_place(defs.as_slice(), name).unwrap_or(defs.len())
+}
+
+fn def_place(defs: &[DefName], name: &Name) -> Option<usize>
+    ensures value { result ≡ position (λ def. bytes_eq def.name name.now) defs.now }
+    ensures within { IfSome result (λ n. n < length defs.now) }
+{
+    defs.iter()
         .position(|def| def.name.as_slice() == name.as_slice())
-        .unwrap_or(defs.len())
 }
 
 fn is_image(images: &ImageNames, name: &Name) -> bool

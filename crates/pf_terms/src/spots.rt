@@ -1,4 +1,5 @@
-ghost use Rattle.std.specs.Prelude.{◌≡◌, ◌≤◌, ◌+◌, length, true, All, OnOk, IfOk};
+ghost use Rattle.std.specs.Prelude.{◌≡◌, ◌≤◌, ◌<◌, length, true, All, OnOk, IfOk, IfSome};
+ghost use Rattle.std.specs.List.{position, list_any};
 ghost use Rattle.pf_terms.specs.Meanings.{with_tap, with_taps, tap_uses, tap_number, same_tap};
 ghost use Rattle.pf_terms.specs.Building.{place_in_order, HasNearOffsets, is_formed_draft};
 
@@ -90,20 +91,31 @@ pub fn spot_number(spots: &[Spot], spot: Spot) -> usize
     ensures value { result ≡ tap_number spots.now spot }
     ensures most { result ≤ length spots.now }
 {
-    spots
-        .iter()
-        .position(|other| spot.is_same(*other))
-        .unwrap_or(spots.len())
+    spot_place(spots, spot).unwrap_or(spots.len())
+}
+
+fn spot_place(spots: &[Spot], spot: Spot) -> Option<usize>
+    ensures value { result ≡ position (same_tap spot) spots.now }
+    ensures within { IfSome result (λ n. n < length spots.now) }
+{
+    spots.iter().position(|other| spot.is_same(*other))
 }
 
 fn add(spots: &mut Spots, spot: Spot) -> Result<(), AllocError>
     ensures { OnOk result (spots.new ≡ with_tap spots.old spot) }
 {
-    if spots.as_slice().iter().any(|other| spot.is_same(*other)) {
+    if has(spots.as_slice(), spot) {
         Ok(())
     } else {
-        spots.push(spot)
+        spots.push(spot)?;
+        Ok(())
     }
+}
+
+fn has(spots: &[Spot], spot: Spot) -> bool
+    ensures { result ≡ list_any (same_tap spot) spots.now }
+{
+    spots.iter().any(|other| spot.is_same(*other))
 }
 
 /// Adds the taps of a draft that aren't among the spots, in the order of the term.
