@@ -76,14 +76,18 @@ taps_further taps [] us = refl
 taps_further taps (t ∷ ts) us = taps_further (with_tap taps t) ts us
 
 -- operand n of the term
+pub get_operand : {A : Type 0} (f : Draft → A) (less : Bool) (args : List Draft) (n : ℕ) (x : Draft) (d : A) → HasPair less (length args) → n < length args → x ≡ get_or args (place_in_order less n) x →
+    get_or (in_order less (map f args)) n d ≡ f x
+get_operand f less args n x d pair below at =
+    get_in_order less (map f args) n d (subst (HasPair less) (sym (length-map args f)) pair)
+    ∙ get_or-map f args (place_in_order less n) x d (place_below less (length args) n pair below) ∙ ap f (sym at)
+
 pub operand_at : {A : Type 0} (f : Draft → A) (less : Bool) (args : List Draft) (n : ℕ) (x : Draft) → HasPair less (length args) → n < length args → x ≡ get_or args (place_in_order less n) x →
     drop n (in_order less (map f args)) ≡ f x ∷ drop (n + 1) (in_order less (map f args))
 operand_at f less args n x pair below at =
     let long : length (in_order less (map f args)) ≡ length args = length_in_order less (map f args) ∙ length-map args f in
     drop_more (in_order less (map f args)) n (f x) (omega (arith, long))
-    ∙ ap (λ y. y ∷ drop (n + 1) (in_order less (map f args)))
-      (get_in_order less (map f args) n (f x) (subst (HasPair less) (sym (length-map args f)) pair)
-      ∙ get_or-map f args (place_in_order less n) x (f x) (place_below less (length args) n pair below) ∙ ap f (sym at))
+    ∙ ap (λ y. y ∷ drop (n + 1) (in_order less (map f args))) (get_operand f less args n x (f x) pair below at)
 
 -- the taps of one more operand are added
 pub uses_more : (images : List ImageName) (less : Bool) (args : List Draft) (n : ℕ) (x : Draft) (before now all : List Tap) → HasPair less (length args) → n < length args → x ≡ get_or args (place_in_order less n) x →
