@@ -21,7 +21,7 @@ use Rattle.pf_terms.specs.Building.{is_formed_draft, formed_draft_step, place_in
 use Rattle.pf_terms.proofs.Lookups.{HasPair, place_below, get_in_order, length_in_order}
 use Rattle.pf_terms.proofs.Typing.{and_left, and_right}
 
-formed_is : (op : Op) (less : Bool) (ty : Option LaneType) (k : ℤ) (args : List Draft) →
+pub formed_is : (op : Op) (less : Bool) (ty : Option LaneType) (k : ℤ) (args : List Draft) →
     is_formed_draft (Node op less ty k args) ≡ (is_formed_node (row_of op) (unsigned_abs k) (length (map is_formed_draft args)) && (not less || nat_le 2 (length (map is_formed_draft args))) && all_true (map is_formed_draft args))
 formed_is op less ty k args = ap is_formed_draft (sym (rolls-Node op less ty k args)) ∙ fold-roll-Draft Bool formed_draft_step (NodeLayer op less ty k args)
 

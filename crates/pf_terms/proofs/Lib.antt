@@ -16,3 +16,5 @@ pub mod FirstFaults
 pub mod Lookups
 pub mod DraftParts
 pub mod Built
+pub mod TapLists
+pub mod DraftForms

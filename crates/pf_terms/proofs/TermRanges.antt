@@ -38,7 +38,7 @@ value_leaf env leaf ty = ap (Val env) (sym (rolls-Leaf leaf ty)) ∙ fold-roll-T
 typing_leaf : (leaf : LeafOf) (ty : LaneType) → typing (Leaf leaf ty) ≡ Ok ty
 typing_leaf leaf ty = ap typing (sym (rolls-Leaf leaf ty)) ∙ fold-roll-Term (Result LaneType TermFault) typing_step (LeafLayer leaf ty)
 
-formed_leaf : (leaf : LeafOf) (ty : LaneType) → is_well_formed (Leaf leaf ty) ≡ is_formed_leaf leaf ty
+pub formed_leaf : (leaf : LeafOf) (ty : LaneType) → is_well_formed (Leaf leaf ty) ≡ is_formed_leaf leaf ty
 formed_leaf leaf ty = ap is_well_formed (sym (rolls-Leaf leaf ty)) ∙ fold-roll-Term Bool formed_step (LeafLayer leaf ty)
 
 pub env_leaf : (env : Env) (leaf : LeafOf) (ty : LaneType) → is_env_of env (Leaf leaf ty) ≡ is_env_leaf env leaf ty

@@ -13,6 +13,7 @@ use Rattle.pf_terms.specs.declared.names.Names.{Names}
 use Rattle.pf_terms.specs.declared.names.Tap.{Tap}
 use Rattle.pf_terms.specs.declared.term.Term.{Term}
 use Rattle.pf_terms.specs.KernelNames.{IsNear}
+use Rattle.pf_terms.specs.Meanings.{IsMeaningFault}
 use Rattle.pf_terms.specs.Operators.{row_of}
 use Rattle.pf_terms.specs.Terms.{is_in, all_true, is_formed_node, stated_type}
 
@@ -56,3 +57,8 @@ IsFound told (Err fault) = IsNodeFault told fault
 abbrev pub IsBuilt : Result LaneType TermFault → Result Term ReadFault → Type 0
 IsBuilt told (Ok t) = told ≡ Ok (stated_type t)
 IsBuilt told (Err fault) = IsNodeFault told fault
+
+-- the draft means nothing, and this is its first fault, unless memory was wanting
+abbrev pub IsFaultOrMemory : Names → Draft → ReadFault → Type 0
+IsFaultOrMemory names d Memory = Unit {0}
+IsFaultOrMemory names d fault = IsMeaningFault names d fault
