@@ -71,6 +71,9 @@ formed_node d op less ty k args is h =
     formed_parts op less k args (length (map is_formed_draft args)) (length-map args is_formed_draft)
     (regroup (is_formed_node (row_of op) (unsigned_abs k) (length (map is_formed_draft args))) (not less || nat_le 2 (length (map is_formed_draft args))) _ (sym (formed_is op less ty k args) ∙ ap is_formed_draft (sym is) ∙ h))
 
+pub formed_operands : (op : Op) (less : Bool) (ty : Option LaneType) (k : ℤ) (args : List Draft) → is_formed_draft (Node op less ty k args) ≡ true → all_true (map is_formed_draft args) ≡ true
+formed_operands op less ty k args h = and_right (is_formed_node (row_of op) (unsigned_abs k) (length (map is_formed_draft args)) && (not less || nat_le 2 (length (map is_formed_draft args)))) _ (sym (formed_is op less ty k args) ∙ h)
+
 pub taps_further : (taps ts us : List Tap) → with_taps taps (ts ++ us) ≡ with_taps (with_taps taps ts) us
 taps_further taps [] us = refl
 taps_further taps (t ∷ ts) us = taps_further (with_tap taps t) ts us

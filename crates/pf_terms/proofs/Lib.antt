@@ -18,3 +18,4 @@ pub mod DraftParts
 pub mod Built
 pub mod TapLists
 pub mod DraftForms
+pub mod TermUses
