@@ -123,7 +123,7 @@ spelled_formed r ks d (right ls e k h) = by_parts ShiftRight false None k (e ∷
 pub text_formed : (text : List ℕ) (d : Draft) → IsDraftText text d → is_formed_draft d ≡ true
 text_formed text d h = spelled_formed _ _ d h.spelled
 
-in_order_true : (less : Bool) (bs : List Bool) → all_true bs ≡ true → all_true (in_order less bs) ≡ true
+pub in_order_true : (less : Bool) (bs : List Bool) → all_true bs ≡ true → all_true (in_order less bs) ≡ true
 in_order_true false bs h = h
 in_order_true true [] h = h
 in_order_true true (a ∷ []) h = h

@@ -19,3 +19,5 @@ pub mod Built
 pub mod TapLists
 pub mod DraftForms
 pub mod TermUses
+pub mod TermNames
+pub mod Meant
