@@ -33,10 +33,12 @@ types_told r ty u k ts o want got e h is =
 
 pub amount_told : (r : Row) (ty u : LaneType) (k : ℕ) (ts : List LaneType) (o : Option (LaneType × LaneType)) (fits : Bool) (w m : ℕ) (a : ℤ) → u ≡ ty → o ≡ type_fault r u ts → o ≡ None → fits ≡ is_amount r.amounts w m → fits ≡ false → w ≡ first_width ts → m ≡ k → a ≡ pos k →
     (path : List ℕ) × (node_type r ty k ts ≡ Err (AmountAt path a))
-amount_told r ty u k ts o fits w m a e h is told none wide same amount =
-    ([], ap (λ v. node_type r v k ts) (sym e) ∙ ap (λ q. unless_differs q (is_amount r.amounts (first_width ts) k) u k) (sym h ∙ is)
+amount_told r ty u k ts o fits w m a e h is told none wide same amount = (
+  [],
+  ap (λ v. node_type r v k ts) (sym e) ∙ ap (λ q. unless_differs q (is_amount r.amounts (first_width ts) k) u k) (sym h ∙ is)
       ∙ ap (λ b. unless_differs None b u k) (ap (λ v. is_amount r.amounts v k) (sym wide) ∙ ap (is_amount r.amounts w) (sym same) ∙ sym told ∙ none)
-      ∙ ap (λ n. Err (AmountAt [] n)) (sym amount))
+      ∙ ap (λ n. Err (AmountAt [] n)) (sym amount),
+)
 
 pub some_operands : (o : Operands) → 1 ≤ operand_count o
 some_operands One = omega arith
@@ -60,6 +62,7 @@ fault_up op ty k args x ts n rest f here onward h = by f h where
       let first : behind ts (types_from n (Err e ∷ map typing rest)) ≡ types_from 0 (map typing args) =
       ap (λ y. behind ts (types_from n (y ∷ map typing rest))) (sym r) ∙ ap (λ ys. behind ts (types_from n (map typing ys))) (sym here) ∙ onward in
       typing_is op ty k args ∙ ap (then_node (row_of op) ty k) (sym (stopped ts e n (map typing rest) (types_from 0 (map typing args)) first))
+
   by : (f : ReadFault) → IsNodeFault (typing x) f → IsNodeFault (typing (NodeTerm op ty k args)) f
   by (Types want got) (path, r) = (n ∷ path, up (TypesAt path want got) r)
   by (Amount a) (path, r) = (n ∷ path, up (AmountAt path a) r)
@@ -106,7 +109,7 @@ types_more names less xs ts n x t all pair below at type onward =
     let rest = drop (n + 1) (in_order less (map (term_of names) xs)) in
     gather ts t n (map typing rest) all
     (ap (λ r. behind ts (types_from n (r ∷ map typing rest))) (sym type)
-      ∙ ap (λ ys. behind ts (types_from n (map typing ys))) (sym (operand_at (term_of names) less xs n x pair below at)) ∙ onward)
+    ∙ ap (λ ys. behind ts (types_from n (map typing ys))) (sym (operand_at (term_of names) less xs n x pair below at)) ∙ onward)
 
 -- an operand's fault is the node's
 pub operand_fault : (names : Names) (d : Draft) (op : Op) (less : Bool) (ty : Option LaneType) (k : ℤ) (args xs : List Draft) (ts : List LaneType) (n : ℕ) (x : Draft) (f : ReadFault) → d ≡ Node op less ty k args → xs ≡ args →
@@ -118,7 +121,7 @@ operand_fault names d op less ty k args xs ts n x f is same pair below at onward
     let term : term_of names d ≡ node_over op ty k operands = ap (term_of names) is ∙ term_is names op less ty k args ∙ ap (λ ys. node_over op ty k (in_order less (map (term_of names) ys))) (sym same) in
     subst (λ v. IsNodeFault (typing v) f) (sym term)
     (fault_up op (result_type (row_of op).gives (written_type ty) (map stated_type operands)) (unsigned_abs k) operands (term_of names x) ts n (drop (n + 1) operands) f
-      (operand_at (term_of names) less xs n x pair below at) onward h)
+    (operand_at (term_of names) less xs n x pair below at) onward h)
 
 -- a node's own fault
 pub own_fault : (told found : Result LaneType TermFault) (r : Result LaneType ReadFault) (f : ReadFault) → told ≡ found → r ≡ Err f → IsFound found r → IsNodeFault told f

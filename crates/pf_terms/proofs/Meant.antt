@@ -1,9 +1,11 @@
 -- What follows where a draft has a meaning, and where it has none.
-use Rattle.std.proofs.Common.{◌≡◌, refl, sym, ap, ◌∙◌, subst, ℕ, ◌+◌, ◌-◌, ◌<◌, ◌≤◌, arith, true, List, [], ◌∷◌, length, get_or, drop, length-drop}
-use Rattle.std.specs.Prelude.{◌≢◌, ◌⊎◌, All, Option, Some, None, Result, Ok, Err, IfOk, IfErr, slice_get, inl, inr}
+use Rattle.std.proofs.Common.{◌≡◌, refl, sym, ap, ◌∙◌, subst, ℕ, ◌+◌, ◌-◌, ◌<◌, ◌≤◌, arith, true, List, [], ◌∷◌, length, get_or, drop, take, length-drop, inl, inr}
+use Rattle.std.specs.Prelude.{◌≢◌, ◌⊎◌, All, Option, Some, None, Result, Ok, Err, IfOk, IfErr, slice_get}
 use Rattle.std.specs.List.{AllPairs}
 use Rattle.std.proofs.lemmas.Option.{slice_get_cases}
 use Rattle.pf_terms.specs.declared.draft.Draft.{Draft}
+use Rattle.pf_terms.specs.declared.draft.DraftFault.{DraftFault}
+use Rattle.pf_terms.specs.declared.draft.DraftFault.TheVariants.{Syntax as NoSyntax, Memory as NoMemory}
 use Rattle.pf_terms.specs.declared.limit.LimitKind.{LimitKind}
 use Rattle.pf_terms.specs.declared.limit.LimitKind.TheVariants.{Bytes, Amount as Amounts, Images, Taps, Definitions, Offset, Depth, Nodes}
 use Rattle.pf_terms.specs.declared.meaning.ReadFault.{ReadFault}
@@ -11,18 +13,21 @@ use Rattle.pf_terms.specs.declared.meaning.ReadFault.TheVariants.{Syntax, Name, 
 use Rattle.pf_terms.specs.declared.names.Names.{Names}
 use Rattle.pf_terms.specs.declared.names.Tap.{Tap}
 use Rattle.pf_terms.specs.declared.term.Term.{Term}
+use Rattle.pf_terms.specs.declared.token.Kind.{Kind}
 use Rattle.pf_terms.specs.declared.token.Token.{Token}
-use Rattle.pf_terms.specs.Building.{is_formed_draft, HasNearOffsets, IsFaultOrMemory, IsNodeFault}
-use Rattle.pf_terms.specs.Drafts.{IsSyntaxFault, IsFaultPlace, behind, first}
+use Rattle.std.proofs.lemmas.List.{take_all}
+use Rattle.pf_terms.specs.Building.{is_formed_draft, with_these, HasNearOffsets, IsFaultOrMemory, IsNodeFault}
+use Rattle.pf_terms.specs.Drafts.{IsDraftText, IsDraftOr, IsRefusal, IsSyntaxFault, IsFaultPlace, behind, first}
 use Rattle.pf_terms.specs.KernelNames.{IsNames, IsNearTap}
-use Rattle.pf_terms.specs.Meanings.{Means, IsTermOr, names_after, with_taps, tap_uses, first_far, first_unknown, term_of}
+use Rattle.pf_terms.specs.Meanings.{Means, IsTermOr, IsTermText, IsTyped, names_after, with_taps, tap_uses, first_far, first_unknown, term_of}
 use Rattle.pf_terms.specs.Parsing.{place_by, place_of}
-use Rattle.pf_terms.specs.Terms.{IsWellTyped, typing}
+use Rattle.pf_terms.specs.Terms.{IsWellTyped, typing, stated_type}
 use Rattle.pf_terms.specs.TermTexts.{is_named}
 use Rattle.pf_terms.specs.Tokens.{IsLexed, IsFront, ended, blank, token}
 use Rattle.pf_terms.proofs.TapLists.{Each, all_of_each, each_of_all, each_with_taps, all_among, distinct_taps}
 use Rattle.pf_terms.proofs.TermUses.{near_uses, image_uses}
 use Rattle.pf_terms.proofs.TermNames.{named_term}
+use Rattle.pf_terms.proofs.TermRanges.{typing_stated}
 use Rattle.pf_terms.proofs.DraftForms.{term_formed}
 
 pub meant_typed : (names : Names) (d : Draft) (t : Term) (after : Names) → is_formed_draft d ≡ true → Means names d t after → IsWellTyped t
@@ -65,7 +70,7 @@ pub near_after : (names : Names) (d : Draft) (ts : List Tap) → IsNames names �
 near_after names d ts n near is =
     subst (λ us. All HasNearOffsets us) (sym is)
     (all_of_each HasNearOffsets (with_taps names.taps (tap_uses names.images d))
-      (each_with_taps HasNearOffsets names.taps (tap_uses names.images d) (near_old (length names.images) names.taps (each_of_all (IsNearTap (length names.images)) names.taps n.near)) (near_uses names.images d near)))
+    (each_with_taps HasNearOffsets names.taps (tap_uses names.images d) (near_old (length names.images) names.taps (each_of_all (IsNearTap (length names.images)) names.taps n.near)) (near_uses names.images d near)))
 
 -- a node's fault is the draft's
 pub node_fault : (names : Names) (d : Draft) (f : ReadFault) → first_unknown names d ≡ None → IsNodeFault (typing (term_of (names_after names d) d)) f → IsFaultOrMemory names d f
@@ -112,10 +117,77 @@ names_told names d now (Ok u) n k = meant_names names d u now n k
 names_told names d now (Err f) n k = tt
 
 -- a token stands within the text
-IsWithin : ℕ → Token → Type 0
+abbrev pub IsWithin : ℕ → Token → Type 0
 IsWithin m t = (t.start ≤ m) × (t.end ≤ m)
 
-size_within : (text : List ℕ) (size : ℕ) (k : _) → IsFront text size k → size ≤ length text
+size_within : (text : List ℕ) (size : ℕ) (k : Kind) → IsFront text size k → size ≤ length text
 size_within text size k (inl h) = h.within
 size_within text size k (inr (inl h)) = h.within
 size_within text size k (inr (inr h)) = h.within
+
+tokens_within : (n : ℕ) (text : List ℕ) (ts : List Token) (m : ℕ) → n + length text ≤ m → IsLexed n text ts → Each (IsWithin m) ts
+tokens_within n text ts m most (ended i) = tt
+tokens_within n text ts m most (blank i b rest us is h) = tokens_within (i + 1) rest us m (omega (arith, most)) h
+tokens_within n text ts m most (token i size whole k us solid front h) =
+    let within : size ≤ length whole = size_within whole size k front in
+    let end : i + size ≤ m = omega (arith, most, within) in
+    let start : i ≤ m = omega (arith, most) in
+    ((start, end), tokens_within (i + size) (drop size whole) us m (omega (arith, most, within, length-drop size whole)) h)
+
+abbrev pub OptWithin : ℕ → Option Token → Type 0
+OptWithin m None = Unit {0}
+OptWithin m (Some t) = IsWithin m t
+
+place_by_within : (m : ℕ) (o p : Option Token) → OptWithin m o → OptWithin m p → place_by o p ≤ m
+place_by_within m (Some t) p h k = h.0
+place_by_within m None (Some t) h k = k.1
+place_by_within m None None h k = omega arith
+
+entry_within : (m : ℕ) (ts : List Token) (n : ℕ) → Each (IsWithin m) ts → OptWithin m (slice_get ts n)
+entry_within m ts n h = by (slice_get ts n) (slice_get_cases ts n).1 where
+  by : (o : Option Token) → ((t : Token) × (n < length ts) × (slice_get ts n ≡ Some t) × (get_or ts n t ≡ t)) ⊎ ((length ts ≤ n) × (slice_get ts n ≡ None)) → OptWithin m (slice_get ts n)
+  by o (inl c) = subst (OptWithin m) (sym c.2) (subst (IsWithin m) c.3 (all_of_each (IsWithin m) ts h n c.0 c.1))
+  by o (inr c) = subst (OptWithin m) (sym c.1) tt
+
+place_within : (m : ℕ) (ts : List Token) (n : ℕ) → Each (IsWithin m) ts → place_of ts n ≤ m
+place_within m ts n h = place_by_within m (slice_get ts n) (slice_get ts (length ts - 1)) (entry_within m ts n h) (entry_within m ts (length ts - 1) h)
+
+fault_place : (m : ℕ) (ts : List Token) (n place : ℕ) → Each (IsWithin m) ts → IsFaultPlace ts n place → place ≤ m
+fault_place m ts n place h (behind us i neg) = place_within m us (i - 1) h
+fault_place m ts n place h (first us i alone) = place_within m us i h
+
+-- a fault stands within the text, or right behind it
+pub fault_within : (text : List ℕ) (place : ℕ) → IsSyntaxFault text place → place ≤ length text
+fault_within text place h = fault_place (length text) h.tokens h.n place (tokens_within 0 text h.tokens (length text) (omega arith) h.lexed) h.stands
+
+pub typed_after : (names : Names) (d : Draft) (t : Term) → typing (term_of (names_after names d) d) ≡ Ok (stated_type t) → IsTyped names d
+typed_after names d t h = h ∙ ap (λ u. Ok u) (sym (typing_stated (term_of (names_after names d) d) (stated_type t) h))
+
+-- what is built is what the draft means
+pub meant : (names : Names) (d : Draft) (t : Term) (spots taps : List Tap) (m : ℕ) → first_unknown names d ≡ None → typing (term_of (names_after names d) d) ≡ Ok (stated_type t) → first_far d ≡ None →
+    spots ≡ (names_after names d).taps → length spots ≤ 64 → length spots ≤ m → t ≡ term_of (with_these names (take m spots)) d → taps ≡ spots → Means names d t (with_these names taps)
+meant names d t spots taps m known typed near is few most made same =
+    record {
+      known = known;
+      typed = typed_after names d t typed;
+      few = subst (λ us. length us ≤ 64) is few;
+      near = near;
+      term = made ∙ ap (λ us. term_of (with_these names us) d) (take_all m spots most ∙ sym same);
+      made = ap (with_these names) (same ∙ is);
+    }
+
+-- the text that a meaning is of has no other draft
+pub only_meant : (names : Names) (text : List ℕ) (d : Draft) (t : Term) (after now : Names) (r : Result Term ReadFault) → ((e : Draft) → IsDraftText text e → d ≡ e) → IsTermText names text t after →
+    IfOk r (λ u. Means names d u now) → IfErr r (IsFaultOrMemory names d) → IsTermOr t after r now
+only_meant names text d t after now r only h k e = only_told names d t after now r (subst (λ x. Means names x t after) (sym (only h.draft h.spelled)) h.means) k e
+
+-- where the text is refused it has no draft, and the place is within it
+pub refused : (d : Draft) (f : DraftFault) (at : ℕ) → f ≡ NoSyntax at → IsDraftOr d (Err f) → ⊥
+refused d (NoSyntax b) at e h = h
+refused d NoMemory at e h = absurd (cc)
+
+pub refusal_within : (text : List ℕ) (f : DraftFault) (at : ℕ) → f ≡ NoSyntax at → IsRefusal text f → at ≤ length text
+refusal_within text (NoSyntax b) at e h =
+    let same : b ≡ at = cc in
+    subst (λ n. n ≤ length text) same (fault_within text b h)
+refusal_within text NoMemory at e h = absurd (cc)

@@ -41,6 +41,7 @@ same_int : (a b : ℤ) → int_same a b ≡ true → a ≡ b
 same_int a b h = both a b (and_left _ (int_le b a) h) (and_right (int_le a b) _ h) where
   at_most : (a b : ℤ) → int_le a b ≡ true → a ≤ℤ b
   at_most a b h = grind (arith, ints)
+
   both : (a b : ℤ) → int_le a b ≡ true → int_le b a ≡ true → a ≡ b
   both a b h k = let l = at_most a b h in let r = at_most b a k in omega (arith, ints)
 

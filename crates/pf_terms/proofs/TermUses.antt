@@ -98,8 +98,8 @@ near_rule : (images : List ImageName) → IsRule images HasNearOffsets (λ d. fi
 near_rule images = record {
   node = λ op less ty k args h. each_none first_far args (sym (ap first_far (sym (rolls-Node op less ty k args)) ∙ fold-roll-Draft (Option ℤ) far_step (NodeLayer op less ty k args)) ∙ h);
   placed = λ s dx dy h.
-    let both = both_near dx dy (is_near dx) (is_near dy) refl refl (sym (ap first_far (sym (rolls-Placed s dx dy)) ∙ fold-roll-Draft (Option ℤ) far_step (PlacedLayer s dx dy)) ∙ h) in
-    record { across = both.0; down = both.1 };
+      let both = both_near dx dy (is_near dx) (is_near dy) refl refl (sym (ap first_far (sym (rolls-Placed s dx dy)) ∙ fold-roll-Draft (Option ℤ) far_step (PlacedLayer s dx dy)) ∙ h) in
+      record { across = both.0; down = both.1 };
 }
 
 pub near_uses : (images : List ImageName) (d : Draft) → first_far d ≡ None → Each HasNearOffsets (tap_uses images d)

@@ -26,12 +26,7 @@ const NO_TYPE: LaneType = LaneType {
 
 /// The term of a draft, where each tap has its number among these, or the fault of the first node
 /// in post-order that has one.
-pub fn build(
-    alloc: Global,
-    draft: &Draft,
-    names: &Names,
-    taps: &[Spot],
-) -> Result<Term, ReadFault>
+pub fn build(alloc: Global, draft: &Draft, names: &Names, taps: &[Spot]) -> Result<Term, ReadFault>
     requires formed { is_formed_draft draft.now ≡ true }
     requires few_defs { length names.now.defs ≤ 64 }
     requires few_taps { length taps.now ≤ 64 }
@@ -115,7 +110,12 @@ fn stated_type(term: &Term) -> LaneType
 }
 
 // The type of a node by its operands' types, or its fault.
-fn node_type(op: Op, ty: Option<LaneType>, k: i64, types: &[LaneType]) -> Result<LaneType, ReadFault>
+fn node_type(
+    op: Op,
+    ty: Option<LaneType>,
+    k: i64,
+    types: &[LaneType],
+) -> Result<LaneType, ReadFault>
     requires { length types.now ≡ operand_count (row_of op).operands }
     ensures found { IsFound (node_type (row_of op) (result_type (row_of op).gives (written_type ty) types.now) (unsigned_abs k) types.now) result }
     ensures small { IfOk result (λ t. (unsigned_abs k < 64) × (t ≡ result_type (row_of op).gives (written_type ty) types.now)) }

@@ -1,4 +1,4 @@
-ghost use Rattle.std.specs.Prelude.{◌≡◌, ◌≤◌, length, true, IfOk, IfErr, OnOk, OnErr};
+ghost use Rattle.std.specs.Prelude.{◌≡◌, ◌≤◌, ◌+◌, length, true, IfOk, IfErr, OnOk, OnErr};
 ghost use Rattle.pf_terms.specs.declared.names.Names.{Names};
 ghost use Rattle.pf_terms.specs.declared.term.Term.{Term};
 ghost use Rattle.pf_terms.specs.Building.{is_formed_draft, IsFaultOrMemory};
@@ -80,10 +80,18 @@ pub fn read_term(alloc: Global, text: &[u8], names: &mut Names) -> Result<Term, 
     match read_draft(alloc, text) {
         Ok(draft) => meaning_of(alloc, &draft, names),
         Err(DraftFault::Syntax { at }) => Err(ReadFault::Syntax {
-            column: at as u64 + 1,
+            column: column_of(text, at),
         }),
         Err(DraftFault::Memory) => Err(ReadFault::Memory),
     }
+}
+
+// The column of the byte at a place that is counted from 0.
+fn column_of(text: &[u8], place: usize) -> u64
+    requires { place ≤ length text.now }
+    ensures { result ≡ place + 1 }
+{
+    text[..place].len() as u64 + 1
 }
 
 // The term of an expression, whose new taps are added to the names.

@@ -32,7 +32,7 @@ returns-in_err-arg-in-Node-clause-found t c others =
     let e : c.from_residual.result ≡ Err c.in_err-arg-in-Node.field-0.0 = search rules in
     subst (IsBuilt (typing (term_of (with_these c.args.names.now others) c.args.draft.now))) (sym e)
     (operand_fault (with_these c.args.names.now others) c.args.draft.now c.in-Node.op c.in-Node.less c.in-Node.ty c.in-Node.k c.in-Node.args xs (take c.loop-n.n c.loop-n.types) c.loop-n.n x c.in_err-arg-in-Node.field-0.0
-      c.in-Node.is c.as_slice-drafts.ensures i.parts.pair c.loop-n-test.true (c.index-drafts-place_in_order.is ∙ ap (λ m. get_or xs m x) c.place_in_order.ensures) (i.onward others) (c.in_err-arg-in-Node.ensures.found others))
+    c.in-Node.is c.as_slice-drafts.ensures i.parts.pair c.loop-n-test.true (c.index-drafts-place_in_order.is ∙ ap (λ m. get_or xs m x) c.place_in_order.ensures) (i.onward others) (c.in_err-arg-in-Node.ensures.found others))
 
 pub loop-n-preserved : goal.loop-n-preserved
 loop-n-preserved t c =
@@ -51,8 +51,8 @@ loop-n-preserved t c =
       made = made_more (with_these names c.args.taps.now) c.in-Node.less xs n x c.loop-n.args c.push.new.self c.in_ok-arg-in-Node.arg i.parts.pair c.loop-n-test.true at c.in_ok-arg-in-Node.ensures.made i.made c.in_ok-push-in-Node.ensures.ok;
       types = types ∙ ap (λ ts. ts ++ st ∷ []) i.types ∙ ap (λ u. map stated_type c.loop-n.args ++ u ∷ []) c.stated_type.ensures ∙ sym (map-append stated_type c.loop-n.args (c.in_ok-arg-in-Node.arg ∷ [])) ∙ ap (map stated_type) (sym c.in_ok-push-in-Node.ensures.ok);
       onward = λ others.
-        ap (λ ts. behind ts (types_from (n + 1) (map typing (drop (n + 1) (in_order c.in-Node.less (map (term_of (with_these names others)) xs)))))) types
-        ∙ types_more (with_these names others) c.in-Node.less xs (take n c.loop-n.types) n x st _ i.parts.pair c.loop-n-test.true at
+          ap (λ ts. behind ts (types_from (n + 1) (map typing (drop (n + 1) (in_order c.in-Node.less (map (term_of (with_these names others)) xs)))))) types
+          ∙ types_more (with_these names others) c.in-Node.less xs (take n c.loop-n.types) n x st _ i.parts.pair c.loop-n-test.true at
           (c.in_ok-arg-in-Node.ensures.found others ∙ ap (λ u. Ok u) (sym c.stated_type.ensures)) (i.onward others);
     }
 
@@ -67,7 +67,7 @@ returns-in_err-ty-in-Node-clause-found t c others =
     let e : c.from_residual-in_err-ty-in-Node.result ≡ Err f = search rules in
     subst (IsBuilt (typing (term_of names c.args.draft.now))) (sym e)
     (own_fault (typing (term_of names c.args.draft.now)) _ c.node_type.result f (node_told names c.args.draft.now c.in-Node.op c.in-Node.less c.in-Node.ty c.in-Node.k c.in-Node.args xs ts (unsigned_abs (to_z w64 (of_z w64 c.in-Node.k))) c.in-Node.is c.as_slice-drafts.ensures (search (rules, to_z-of_z)) found)
-      c.in_err-ty-in-Node.was c.node_type.ensures.found)
+    c.in_err-ty-in-Node.was c.node_type.ensures.found)
 
 pub returns-in_ok-ty-in-Node-clause-made : goal.returns-in_ok-ty-in-Node-clause-made
 returns-in_ok-ty-in-Node-clause-made t c =
