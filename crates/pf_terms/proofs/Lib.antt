@@ -8,8 +8,4 @@ pub mod NodeRanges
 pub mod TermRanges
 pub mod Evaluating
 pub mod Lexing
-pub mod Viable
 pub mod Complete
-pub mod Sound
-pub mod Advancing
-pub mod FirstFaults

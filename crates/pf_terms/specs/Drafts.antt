@@ -1,5 +1,5 @@
 -- Which texts are expressions, and where another text is faulty first.
-use Rattle.std.specs.Prelude.{◌≡◌, ℕ, ◌+◌, ◌-◌, ◌<◌, ◌≤◌, pos, List, [], ◌∷◌, ◌++◌, length, take, Option, Some, None, Result, Ok, Err}
+use Rattle.std.specs.Prelude.{if◌then◌else◌, nat_lt, ◌≡◌, ℕ, ◌+◌, ◌-◌, ◌<◌, ◌≤◌, pos, List, [], ◌∷◌, ◌++◌, length, take, Option, Some, None, Result, Ok, Err}
 use Rattle.pf_terms.specs.declared.draft.Draft.{Draft}
 use Rattle.pf_terms.specs.declared.draft.DraftFault.{DraftFault}
 use Rattle.pf_terms.specs.declared.draft.DraftFault.TheVariants.{Syntax, Memory}
@@ -13,6 +13,12 @@ use Rattle.pf_terms.specs.Parsing.{kinds, place_of}
 -- how deep round brackets may be nested
 unfoldable pub bracket_limit : ℕ
 bracket_limit = 1024
+
+-- how many round brackets are open behind the token, or None where it is nested too deep
+abbrev pub nested : ℕ → Kind → Option ℕ
+nested n Open = if nat_lt n bracket_limit then Some (n + 1) else None
+nested n Close = Some (n - 1)
+nested n _ = Some n
 
 -- no round bracket is nested deeper, n being open in front
 abbrev pub IsShallow : ℕ → List Kind → Type 0

@@ -1,6 +1,7 @@
 //! Terms over the lanes of images: operators with their types, weights and values, and the texts of terms.
 #![tactic(auto)]
 
+mod build;
 mod draft;
 mod fault;
 mod kernel;
@@ -8,16 +9,14 @@ mod lexer;
 mod limit;
 mod names;
 mod op;
-mod parse;
 mod print;
 mod read;
 mod row;
 mod sizes;
 mod stack;
 mod symbol;
+mod table;
 mod term;
-#[cfg(test)]
-mod tests;
 mod token;
 mod types;
 mod values;
@@ -30,7 +29,6 @@ pub use lexer::{tokens, type_of_word};
 pub use limit::LimitKind;
 pub use names::{DefName, DefNames, ImageName, ImageNames, Names, Tap, TapList};
 pub use op::Op;
-pub use parse::{first_fault, syntax_fault};
 pub use print::{print_term, write_term, write_type};
 pub use read::read_draft;
 pub use row::{Amounts, Gives, Operands, Spelling};
