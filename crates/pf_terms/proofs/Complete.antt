@@ -31,7 +31,7 @@ abbrev begun_with : Head → List Draft → Frame
 begun_with h args = record { head = h; args = args }
 
 -- the tokens don't go on with the symbol
-abbrev Stops : Symbol → List Kind → Type 0
+abbrev pub Stops : Symbol → List Kind → Type 0
 Stops x [] = Unit {0}
 Stops x (k ∷ _) = goes_on x k ≡ false
 
@@ -41,10 +41,10 @@ StopsProduct rest = Stops Offsets rest × Stops Factors rest
 abbrev StopsSum : List Kind → Type 0
 StopsSum rest = Stops Offsets rest × Stops Factors rest × Stops Summands rest
 
-passes_by : (x : Symbol) (k : Kind) → may_be_none x ≡ true → goes_on x k ≡ false → passes x k ≡ true
+pub passes_by : (x : Symbol) (k : Kind) → may_be_none x ≡ true → goes_on x k ≡ false → passes x k ≡ true
 passes_by x k none stops = ap (λ m. m && not (goes_on x k)) none ∙ ap not stops
 
-skip : (x : Symbol) (rest : List Kind) (s : List Symbol) (b : Build) → may_be_none x ≡ true → Stops x rest → run rest (x ∷ s) b ≡ run rest s (passed x b)
+pub skip : (x : Symbol) (rest : List Kind) (s : List Symbol) (b : Build) → may_be_none x ≡ true → Stops x rest → run rest (x ∷ s) b ≡ run rest s (passed x b)
 skip x [] s b none stops = ap (λ m. if m then finished s (passed x b) else None) none
 skip x (k ∷ rest) s b none stops =
     ap (λ m. then_on (λ t. run rest t (if m then built s k (passed x b) else taken x k b)) (if m then step s k else followed s (after x k))) (passes_by x k none stops)

@@ -9,3 +9,7 @@ pub mod TermRanges
 pub mod Evaluating
 pub mod Lexing
 pub mod Complete
+pub mod Sound
+pub mod Viable
+pub mod FirstFaults
+pub mod Signs

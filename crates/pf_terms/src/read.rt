@@ -107,7 +107,7 @@ fn place_of(tokens: &[Token], n: usize) -> usize
     }
 }
 
-#[tactic(auto, using(crate::proofs::Complete::spelled_built))]
+#[tactic(auto, using(crate::proofs::Signs::number_comes))]
 fn probe() -> bool
     ensures { result ≡ true }
 {
