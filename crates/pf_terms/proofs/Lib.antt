@@ -13,3 +13,4 @@ pub mod Sound
 pub mod Viable
 pub mod FirstFaults
 pub mod Signs
+pub mod Places

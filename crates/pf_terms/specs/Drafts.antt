@@ -4,7 +4,7 @@ use Rattle.pf_terms.specs.declared.draft.Draft.{Draft}
 use Rattle.pf_terms.specs.declared.draft.DraftFault.{DraftFault}
 use Rattle.pf_terms.specs.declared.draft.DraftFault.TheVariants.{Syntax, Memory}
 use Rattle.pf_terms.specs.declared.token.Kind.{Kind}
-use Rattle.pf_terms.specs.declared.token.Kind.TheVariants.{Typed, Open, Close, Minus}
+use Rattle.pf_terms.specs.declared.token.Kind.TheVariants.{Number, Typed, Long, Open, Close, Minus}
 use Rattle.pf_terms.specs.declared.token.Token.{Token}
 use Rattle.pf_terms.specs.Tokens.{IsLexed}
 use Rattle.pf_terms.specs.Grammar.{Whole, Spells, IsSpelled, IsBegun}
@@ -45,6 +45,8 @@ pub record IsFirstFault (ks : List Kind) (n : ℕ) : Type 0 where
 -- a number like this one that is not too large
 abbrev pub small_number : Kind → Option Kind
 small_number (Typed n t) = Some (Typed (pos 0) t)
+small_number (Long None) = Some (Number (pos 0))
+small_number (Long (Some t)) = Some (Typed (pos 0) t)
 small_number _ = None
 
 -- token n is a number, and the minus in front of it is its own: a number could stand there without it

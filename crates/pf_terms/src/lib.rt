@@ -11,6 +11,7 @@ mod names;
 mod op;
 mod print;
 mod read;
+mod reader;
 mod row;
 mod sizes;
 mod stack;

@@ -1,19 +1,14 @@
-ghost use Rattle.std.specs.Prelude.{◌≡◌, [], None, true, false, IfOk, IfErr, MatchOption, OnOk, ◌∷◌, Some};
+ghost use Rattle.std.specs.Prelude.{◌≡◌, true, All, IfOk, IfErr};
 ghost use Rattle.pf_terms.specs.declared.draft.Draft.{Draft};
-ghost use Rattle.pf_terms.specs.declared.token.Token.{Token};
-ghost use Rattle.pf_terms.specs.Grammar.{call_shape};
-ghost use Rattle.pf_terms.specs.Terms.{is_in};
-ghost use Rattle.pf_terms.specs.Parsing.{is_unsigned, whole, call_symbols, after, after_atom, goes_on, may_be_none, passes, passed, meets, step, Advances, finished, Finishes, place_of};
-ghost use Rattle.pf_terms.specs.Drafts.{bracket_limit, nested, IsDraftText, IsDraftOr, IsRefusal};
+ghost use Rattle.pf_terms.specs.Parsing.{is_unsigned, place_of};
+ghost use Rattle.pf_terms.specs.Drafts.{IsDraftText, IsDraftOr, IsRefusal};
+ghost use Rattle.pf_terms.specs.Reading.{fault_place, IsDraftOf, IsRefusalOf};
 
-use crate::build::Build;
 use crate::draft::{Draft, DraftFault};
 use crate::lexer::tokens;
-use crate::stack::Stack;
-use crate::symbol::Symbol;
-use crate::table::{after, may_be_none, passes};
-use crate::token::{Kind, Token};
-use std::alloc::{AllocError, Global};
+use crate::reader::Reader;
+use crate::token::Token;
+use std::alloc::Global;
 
 /// The expression that a text spells, as it is written.
 ///
@@ -32,66 +27,34 @@ pub fn read_draft(alloc: Global, text: &[u8]) -> Result<Draft, DraftFault>
     Err(DraftFault::Memory)
 }
 
-// The symbol that takes the token, or None where it doesn't fit.
-fn advance(
-    alloc: Global,
-    symbols: &mut Stack<Symbol>,
-    build: &mut Build,
-    kind: &Kind,
-) -> Result<Option<Symbol>, AllocError>
-    requires unsigned { is_unsigned kind.now ≡ true }
-    ensures { IfOk result (λ taker. Advances taker symbols.old build.old kind.now symbols.new build.new) }
+// The expression that the tokens spell, or their first fault.
+fn read_tokens(alloc: Global, tokens: &[Token]) -> Result<Draft, DraftFault>
+    requires { All (λ t. is_unsigned t.kind ≡ true) tokens.now }
+    ensures found { IfOk result (IsDraftOf tokens.now) }
+    ensures fault { IfErr result (IsRefusalOf tokens.now) }
 {
-    while let Some(symbol) = symbols.pop() {
-        if !passes(symbol, kind) {
-            return take(alloc, symbols, build, symbol, kind);
+    let mut reader = Reader::new(alloc)?;
+    for (n, token) in tokens.iter().enumerate() {
+        if !reader.take(alloc, &token.kind)? {
+            let at = fault_place(tokens, n, reader.is_own(&token.kind));
+            return Err(DraftFault::Syntax { at });
         }
-        pass(build, symbol)?;
     }
-    Ok(None)
-}
-
-// Takes the token at the symbol that was first.
-fn take(
-    alloc: Global,
-    symbols: &mut Stack<Symbol>,
-    build: &mut Build,
-    symbol: Symbol,
-    kind: &Kind,
-) -> Result<Option<Symbol>, AllocError>
-    requires unsigned { is_unsigned kind.now ≡ true }
-    requires here { passes symbol kind.now ≡ false }
-    ensures { IfOk result (λ taker. Advances taker (symbol ∷ symbols.old) build.old kind.now symbols.new build.new) }
-{
-    match after(symbol, kind) {
-        None => Ok(None),
-        Some(new) => {
-            symbols.push_all(new)?;
-            build.take(alloc, symbol, *kind)?;
-            Ok(Some(symbol))
-        }
+    match reader.finish()? {
+        Some(draft) => Ok(draft),
+        None => Err(DraftFault::Syntax {
+            at: place_of(tokens, tokens.len()),
+        }),
     }
 }
 
-// Whether nothing more has to come.
-fn finish(symbols: &mut Stack<Symbol>, build: &mut Build) -> Result<bool, AllocError>
-    ensures { IfOk result (λ done. Finishes done (finished symbols.old build.old) build.new) }
+fn fault_place(tokens: &[Token], n: usize, own: bool) -> usize
+    ensures { result ≡ fault_place tokens.now n own }
 {
-    while let Some(symbol) = symbols.pop() {
-        if !may_be_none(symbol) {
-            return Ok(false);
-        }
-        pass(build, symbol)?;
-    }
-    Ok(true)
-}
-
-fn pass(build: &mut Build, symbol: Symbol) -> Result<(), AllocError>
-    ensures { OnOk result (build.new ≡ passed symbol build.old) }
-{
-    match symbol {
-        Symbol::End => build.end(),
-        _ => Ok(()),
+    if own {
+        place_of(tokens, n.saturating_sub(1))
+    } else {
+        place_of(tokens, n)
     }
 }
 
@@ -107,7 +70,7 @@ fn place_of(tokens: &[Token], n: usize) -> usize
     }
 }
 
-#[tactic(auto, using(crate::proofs::Signs::number_comes))]
+#[tactic(auto, using(crate::proofs::Places::tokens_end))]
 fn probe() -> bool
     ensures { result ≡ true }
 {

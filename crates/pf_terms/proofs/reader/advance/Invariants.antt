@@ -1,6 +1,6 @@
 use Rattle.std.proofs.Common.{◌≡◌, length}
 use Rattle.pf_terms.specs.Parsing.{step, taker, built}
-use Rattle.pf_terms.proofs.read.advance.Given as goal
+use Rattle.pf_terms.proofs.reader.advance.Given as goal
 
 abbrev pub invariant-loop-symbol : goal.invariant-loop-symbol
 invariant-loop-symbol l =
