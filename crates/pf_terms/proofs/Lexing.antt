@@ -90,11 +90,11 @@ no_digit_sign : (s : Bool) (rest : List ℕ) → IsNoDigit (sign_letter s ++ res
 no_digit_sign true rest = refl
 no_digit_sign false rest = refl
 
-no_digit_word : (t : LaneType) → IsNoDigit (type_word t)
+pub no_digit_word : (t : LaneType) → IsNoDigit (type_word t)
 no_digit_word t = no_digit_sign t.signed (decimal (lane_width t))
 
 -- digits as far as they go are the digits in front
-digits_front : (ds w : List ℕ) (n : ℕ) → All (λ b. is_digit b ≡ true) ds → IsNoDigit w → n ≤ length (ds ++ w) → All (λ b. is_digit b ≡ true) (take n (ds ++ w)) → IsNoDigit (drop n (ds ++ w)) →
+pub digits_front : (ds w : List ℕ) (n : ℕ) → All (λ b. is_digit b ≡ true) ds → IsNoDigit w → n ≤ length (ds ++ w) → All (λ b. is_digit b ≡ true) (take n (ds ++ w)) → IsNoDigit (drop n (ds ++ w)) →
     (take n (ds ++ w) ≡ ds) × (drop n (ds ++ w) ≡ w)
 digits_front [] w zero all none within taken left = (refl, refl)
 digits_front [] [] (suc n) all none within taken left = absurd (omega arith)
@@ -143,7 +143,7 @@ spelled_word false Eight = codes "u8"
 spelled_word false Sixteen = codes "u16"
 spelled_word false ThirtyTwo = codes "u32"
 
-spelled_words : (s : Bool) (b : Bits) → type_word (typed_as s b) ≡ spelled_word s b
+pub spelled_words : (s : Bool) (b : Bits) → type_word (typed_as s b) ≡ spelled_word s b
 unfolding digits
 spelled_words true Eight = refl
 spelled_words true Sixteen = refl

@@ -14,3 +14,4 @@ pub mod Viable
 pub mod FirstFaults
 pub mod Signs
 pub mod Places
+pub mod OneLexing

@@ -70,7 +70,7 @@ fn place_of(tokens: &[Token], n: usize) -> usize
     }
 }
 
-#[tactic(auto, using(crate::proofs::Places::tokens_end))]
+#[tactic(auto, using(crate::proofs::OneLexing::unsigned_tokens))]
 fn probe() -> bool
     ensures { result ≡ true }
 {
