@@ -15,3 +15,4 @@ pub mod FirstFaults
 pub mod Signs
 pub mod Places
 pub mod OneLexing
+pub mod DraftTexts

@@ -24,7 +24,8 @@ pub fn read_draft(alloc: Global, text: &[u8]) -> Result<Draft, DraftFault>
     // A fault stands where it is told.
     ensures fault { IfErr result (IsRefusal text.now) }
 {
-    Err(DraftFault::Memory)
+    let tokens = tokens(alloc, text)?;
+    read_tokens(alloc, tokens.as_slice())
 }
 
 // The expression that the tokens spell, or their first fault.
@@ -68,11 +69,4 @@ fn place_of(tokens: &[Token], n: usize) -> usize
             None => 0,
         },
     }
-}
-
-#[tactic(auto, using(crate::proofs::OneLexing::unsigned_tokens))]
-fn probe() -> bool
-    ensures { result ≡ true }
-{
-    true
 }
