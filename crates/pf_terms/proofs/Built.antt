@@ -1,5 +1,5 @@
 -- A node that is built over its operands.
-use Rattle.std.proofs.Common.{◌≡◌, refl, sym, ap, ◌∙◌, subst, ℕ, ◌+◌, ◌<◌, ◌≤◌, Bool, true, false, ℤ, pos, List, [], ◌∷◌, ◌++◌, length, map, get_or, drop, take, arith}
+use Rattle.std.proofs.Common.{◌≡◌, sym, ap, ◌∙◌, subst, ℕ, ◌+◌, ◌<◌, ◌≤◌, Bool, false, ℤ, pos, List, [], ◌∷◌, ◌++◌, length, map, get_or, drop, take, arith}
 use Rattle.std.specs.Prelude.{Option, Some, None, Result, Ok, Err, unsigned_abs}
 use Rattle.std.proofs.lemmas.List.{length-map, drop_all, take_more, take_all}
 use Rattle.pf_ints.specs.declared.lane.LaneType.{LaneType}

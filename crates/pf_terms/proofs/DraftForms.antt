@@ -1,5 +1,5 @@
 -- What is spelled is formed, and the term of it well-formed.
-use Rattle.std.proofs.Common.{◌≡◌, refl, sym, ap, ◌∙◌, subst, ℕ, Bool, true, false, ◌&&◌, ◌||◌, ◌==◌, ℤ, pos, List, [], ◌∷◌, ◌++◌, length, map}
+use Rattle.std.proofs.Common.{◌≡◌, refl, sym, ap, ◌∙◌, subst, ℕ, Bool, true, false, ◌&&◌, ◌||◌, ◌==◌, ℤ, pos, List, [], ◌∷◌, length, map}
 use Rattle.std.specs.Prelude.{Option, Some, None, not, nat_le, unsigned_abs, slice_index_or}
 use Rattle.std.proofs.lemmas.List.{length-map}
 use Rattle.pf_ints.specs.declared.lane.LaneType.{LaneType}
@@ -11,16 +11,16 @@ use Rattle.pf_terms.specs.declared.draft.Draft.TheViews.{roll-Draft}
 use Rattle.pf_terms.specs.declared.draft.Draft.TheFolds.{fold-roll-Draft, ind-Draft, map-Draft}
 use Rattle.pf_terms.specs.declared.names.Names.{Names}
 use Rattle.pf_terms.specs.declared.op.Op.{Op}
-use Rattle.pf_terms.specs.declared.op.Op.TheVariants.{Cast, Add, Sub, Mul, ShiftLeft, ShiftRight, SelectGreater, SelectEqual, Min, Max, Abs, WideningAdd, WideningSub, WideningMul, ExtendingAdd, HalvingAdd, RoundingHalvingAdd, HalvingSub, SaturatingAdd, SaturatingSub, SaturatingCast, Absd, RoundingShr, MulShr, RoundingMulShr}
-use Rattle.pf_terms.specs.declared.symbol.CallShape.TheVariants.{One, Two, OneAndAmount, TwoAndAmount, TypeAndOne, NoCall}
+use Rattle.pf_terms.specs.declared.op.Op.TheVariants.{Cast, Add, Sub, Mul, ShiftLeft, ShiftRight, Min, Max, Abs, WideningAdd, WideningSub, WideningMul, ExtendingAdd, HalvingAdd, RoundingHalvingAdd, HalvingSub, SaturatingAdd, SaturatingSub, SaturatingCast, Absd, RoundingShr, MulShr, RoundingMulShr}
+use Rattle.pf_terms.specs.declared.symbol.CallShape.TheVariants.{One, Two, OneAndAmount, TwoAndAmount, TypeAndOne}
 use Rattle.pf_terms.specs.declared.term.Leaf.TheVariants.{Tap as TapOf, Const, Def}
 use Rattle.pf_terms.specs.declared.term.Term.{Term}
 use Rattle.pf_terms.specs.declared.term.Term.TheVariants.{Leaf}
 use Rattle.pf_terms.specs.declared.token.Kind.{Kind}
 use Rattle.pf_terms.specs.Operators.{row_of}
-use Rattle.pf_terms.specs.Terms.{is_in, all_true, is_formed_node, is_well_formed, has_amount, result_type, stated_type}
+use Rattle.pf_terms.specs.Terms.{is_in, all_true, is_formed_node, is_well_formed, result_type, stated_type}
 use Rattle.pf_terms.specs.TermTexts.{no_def, no_image}
-use Rattle.pf_terms.specs.Grammar.{Spells, Rank, call_shape, IsComparison, over, number, negated, named, placed, bracketed, cast, one, two, one_by, two_by, typed, chosen, alone, product, term, sum, difference, unshifted, left, right, greater, less as less_sign, same}
+use Rattle.pf_terms.specs.Grammar.{Spells, Rank, call_shape, IsComparison, number, negated, named, placed, bracketed, cast, one, two, one_by, two_by, typed, chosen, alone, product, term, sum, difference, unshifted, left, right, greater, less as less_sign, same}
 use Rattle.pf_terms.specs.Drafts.{IsDraftText}
 use Rattle.pf_terms.specs.Meanings.{in_order, term_of, term_step, node_over, def_number, image_number, tap_number, tap_at, written_type}
 use Rattle.pf_terms.specs.Building.{is_formed_draft, formed_draft_step}

@@ -6,8 +6,8 @@ use Rattle.std.proofs.lemmas.List.{length-map, get_or-map, drop_all, drop_more}
 use borrow.Author.Tests.{leb-true}
 use Rattle.pf_ints.specs.declared.lane.LaneType.{LaneType}
 use Rattle.pf_terms.specs.declared.draft.Draft.{Draft}
-use Rattle.pf_terms.specs.declared.draft.Draft.TheVariants.{Node, Placed, Named, Number, rolls-Node, rolls-Placed, rolls-Named, rolls-Number}
-use Rattle.pf_terms.specs.declared.draft.Draft.TheOpen.Draft-F.{Node as NodeLayer, Placed as PlacedLayer, Named as NamedLayer, Number as NumberLayer}
+use Rattle.pf_terms.specs.declared.draft.Draft.TheVariants.{Node, rolls-Node}
+use Rattle.pf_terms.specs.declared.draft.Draft.TheOpen.Draft-F.{Node as NodeLayer}
 use Rattle.pf_terms.specs.declared.draft.Draft.TheFolds.{fold-roll-Draft}
 use Rattle.pf_terms.specs.declared.names.ImageName.{ImageName}
 use Rattle.pf_terms.specs.declared.names.Names.{Names}

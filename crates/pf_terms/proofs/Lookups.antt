@@ -1,7 +1,7 @@
 -- Places in lists, and operands in the order of the term.
-use Rattle.std.proofs.Common.{◌≡◌, refl, sym, ap, ◌∙◌, ℕ, ◌+◌, ◌<◌, ◌≤◌, zero, suc, arith, Bool, true, false, List, [], ◌∷◌, length, map, get_or, nat_lt}
-use Rattle.std.specs.Prelude.{slice_get, Option, Some, None, if◌then◌else◌, cond}
-use Rattle.std.specs.List.{position, position_or_len, prefix_len}
+use Rattle.std.proofs.Common.{◌≡◌, refl, sym, ap, ◌∙◌, ℕ, ◌<◌, ◌≤◌, zero, suc, arith, Bool, true, false, List, [], ◌∷◌, length, map, get_or, nat_lt}
+use Rattle.std.specs.Prelude.{slice_get, Option, Some, None, cond}
+use Rattle.std.specs.List.{position, position_or_len}
 use Rattle.std.specs.Option.{unwrap_or}
 use Rattle.std.proofs.lemmas.Option.{unwrap_or-slice_get}
 use Rattle.std.proofs.lemmas.List.Sums.{prefix_len-le-length}

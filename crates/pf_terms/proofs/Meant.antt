@@ -1,12 +1,10 @@
 -- What follows where a draft has a meaning, and where it has none.
-use Rattle.std.proofs.Common.{◌≡◌, refl, sym, ap, ◌∙◌, subst, ℕ, ◌+◌, ◌-◌, ◌<◌, ◌≤◌, arith, true, List, [], ◌∷◌, length, get_or, drop, take, length-drop, inl, inr}
-use Rattle.std.specs.Prelude.{◌≢◌, ◌⊎◌, All, Option, Some, None, Result, Ok, Err, IfOk, IfErr, slice_get}
-use Rattle.std.specs.List.{AllPairs}
+use Rattle.std.proofs.Common.{◌≡◌, sym, ap, ◌∙◌, subst, ℕ, ◌+◌, ◌-◌, ◌<◌, ◌≤◌, arith, true, List, [], ◌∷◌, length, get_or, drop, take, length-drop, inl, inr}
+use Rattle.std.specs.Prelude.{◌⊎◌, All, Option, Some, None, Result, Ok, Err, IfOk, IfErr, slice_get}
 use Rattle.std.proofs.lemmas.Option.{slice_get_cases}
 use Rattle.pf_terms.specs.declared.draft.Draft.{Draft}
 use Rattle.pf_terms.specs.declared.draft.DraftFault.{DraftFault}
 use Rattle.pf_terms.specs.declared.draft.DraftFault.TheVariants.{Syntax as NoSyntax, Memory as NoMemory}
-use Rattle.pf_terms.specs.declared.limit.LimitKind.{LimitKind}
 use Rattle.pf_terms.specs.declared.limit.LimitKind.TheVariants.{Bytes, Amount as Amounts, Images, Taps, Definitions, Offset, Depth, Nodes}
 use Rattle.pf_terms.specs.declared.meaning.ReadFault.{ReadFault}
 use Rattle.pf_terms.specs.declared.meaning.ReadFault.TheVariants.{Syntax, Name, Types, Amount, Limit, Memory}

@@ -1,13 +1,13 @@
 -- The term of a draft is named, where its names are known and its taps are among the taps.
-use Rattle.std.proofs.Common.{◌≡◌, refl, sym, ap, ◌∙◌, subst, ℕ, ◌<◌, Bool, true, false, ◌&&◌, ℤ, List, [], ◌∷◌, ◌++◌, length, map, get_or, arith, nat_lt}
-use Rattle.std.specs.Prelude.{Option, None, slice_index_or, unsigned_abs}
-use Rattle.std.specs.List.{flat_map, list_any, position_or_len}
+use Rattle.std.proofs.Common.{◌≡◌, refl, sym, ap, ◌∙◌, subst, ℕ, ◌<◌, Bool, true, false, ◌&&◌, List, [], ◌∷◌, length, map, arith, nat_lt}
+use Rattle.std.specs.Prelude.{None, slice_index_or, unsigned_abs}
+use Rattle.std.specs.List.{flat_map}
 use Rattle.std.specs.Str.{bytes_eq}
 use Rattle.std.proofs.lemmas.Bool.Decides.{nat_tests}
 use Rattle.std.proofs.lemmas.List.Sums.{passes_at_first}
 use Rattle.pf_ints.specs.declared.lane.LaneType.{LaneType}
 use Rattle.pf_terms.specs.declared.draft.Draft.{Draft}
-use Rattle.pf_terms.specs.declared.draft.Draft.TheVariants.{Node, Placed, Named, Number, rolls-Node, rolls-Placed, rolls-Named, rolls-Number}
+use Rattle.pf_terms.specs.declared.draft.Draft.TheVariants.{Named, rolls-Node, rolls-Placed, rolls-Named, rolls-Number}
 use Rattle.pf_terms.specs.declared.draft.Draft.TheOpen.{Draft-F}
 use Rattle.pf_terms.specs.declared.draft.Draft.TheOpen.Draft-F.{Node as NodeLayer, Placed as PlacedLayer, Named as NamedLayer, Number as NumberLayer}
 use Rattle.pf_terms.specs.declared.draft.Draft.TheViews.{roll-Draft}
@@ -23,10 +23,10 @@ use Rattle.pf_terms.specs.declared.term.Term.TheVariants.{Leaf, Node as NodeTerm
 use Rattle.pf_terms.specs.declared.term.Term.TheOpen.Term-F.{Leaf as LeafLayer, Node as NodeTermLayer}
 use Rattle.pf_terms.specs.declared.term.Term.TheFolds.{fold-roll-Term}
 use Rattle.pf_terms.specs.Operators.{row_of}
-use Rattle.pf_terms.specs.Terms.{all_true, same_type, result_type, stated_type}
+use Rattle.pf_terms.specs.Terms.{all_true, result_type, stated_type}
 use Rattle.pf_terms.specs.TermTexts.{is_named, named_step, is_named_leaf, is_named_tap, no_def, no_image, no_tap}
-use Rattle.pf_terms.specs.Meanings.{in_order, first_unknown, tap_uses, tap_at, term_of, def_number, image_number, tap_number, same_tap, written_type}
-use Rattle.pf_terms.proofs.Typing.{and_left, and_right, same_self}
+use Rattle.pf_terms.specs.Meanings.{in_order, first_unknown, tap_uses, tap_at, term_of, def_number, tap_number, same_tap, written_type}
+use Rattle.pf_terms.proofs.Typing.{same_self}
 use Rattle.pf_terms.proofs.Lookups.{map_in_order}
 use Rattle.pf_terms.proofs.TapLists.{Each, each_front, each_behind, IsAmong, place_of_any, same_tap_is}
 use Rattle.pf_terms.proofs.DraftParts.{term_is, uses_is}

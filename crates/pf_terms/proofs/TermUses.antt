@@ -1,7 +1,7 @@
 -- What a draft's taps and names keep.
-use Rattle.std.proofs.Common.{◌≡◌, refl, sym, ap, ◌∙◌, subst, ℕ, ◌<◌, Bool, true, false, ◌&&◌, ℤ, List, [], ◌∷◌, ◌++◌, length, map, get_or, arith, nat_lt}
-use Rattle.std.specs.Prelude.{Option, Some, None, if◌then◌else◌, cond, not, int_le}
-use Rattle.std.specs.List.{find, flat_map, list_any, position_or_len}
+use Rattle.std.proofs.Common.{◌≡◌, refl, sym, ap, ◌∙◌, subst, ℕ, ◌<◌, Bool, true, false, ℤ, List, [], ◌∷◌, length, map, arith}
+use Rattle.std.specs.Prelude.{Option, Some, None, if◌then◌else◌, cond, not}
+use Rattle.std.specs.List.{flat_map}
 use Rattle.std.specs.Option.{option_or}
 use Rattle.std.specs.Str.{bytes_eq}
 use Rattle.std.proofs.lemmas.Int.{ints}
@@ -19,7 +19,6 @@ use Rattle.pf_terms.specs.declared.op.Op.{Op}
 use Rattle.pf_terms.specs.KernelNames.{IsNear}
 use Rattle.pf_terms.specs.Meanings.{in_order, first_some, first_far, far_step, first_unknown, unknown_step, is_near, is_image, is_def, image_number, tap_at, tap_uses, uses_step}
 use Rattle.pf_terms.specs.Building.{HasNearOffsets}
-use Rattle.pf_terms.proofs.Typing.{and_left, and_right}
 use Rattle.pf_terms.proofs.TapLists.{Each, each_append, place_of_any}
 use Rattle.pf_terms.proofs.DraftParts.{uses_is}
 

@@ -7,12 +7,12 @@ ghost use Rattle.pf_terms.specs.Meanings.{IsTermText, IsTermOr, IsReadFault, Mea
 ghost use Rattle.pf_terms.specs.Terms.{IsWellTyped};
 ghost use Rattle.pf_terms.specs.TermTexts.{is_named};
 
-use crate::builder::build;
 use crate::draft::{Draft, DraftFault};
 use crate::limit::LimitKind;
 use crate::lookup::{first_far, first_unknown};
 use crate::names::Names;
 use crate::read::read_draft;
+use crate::resolve::resolved;
 use crate::spots::{Spots, add_uses, spots_of, taps_of};
 use crate::term::Term;
 use pf_ints::{LaneType, Name};
@@ -107,7 +107,7 @@ fn meaning_of(alloc: Global, draft: &Draft, names: &mut Names) -> Result<Term, R
     }
     let spots = all_spots(alloc, draft, names)?;
     let spots = spots.as_slice();
-    let term = build(alloc, draft, names, &spots[..spots.len().min(MOST_TAPS)])?;
+    let term = resolved(alloc, draft, names, &spots[..spots.len().min(MOST_TAPS)])?;
     if MOST_TAPS < spots.len() {
         return Err(ReadFault::Limit {
             what: LimitKind::Taps,

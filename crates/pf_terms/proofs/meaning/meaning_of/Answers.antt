@@ -1,7 +1,7 @@
-use Rattle.std.proofs.Common.{rules, ◌≡◌, sym, ap, ◌∙◌, subst, length, arith, ◌≤◌, ◌<◌, pos, to_z, w64, Err, IfErr, None}
+use Rattle.std.proofs.Common.{rules, ◌≡◌, sym, ap, ◌∙◌, subst, length, arith, ◌≤◌, pos, w64, Err, IfErr, None}
 use Rattle.std.proofs.lemmas.Int.{to_z-of_z, to_z_pos}
-use Rattle.pf_terms.specs.Building.{IsFaultOrMemory, with_these}
-use Rattle.pf_terms.specs.Meanings.{names_after, first_unknown, first_far, IsKnown, HasFewTaps}
+use Rattle.pf_terms.specs.Building.{IsFaultOrMemory}
+use Rattle.pf_terms.specs.Meanings.{names_after, first_far}
 use Rattle.pf_terms.proofs.Meant.{node_fault, typed_after, near_after, meant}
 use Rattle.pf_terms.proofs.meaning.meaning_of.Goals as goal
 

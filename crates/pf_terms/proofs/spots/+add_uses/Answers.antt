@@ -1,7 +1,5 @@
 use Rattle.std.proofs.Common.{◌≡◌, refl, sym, ap, ◌∙◌, subst, length, true, All, get_or}
-use Rattle.std.specs.List.{flat_map}
 use Rattle.pf_terms.specs.Building.{is_formed_draft}
-use Rattle.pf_terms.specs.Meanings.{tap_uses, with_taps}
 use Rattle.pf_terms.proofs.Lookups.{HasPair}
 use Rattle.pf_terms.proofs.DraftParts.{formed_node, uses_more, uses_all}
 use Rattle.pf_terms.proofs.spots.+add_uses.Goals as goal

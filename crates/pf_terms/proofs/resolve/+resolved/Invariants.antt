@@ -1,11 +1,11 @@
-use Rattle.std.proofs.Common.{◌≡◌, drop, take, map, length, true, All, List}
+use Rattle.std.proofs.Common.{◌≡◌, drop, take, map, length, List}
 use Rattle.pf_terms.specs.declared.names.Tap.{Tap}
 use Rattle.pf_terms.specs.Building.{with_these}
 use Rattle.pf_terms.specs.Meanings.{in_order, term_of}
 use Rattle.pf_terms.specs.Terms.{typing, types_from, stated_type}
 use Rattle.pf_terms.proofs.DraftParts.{IsFormedNode}
 use Rattle.pf_terms.proofs.Typing.{behind}
-use Rattle.pf_terms.proofs.builder.+build.Given as goal
+use Rattle.pf_terms.proofs.resolve.+resolved.Given as goal
 
 abbrev pub invariant-loop-n : goal.invariant-loop-n
 invariant-loop-n l =

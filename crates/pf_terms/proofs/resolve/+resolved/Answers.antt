@@ -1,9 +1,9 @@
-use Rattle.std.proofs.Common.{rules, ◌≡◌, refl, sym, ap, ◌∙◌, subst, length, get_or, take, map, arith, drop, set, w64, to_z, of_z, ◌+◌, ◌<◌, ◌≤◌, ◌++◌, ◌∷◌, []}
+use Rattle.std.proofs.Common.{rules, ◌≡◌, refl, sym, ap, ◌∙◌, subst, length, get_or, take, map, arith, drop, set, w64, to_z, of_z, ◌+◌, ◌<◌, ◌++◌, ◌∷◌, []}
 use Rattle.std.specs.Prelude.{Ok, Err, unsigned_abs}
 use Rattle.std.proofs.lemmas.Int.{to_z-of_z}
 use Rattle.std.proofs.lemmas.List.{length-set, take_more_set, map-append}
 use Rattle.pf_terms.specs.Operators.{row_of}
-use Rattle.pf_terms.specs.Terms.{stated_type, typing, types_from, operand_count}
+use Rattle.pf_terms.specs.Terms.{stated_type, typing, types_from}
 use Rattle.pf_terms.specs.Meanings.{term_of, in_order}
 use Rattle.pf_terms.specs.Building.{with_these, IsBuilt, place_in_order}
 use Rattle.pf_terms.proofs.DraftParts.{IsFormedNode, formed_node}
@@ -11,7 +11,7 @@ use Rattle.pf_terms.proofs.Evaluating.{count_most}
 use Rattle.pf_terms.proofs.Typing.{behind, behind_nil}
 use Rattle.pf_terms.proofs.Built.{types_more, types_all, made_more, node_made, node_told, operand_fault, own_fault}
 use Rattle.pf_terms.proofs.TermRanges.{stated_node}
-use Rattle.pf_terms.proofs.builder.+build.Goals as goal
+use Rattle.pf_terms.proofs.resolve.+resolved.Goals as goal
 
 pub loop-n-init : goal.loop-n-init
 loop-n-init t c =

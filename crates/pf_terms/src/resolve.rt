@@ -26,7 +26,12 @@ const NO_TYPE: LaneType = LaneType {
 
 /// The term of a draft, where each tap has its number among these, or the fault of the first node
 /// in post-order that has one.
-pub fn build(alloc: Global, draft: &Draft, names: &Names, taps: &[Spot]) -> Result<Term, ReadFault>
+pub fn resolved(
+    alloc: Global,
+    draft: &Draft,
+    names: &Names,
+    taps: &[Spot],
+) -> Result<Term, ReadFault>
     requires formed { is_formed_draft draft.now ≡ true }
     requires few_defs { length names.now.defs ≤ 64 }
     requires few_taps { length taps.now ≤ 64 }
@@ -65,7 +70,7 @@ pub fn build(alloc: Global, draft: &Draft, names: &Names, taps: &[Spot]) -> Resu
             let mut types = [NO_TYPE; 4];
             let mut args = Items::new(alloc);
             for n in 0..drafts.len() {
-                let arg = build(alloc, &drafts[place_in_order(*less, n)], names, taps)?;
+                let arg = resolved(alloc, &drafts[place_in_order(*less, n)], names, taps)?;
                 types[n] = stated_type(&arg);
                 args.push(arg)?;
             }

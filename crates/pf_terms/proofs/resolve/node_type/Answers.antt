@@ -1,11 +1,11 @@
-use Rattle.std.proofs.Common.{rules, ◌≡◌, ℕ, pos, to_z}
+use Rattle.std.proofs.Common.{rules, ◌≡◌}
 use Rattle.std.proofs.lemmas.Int.{to_z-of_z}
 use Rattle.std.specs.Prelude.{unsigned_abs}
 use Rattle.pf_terms.specs.Meanings.{written_type}
 use Rattle.pf_terms.specs.Operators.{row_of}
 use Rattle.pf_terms.specs.Terms.{result_type, first_width}
 use Rattle.pf_terms.proofs.Built.{types_told, amount_told, first_wide, some_operands}
-use Rattle.pf_terms.proofs.builder.node_type.Goals as goal
+use Rattle.pf_terms.proofs.resolve.node_type.Goals as goal
 
 pub returns-in-Some-clause-found : goal.returns-in-Some-clause-found
 returns-in-Some-clause-found c =
