@@ -14,6 +14,8 @@ mod op;
 mod print;
 mod read;
 mod reader;
+#[cfg(test)]
+mod read_tests;
 mod resolve;
 mod row;
 mod sizes;
