@@ -1,4 +1,4 @@
-ghost use Rattle.std.specs.Prelude.{IfOk};
+ghost use Rattle.std.specs.Prelude.{◌≡◌, IfOk};
 ghost use Rattle.pf_terms.specs.KernelNames.{IsNames};
 
 use crate::{DefName, ImageName, LimitKind, Names, ReadFault, Tap, TapList, print_term, read_term};
@@ -20,9 +20,9 @@ const I16: LaneType = LaneType {
 fn some_names(alloc: Global) -> Result<Names, Fail>
     ensures { IfOk result IsNames }
 {
-    let a = Name::new(b"a").ok_or("a name")?;
-    let b = Name::new(b"b").ok_or("a name")?;
-    let d = Name::new(b"d").ok_or("a name")?;
+    let a = name(b"a")?;
+    let b = name(b"b")?;
+    let d = name(b"d")?;
     let images = [ImageName { name: a, ty: U8 }, ImageName { name: b, ty: U8 }];
     Ok(Names {
         images: Sequence::from_slice(alloc, &images)?,
@@ -31,14 +31,20 @@ fn some_names(alloc: Global) -> Result<Names, Fail>
     })
 }
 
+fn name(bytes: &[u8]) -> Result<Name, Fail>
+    ensures { IfOk result (λ n. n ≡ bytes.now) }
+{
+    match Name::new(bytes) {
+        Some(name) => Ok(name),
+        None => Err("a name".into()),
+    }
+}
+
 fn fault(alloc: Global, text: &[u8], names: &mut Names) -> Option<ReadFault>
     requires { IsNames names.old }
     ensures { IsNames names.new }
 {
-    match read_term(alloc, text, names) {
-        Ok(_) => None,
-        Err(fault) => Some(fault),
-    }
+    read_term(alloc, text, names).err()
 }
 
 fn printed(alloc: Global, text: &[u8], names: &mut Names) -> Result<Option<Vec<u8>>, AllocError>
@@ -48,6 +54,13 @@ fn printed(alloc: Global, text: &[u8], names: &mut Names) -> Result<Option<Vec<u
     match read_term(alloc, text, names) {
         Ok(term) => Ok(Some(print_term(alloc, &term, names)?)),
         Err(_) => Ok(None),
+    }
+}
+
+fn is_unknown(fault: &Option<ReadFault>, word: &[u8]) -> bool {
+    match fault {
+        Some(ReadFault::Name { name }) => name.as_slice() == word,
+        _ => false,
     }
 }
 
@@ -95,10 +108,7 @@ fn tells_the_first_fault(rt: HostRuntime) -> Result<(), Fail> {
     assert!(rt; matches!(eleven_digits, Some(ReadFault::Syntax { column: 6 })));
     assert!(rt; fault(alloc, b"d + -32768i16 + 32767i16", &mut names).is_none());
     let unknown = fault(alloc, b"d + 1u8 + y[0,0] + a", &mut names);
-    match unknown {
-        Some(ReadFault::Name { name }) => assert_eq!(rt; name.as_slice(), b"y".as_slice()),
-        _ => return Err("a name".into()),
-    }
+    assert!(rt; is_unknown(&unknown, b"y"));
     let types = fault(alloc, b"mul_shr(d, a[65,0], 300)", &mut names);
     assert!(rt; matches!(types, Some(ReadFault::Types { want: I16, got: U8 })));
     let amount = fault(alloc, b"(d >> 9999999999) + 1u8", &mut names);
