@@ -112,8 +112,8 @@ negative_with ks n x k small like fits comes h below at =
       own = (
         completion v.0,
         run_spelled ((take h.m ks ++ small ∷ []) ++ completion v.0) (fresh []) r.0
-        (ap (λ l. run l whole (fresh [])) (append_assoc (take h.m ks) (small ∷ []) (completion v.0)) ∙ h.stands.onward (small ∷ completion v.0)
-        ∙ ap (then_on (λ u. run (completion v.0) u (built h.symbols small h.build))) v.1 ∙ r.1),
+            (ap (λ l. run l whole (fresh [])) (append_assoc (take h.m ks) (small ∷ []) (completion v.0)) ∙ h.stands.onward (small ∷ completion v.0)
+            ∙ ap (then_on (λ u. run (completion v.0) u (built h.symbols small h.build))) v.1 ∙ r.1),
       );
     }
 
