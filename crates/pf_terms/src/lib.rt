@@ -24,6 +24,8 @@ mod stack;
 mod symbol;
 mod table;
 mod term;
+#[cfg(test)]
+mod tests;
 mod token;
 mod types;
 mod values;
