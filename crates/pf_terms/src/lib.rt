@@ -13,9 +13,9 @@ mod names;
 mod op;
 mod print;
 mod read;
-mod reader;
 #[cfg(test)]
 mod read_tests;
+mod reader;
 mod resolve;
 mod row;
 mod sizes;

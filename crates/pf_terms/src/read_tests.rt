@@ -83,16 +83,38 @@ fn less_is_read_as_greater(rt: HostRuntime) -> Result<(), Fail> {
         alloc,
         b"select(a[0,0] < b[0,0], a[1,-1], b[0,0])",
         &mut names,
-    )?.ok_or("a term")?;
+    )?
+    .ok_or("a term")?;
     assert_eq!(rt;
         text.as_slice(),
         b"select(b[0,0] > a[0,0], a[1,-1], b[0,0])".as_slice()
     );
     let taps = names.taps.as_slice();
     assert_eq!(rt; taps.len(), 3);
-    assert_eq!(rt; taps[0], Tap { image: 1, dx: 0, dy: 0 });
-    assert_eq!(rt; taps[1], Tap { image: 0, dx: 0, dy: 0 });
-    assert_eq!(rt; taps[2], Tap { image: 0, dx: 1, dy: -1 });
+    assert_eq!(rt;
+        taps[0],
+        Tap {
+            image: 1,
+            dx: 0,
+            dy: 0
+        }
+    );
+    assert_eq!(rt;
+        taps[1],
+        Tap {
+            image: 0,
+            dx: 0,
+            dy: 0
+        }
+    );
+    assert_eq!(rt;
+        taps[2],
+        Tap {
+            image: 0,
+            dx: 1,
+            dy: -1
+        }
+    );
     Ok(())
 }
 
@@ -112,8 +134,19 @@ fn tells_the_first_fault(rt: HostRuntime) -> Result<(), Fail> {
     let types = fault(alloc, b"mul_shr(d, a[65,0], 300)", &mut names);
     assert!(rt; matches!(types, Some(ReadFault::Types { want: I16, got: U8 })));
     let amount = fault(alloc, b"(d >> 9999999999) + 1u8", &mut names);
-    assert!(rt; matches!(amount, Some(ReadFault::Amount { amount: 9_999_999_999 })));
-    let offset = fault(alloc, b"select(a[0,-65] < b[99,0], a[0,0], b[0,0])", &mut names);
+    assert!(rt;
+        matches!(
+            amount,
+            Some(ReadFault::Amount {
+                amount: 9_999_999_999
+            })
+        )
+    );
+    let offset = fault(
+        alloc,
+        b"select(a[0,-65] < b[99,0], a[0,0], b[0,0])",
+        &mut names,
+    );
     assert!(rt;
         matches!(
             offset,

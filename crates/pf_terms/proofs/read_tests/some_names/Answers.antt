@@ -53,8 +53,8 @@ are_names =
       pixels = all_of_each (λ i. IsPixelType i.ty) images (record { unsigned = refl; narrow = omega arith }, (record { unsigned = refl; narrow = omega arith }, tt));
       named = all_of_each (λ s. is_name s ≡ true) ((97 ∷ []) ∷ (98 ∷ []) ∷ (100 ∷ []) ∷ []) (a_name, (b_name, (d_name, tt)));
       distinct_names =
-        AllPairs-cons Different (97 ∷ []) ((98 ∷ []) ∷ (100 ∷ []) ∷ []) (all_of_each (Different (97 ∷ [])) ((98 ∷ []) ∷ (100 ∷ []) ∷ []) (other 97 98 (omega arith), (other 97 100 (omega arith), tt)))
-        (AllPairs-cons Different (98 ∷ []) ((100 ∷ []) ∷ []) (all_of_each (Different (98 ∷ [])) ((100 ∷ []) ∷ []) (other 98 100 (omega arith), tt))
+          AllPairs-cons Different (97 ∷ []) ((98 ∷ []) ∷ (100 ∷ []) ∷ []) (all_of_each (Different (97 ∷ [])) ((98 ∷ []) ∷ (100 ∷ []) ∷ []) (other 97 98 (omega arith), (other 97 100 (omega arith), tt)))
+          (AllPairs-cons Different (98 ∷ []) ((100 ∷ []) ∷ []) (all_of_each (Different (98 ∷ [])) ((100 ∷ []) ∷ []) (other 98 100 (omega arith), tt))
           (AllPairs-cons Different (100 ∷ []) [] (all_of_each (Different (100 ∷ [])) [] tt) (no_pairs Different)));
       near = all_of_each (IsNearTap 2) [] tt;
       distinct_taps = no_pairs (λ t u. t ≢ u);
