@@ -13,3 +13,4 @@ pub mod Complete
 pub mod Sound
 pub mod Advancing
 pub mod FirstFaults
+pub mod ReadBackTexts
