@@ -14,3 +14,4 @@ pub mod Sound
 pub mod Advancing
 pub mod FirstFaults
 pub mod ReadBackTexts
+pub mod ReadBackWords
