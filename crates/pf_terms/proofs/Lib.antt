@@ -15,3 +15,4 @@ pub mod Advancing
 pub mod FirstFaults
 pub mod ReadBackTexts
 pub mod ReadBackWords
+pub mod ReadBackNodes

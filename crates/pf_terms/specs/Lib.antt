@@ -9,3 +9,4 @@ pub mod Grammar
 pub mod Parsing
 pub mod Limits
 pub mod Drafts
+pub mod ReadBack
