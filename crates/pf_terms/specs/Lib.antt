@@ -9,4 +9,6 @@ pub mod Grammar
 pub mod Parsing
 pub mod Limits
 pub mod Drafts
+pub mod KernelNames
+pub mod Meanings
 pub mod ReadBack
