@@ -16,3 +16,4 @@ pub mod FirstFaults
 pub mod ReadBackTexts
 pub mod ReadBackWords
 pub mod ReadBackNodes
+pub mod ReadBackLeaves

@@ -17,10 +17,10 @@ use Rattle.pf_terms.specs.declared.term.Term.TheFolds.{fold-Term}
 use Rattle.pf_terms.specs.TermTexts.{no_image, no_tap, no_def, spelling_of}
 
 -- the type that is written with an operator
-abbrev pub written_type : Spelling → LaneType → Option LaneType
-written_type TypeCall ty = Some ty
-written_type CallWithType ty = Some ty
-written_type _ ty = None
+abbrev pub type_beside : Spelling → LaneType → Option LaneType
+type_beside TypeCall ty = Some ty
+type_beside CallWithType ty = Some ty
+type_beside _ ty = None
 
 abbrev pub tap_draft : List ImageName → TapOf → Draft
 tap_draft images t = Placed (slice_index_or images t.image no_image).name t.dx t.dy
@@ -32,7 +32,7 @@ leaf_draft names (Def n) ty = Named (slice_index_or names.defs n no_def).name
 
 abbrev pub draft_step : Names → Term-F Draft → Draft
 draft_step names (Leaf leaf ty) = leaf_draft names leaf ty
-draft_step names (Node op ty k args) = DraftNode op false (written_type (spelling_of op) ty) (pos k) args
+draft_step names (Node op ty k args) = DraftNode op false (type_beside (spelling_of op) ty) (pos k) args
 
 -- the term with names in the place of its leaves' numbers
 abbrev pub draft_of : Names → Term → Draft
