@@ -17,3 +17,4 @@ pub mod ReadBackTexts
 pub mod ReadBackWords
 pub mod ReadBackNodes
 pub mod ReadBackLeaves
+pub mod ReadBackTerms
