@@ -18,3 +18,4 @@ pub mod ReadBackWords
 pub mod ReadBackNodes
 pub mod ReadBackLeaves
 pub mod ReadBackTerms
+pub mod ReadBackMeanings

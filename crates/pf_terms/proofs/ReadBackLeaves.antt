@@ -84,7 +84,7 @@ square_of s u v dx dy name p q =
       tokens = Name s ∷ OpenSquare ∷ (p.tokens ++ Comma ∷ (q.tokens ++ CloseSquare ∷ []));
       spelled = placed s p.tokens q.tokens dx dy p.is q.is;
       reads = λ r ls none h. simp append_assoc (reads_name s _ _ name refl (reads_sign 91 OpenSquare _ _ refl refl refl refl (p.reads _ _ refl (
-        reads_sign 44 Comma _ _ refl refl refl refl (q.reads _ _ refl (reads_sign 93 CloseSquare _ _ refl refl refl refl h))))));
+          reads_sign 44 Comma _ _ refl refl refl refl (q.reads _ _ refl (reads_sign 93 CloseSquare _ _ refl refl refl refl h))))));
       shallow = λ i ls few h. simp append_assoc (p.shallow i _ (q.shallow i _ h));
     }
 
@@ -101,24 +101,34 @@ def_printed s name =
       shallow = λ n ls few k. k;
     }
 
-image_named : (names : Names) → IsNames names → (i : ℕ) → i < length names.images → is_name (get_or names.images i no_image).name ≡ true
-image_named names h i below =
+-- where the names of images and of definitions stand among all
+pub names_long : (names : Names) → length (all_names names) ≡ length names.images + length names.defs
+names_long names =
     let images = map (λ (x : ImageName). x.name) names.images in
     let defs = map (λ (x : DefName). x.name) names.defs in
-    let long : length images ≡ length names.images = length-map names.images (λ (x : ImageName). x.name) in
-    let under : i < length images = omega arith in
+    let few : length images ≡ length names.images = length-map names.images (λ (x : ImageName). x.name) in
+    let more : length defs ≡ length names.defs = length-map names.defs (λ (x : DefName). x.name) in
     let all : length (images ++ defs) ≡ length images + length defs = length-append images defs in
-    let at : get_or (images ++ defs) i [] ≡ (get_or names.images i no_image).name = get_or_append_left images defs [] i under ∙ get_or-map (λ (x : ImageName). x.name) names.images i no_image [] below in
-    ap is_name (sym at) ∙ h.named i [] (omega arith)
+    omega arith
+
+pub image_at : (names : Names) (i : ℕ) → i < length names.images → get_or (all_names names) i [] ≡ (get_or names.images i no_image).name
+image_at names i below =
+    let images = map (λ (x : ImageName). x.name) names.images in
+    let long : length images ≡ length names.images = length-map names.images (λ (x : ImageName). x.name) in
+    get_or_append_left images (map (λ (x : DefName). x.name) names.defs) [] i (omega arith) ∙ get_or-map (λ (x : ImageName). x.name) names.images i no_image [] below
+
+pub def_at : (names : Names) (i : ℕ) → i < length names.defs → get_or (all_names names) (length names.images + i) [] ≡ (get_or names.defs i no_def).name
+def_at names i below =
+    let images = map (λ (x : ImageName). x.name) names.images in
+    let defs = map (λ (x : DefName). x.name) names.defs in
+    let long : length names.images ≡ length images = sym (length-map names.images (λ (x : ImageName). x.name)) in
+    ap (λ m. get_or (images ++ defs) (m + i) []) long ∙ get_or-append-add images defs i [] ∙ get_or-map (λ (x : DefName). x.name) names.defs i no_def [] below
+
+image_named : (names : Names) → IsNames names → (i : ℕ) → i < length names.images → is_name (get_or names.images i no_image).name ≡ true
+image_named names h i below = ap is_name (sym (image_at names i below)) ∙ h.named i [] (omega (arith, names_long names))
 
 def_named : (names : Names) → IsNames names → (i : ℕ) → i < length names.defs → is_name (get_or names.defs i no_def).name ≡ true
-def_named names h i below =
-    let images = map (λ (x : ImageName). x.name) names.images in
-    let defs = map (λ (x : DefName). x.name) names.defs in
-    let long : length defs ≡ length names.defs = length-map names.defs (λ (x : DefName). x.name) in
-    let all : length (images ++ defs) ≡ length images + length defs = length-append images defs in
-    let at : get_or (images ++ defs) (length images + i) [] ≡ (get_or names.defs i no_def).name = get_or-append-add images defs i [] ∙ get_or-map (λ (x : DefName). x.name) names.defs i no_def [] below in
-    ap is_name (sym at) ∙ h.named (length images + i) [] (omega arith)
+def_named names h i below = ap is_name (sym (def_at names i below)) ∙ h.named (length names.images + i) [] (omega (arith, names_long names))
 
 pub leaf_printed : (names : Names) (leaf : Leaf) (ty : LaneType) → IsNames names → is_formed_leaf leaf ty ≡ true → is_named_leaf names leaf ty ≡ true → IsPrinted (leaf_text names leaf ty) (leaf_draft names leaf ty) 1
 leaf_printed names (Tap n) ty all formed has =

@@ -175,7 +175,7 @@ printed_choice word c o a b x y d e f g i j k l sign comparison p q s t =
       spelled = chosen c o false p.tokens q.tokens s.tokens t.tokens d e f g comparison (whole p.spelled) (whole q.spelled) (whole s.spelled) (whole t.spelled);
       reads = λ r ls none h. simp append_assoc (choose_first _ _ (p.reads _ _ refl (sign.reads _ _ (q.reads _ _ refl (comma_first _ _ (s.reads _ _ refl (comma_first _ _ (t.reads _ _ refl (close_first _ _ h)))))))));
       shallow = λ n ls few h. simp append_assoc (
-          omega arith,
-          p.shallow (n + 1) _ (omega arith) (sign.flat (n + 1) _ (q.shallow (n + 1) _ (omega arith) (s.shallow (n + 1) _ (omega arith) (t.shallow (n + 1) _ (omega arith) (closed n ls h))))),
-        );
+        omega arith,
+        p.shallow (n + 1) _ (omega arith) (sign.flat (n + 1) _ (q.shallow (n + 1) _ (omega arith) (s.shallow (n + 1) _ (omega arith) (t.shallow (n + 1) _ (omega arith) (closed n ls h))))),
+      );
     }

@@ -99,18 +99,18 @@ pub record IsFewAmount (op : Op) (k : ℕ) : Type 0 where
 amount_of : (op : Op) (w k : ℕ) → w ≤ 32 → is_amount (row_of op).amounts w k ≡ true → IsFewAmount op k
 amount_of op w k h is =
     record { small = by (row_of op).amounts (most (row_of op).amounts is); none = λ e. zero_of (most Without (ap (λ a. is_amount a w k) (sym e) ∙ is)) } where
-    most : (a : Amounts) → is_amount a w k ≡ true → k ≤ greatest_amount a w
-    most a is = leb-true k (greatest_amount a w) (and_right (nat_le (least_amount a) k) _ is)
+      most : (a : Amounts) → is_amount a w k ≡ true → k ≤ greatest_amount a w
+      most a is = leb-true k (greatest_amount a w) (and_right (nat_le (least_amount a) k) _ is)
 
-    zero_of : k ≤ 0 → k ≡ 0
-    zero_of h = omega arith
+      zero_of : k ≤ 0 → k ≡ 0
+      zero_of h = omega arith
 
-    by : (a : Amounts) → k ≤ greatest_amount a w → k < 10 ^ 10
-    by Without up = omega arith
-    by Shift up = omega arith
-    by RoundingShift up = omega arith
-    by Product up = omega arith
-    by RoundingProduct up = omega arith
+      by : (a : Amounts) → k ≤ greatest_amount a w → k < 10 ^ 10
+      by Without up = omega arith
+      by Shift up = omega arith
+      by RoundingShift up = omega arith
+      by Product up = omega arith
+      by RoundingProduct up = omega arith
 
 -- said of each operator over printed operands
 abbrev Prints : Names → Op → LaneType → ℕ → List Term → Type 0
@@ -164,7 +164,7 @@ first_below (t ∷ ts) = width_below t.bits
 text_node : (names : Names) (op : Op) (ty : LaneType) (k : ℕ) (args : List Term) → term_text names (Node op ty k args) ≡ node_text op ty k (map (term_text names) args)
 text_node names op ty k args = ap (term_text names) (sym (rolls-Node op ty k args)) ∙ fold-roll-Term (List ℕ) (text_step names) (NodeLayer op ty k args)
 
-draft_node : (names : Names) (op : Op) (ty : LaneType) (k : ℕ) (args : List Term) → draft_of names (Node op ty k args) ≡ DraftNode op false (type_beside (spelling_of op) ty) (pos k) (map (draft_of names) args)
+pub draft_node : (names : Names) (op : Op) (ty : LaneType) (k : ℕ) (args : List Term) → draft_of names (Node op ty k args) ≡ DraftNode op false (type_beside (spelling_of op) ty) (pos k) (map (draft_of names) args)
 draft_node names op ty k args = ap (draft_of names) (sym (rolls-Node op ty k args)) ∙ fold-roll-Term Draft (draft_step names) (NodeLayer op ty k args)
 
 depth_node : (op : Op) (ty : LaneType) (k : ℕ) (args : List Term) → depth_of (Node op ty k args) ≡ 1 + greatest_of (map depth_of args)
@@ -176,7 +176,7 @@ named_node names op ty k args = ap (is_named names) (sym (rolls-Node op ty k arg
 text_leaf : (names : Names) (leaf : LeafOf) (ty : LaneType) → term_text names (Leaf leaf ty) ≡ leaf_text names leaf ty
 text_leaf names leaf ty = ap (term_text names) (sym (rolls-Leaf leaf ty)) ∙ fold-roll-Term (List ℕ) (text_step names) (LeafLayer leaf ty)
 
-draft_leaf : (names : Names) (leaf : LeafOf) (ty : LaneType) → draft_of names (Leaf leaf ty) ≡ leaf_draft names leaf ty
+pub draft_leaf : (names : Names) (leaf : LeafOf) (ty : LaneType) → draft_of names (Leaf leaf ty) ≡ leaf_draft names leaf ty
 draft_leaf names leaf ty = ap (draft_of names) (sym (rolls-Leaf leaf ty)) ∙ fold-roll-Term Draft (draft_step names) (LeafLayer leaf ty)
 
 depth_leaf : (leaf : LeafOf) (ty : LaneType) → depth_of (Leaf leaf ty) ≡ 1
