@@ -17,6 +17,7 @@ use Rattle.pf_terms.specs.declared.draft.Draft.TheVariants.{Number, Named, Place
 use Rattle.pf_terms.specs.declared.draft.Draft.TheOpen.{Draft-F}
 use Rattle.pf_terms.specs.declared.draft.Draft.TheOpen.Draft-F.{Number as NumberLayer, Named as NamedLayer, Placed as PlacedLayer, Node as DraftNodeLayer}
 use Rattle.pf_terms.specs.declared.draft.Draft.TheFolds.{fold-roll-Draft}
+use Rattle.pf_terms.specs.declared.meaning.ReadFault.{ReadFault}
 use Rattle.pf_terms.specs.declared.names.DefName.{DefName}
 use Rattle.pf_terms.specs.declared.names.ImageName.{ImageName}
 use Rattle.pf_terms.specs.declared.names.Names.{Names}
@@ -32,7 +33,7 @@ use Rattle.pf_terms.specs.declared.term.Term.TheOpen.Term-F.{Leaf as LeafLayer, 
 use Rattle.pf_terms.specs.declared.term.Term.TheViews.{roll-Term}
 use Rattle.pf_terms.specs.declared.term.Term.TheFolds.{ind-Term, map-Term}
 use Rattle.pf_terms.specs.KernelNames.{IsNames, IsNear, all_names}
-use Rattle.pf_terms.specs.Meanings.{first_some, unknown_step, first_unknown, is_near, far_step, first_far, tap_at, uses_step, tap_uses, same_tap, with_tap, with_taps, names_after, image_number, def_number, is_image, is_def, tap_number, written_type, node_over, term_step, term_of, Means, IsTermText}
+use Rattle.pf_terms.specs.Meanings.{first_some, unknown_step, first_unknown, is_near, far_step, first_far, tap_at, uses_step, tap_uses, same_tap, with_tap, with_taps, names_after, image_number, def_number, is_image, is_def, tap_number, written_type, node_over, term_step, term_of, Means, IsTermText, IsTermOr}
 use Rattle.pf_terms.specs.Operators.{row_of, int_same}
 use Rattle.pf_terms.specs.ReadBack.{draft_of, leaf_draft, tap_draft, type_beside}
 use Rattle.pf_terms.specs.Terms.{all_true, result_type, stated_type, typing, operand_count, depth_of, IsWellTyped}
@@ -299,3 +300,8 @@ printed_is_read names t all typed has deep =
       spelled = printed_is_draft names t all typed has deep;
       means = draft_means names t (draft_of names t) all typed (term_meant names all t typed has);
     }
+
+-- so a reader that reads what a text means reads a printed term
+pub read_back : (names : Names) (text : List ℕ) (r : Result Term ReadFault) (now : Names) → IsNames names → ((t : Term) (after : Names) → IsTermText names text t after → IsTermOr t after r now) →
+    (t : Term) → IsWellTyped t → is_named names t ≡ true → depth_of t ≤ 1024 → text ≡ term_text names t → IsTermOr t names r now
+read_back names text r now all only t typed has deep is = only t names (subst (λ xs. IsTermText names xs t names) (sym is) (printed_is_read names t all typed has deep))
