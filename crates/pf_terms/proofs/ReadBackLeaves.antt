@@ -1,6 +1,6 @@
 -- A leaf's printed text is the spelling of an atom.
-use Rattle.std.proofs.Common.{◌≡◌, refl, sym, ap, ◌∙◌, subst, ℕ, suc, ◌+◌, ◌^◌, ◌≤◌, ◌<◌, ℤ, pos, negsuc, Bool, true, List, [], ◌∷◌, ◌++◌, length, get_or, map, arith, append_assoc}
-use Rattle.std.specs.Prelude.{All, codes, decimal, int_le, nat_lt, ◌≤ℤ◌, ◌&&◌}
+use Rattle.std.proofs.Common.{◌≡◌, refl, sym, ap, ◌∙◌, ℕ, suc, ◌+◌, ◌<◌, ℤ, pos, negsuc, true, List, [], ◌∷◌, ◌++◌, length, get_or, map, arith, append_assoc}
+use Rattle.std.specs.Prelude.{codes, int_le, ◌≤ℤ◌}
 use Rattle.std.specs.Fmt.{signed_decimal}
 use Rattle.std.proofs.lemmas.Int.{ints}
 use Rattle.std.proofs.lemmas.List.{get_or-map, get_or_append_left, get_or-append-add, length-append, length-map}
@@ -8,7 +8,6 @@ use borrow.Author.Tests.{ltb-true}
 use Rattle.pf_ints.specs.declared.lane.LaneType.{LaneType}
 use Rattle.pf_ints.specs.Lanes.{IsIn, least, greatest}
 use Rattle.pf_ints.specs.Words.{is_name}
-use Rattle.pf_terms.specs.declared.draft.Draft.{Draft}
 use Rattle.pf_terms.specs.declared.draft.Draft.TheVariants.{Number as NumberOf, Named, Placed}
 use Rattle.pf_terms.specs.declared.names.DefName.{DefName}
 use Rattle.pf_terms.specs.declared.names.ImageName.{ImageName}
@@ -19,9 +18,9 @@ use Rattle.pf_terms.specs.declared.term.Leaf.TheVariants.{Tap, Const, Def}
 use Rattle.pf_terms.specs.declared.token.Kind.{Kind}
 use Rattle.pf_terms.specs.declared.token.Kind.TheVariants.{Name, Number, Typed, OpenSquare, CloseSquare, Comma, Minus}
 use Rattle.pf_terms.specs.Drafts.{IsShallow}
-use Rattle.pf_terms.specs.Grammar.{Spells, number, negated, named, placed, IsInteger, plain, minus}
+use Rattle.pf_terms.specs.Grammar.{number, negated, named, placed, IsInteger, plain, minus}
 use Rattle.pf_terms.specs.KernelNames.{IsNames, IsNear, all_names}
-use Rattle.pf_terms.specs.ReadBack.{leaf_draft, tap_draft}
+use Rattle.pf_terms.specs.ReadBack.{leaf_draft}
 use Rattle.pf_terms.specs.Small.{IsSmall}
 use Rattle.pf_terms.specs.Terms.{is_in, is_formed_leaf}
 use Rattle.pf_terms.specs.TermTexts.{leaf_text, placed_text, type_word, is_named_leaf, is_named_tap, no_image, no_tap, no_def}

@@ -1,8 +1,7 @@
 -- What a well-typed term's printed text spells means the term.
-use Rattle.std.proofs.Common.{◌≡◌, ◌≢◌, refl, sym, ap, ◌∙◌, subst, ℕ, ◌+◌, ◌≤◌, ◌<◌, ℤ, pos, Bool, true, false, ◌&&◌, List, [], ◌∷◌, ◌++◌, length, get_or, map, arith, append_assoc, append-nil, eqb-true}
-use Rattle.std.specs.Prelude.{All, Option, Some, None, Result, Ok, int_le, ◌≤ℤ◌, ◌==◌, bytes_eq, nat_lt}
-use Rattle.std.specs.List.{flat_map, list_any, position_or_len}
-use Rattle.std.specs.Option.{option_or}
+use Rattle.std.proofs.Common.{◌≡◌, refl, sym, ap, ◌∙◌, subst, ℕ, ◌+◌, ◌≤◌, ◌<◌, ℤ, pos, Bool, true, false, ◌&&◌, List, [], ◌∷◌, ◌++◌, length, get_or, map, arith, eqb-true}
+use Rattle.std.specs.Prelude.{Option, None, Result, Ok, int_le, ◌≤ℤ◌, ◌==◌, bytes_eq, nat_lt}
+use Rattle.std.specs.List.{flat_map, position_or_len}
 use Rattle.std.proofs.lemmas.Bool.Decides.{Decides-eqb}
 use Rattle.std.proofs.lemmas.Int.{ints}
 use Rattle.std.proofs.lemmas.List.{length-map}
@@ -14,7 +13,6 @@ use borrow.Author.Tests.{ltb-true}
 use Rattle.pf_ints.specs.declared.lane.LaneType.{LaneType}
 use Rattle.pf_terms.specs.declared.draft.Draft.{Draft}
 use Rattle.pf_terms.specs.declared.draft.Draft.TheVariants.{Number, Named, Placed, Node as DraftNode, rolls-Number, rolls-Named, rolls-Placed, rolls-Node as rolls-DraftNode}
-use Rattle.pf_terms.specs.declared.draft.Draft.TheOpen.{Draft-F}
 use Rattle.pf_terms.specs.declared.draft.Draft.TheOpen.Draft-F.{Number as NumberLayer, Named as NamedLayer, Placed as PlacedLayer, Node as DraftNodeLayer}
 use Rattle.pf_terms.specs.declared.draft.Draft.TheFolds.{fold-roll-Draft}
 use Rattle.pf_terms.specs.declared.meaning.ReadFault.{ReadFault}
@@ -32,10 +30,10 @@ use Rattle.pf_terms.specs.declared.term.Term.TheOpen.{Term-F}
 use Rattle.pf_terms.specs.declared.term.Term.TheOpen.Term-F.{Leaf as LeafLayer, Node as NodeLayer}
 use Rattle.pf_terms.specs.declared.term.Term.TheViews.{roll-Term}
 use Rattle.pf_terms.specs.declared.term.Term.TheFolds.{ind-Term, map-Term}
-use Rattle.pf_terms.specs.KernelNames.{IsNames, IsNear, all_names}
+use Rattle.pf_terms.specs.KernelNames.{IsNames, IsNear}
 use Rattle.pf_terms.specs.Meanings.{first_some, unknown_step, first_unknown, is_near, far_step, first_far, tap_at, uses_step, tap_uses, same_tap, with_tap, with_taps, names_after, image_number, def_number, is_image, is_def, tap_number, written_type, node_over, term_step, term_of, Means, IsTermText, IsTermOr}
 use Rattle.pf_terms.specs.Operators.{row_of, int_same}
-use Rattle.pf_terms.specs.ReadBack.{draft_of, leaf_draft, tap_draft, type_beside}
+use Rattle.pf_terms.specs.ReadBack.{draft_of, leaf_draft, type_beside}
 use Rattle.pf_terms.specs.Terms.{all_true, result_type, stated_type, typing, operand_count, depth_of, IsWellTyped}
 use Rattle.pf_terms.specs.TermTexts.{term_text, spelling_of, is_named, is_named_leaf, is_named_tap, no_image, no_tap, no_def}
 use Rattle.pf_terms.proofs.NodeRanges.{judged, same_type_is}

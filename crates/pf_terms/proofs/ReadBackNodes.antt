@@ -1,6 +1,6 @@
 -- A node's printed text is the spelling of an atom, where its operands' texts are.
-use Rattle.std.proofs.Common.{◌≡◌, refl, sym, ap, ◌∙◌, subst, ℕ, ◌+◌, ◌-◌, ◌^◌, ◌≤◌, ◌<◌, pos, Bool, true, false, List, [], ◌∷◌, ◌++◌, length, arith, append_assoc}
-use Rattle.std.specs.Prelude.{codes, decimal, Option, Some, None}
+use Rattle.std.proofs.Common.{◌≡◌, refl, subst, ℕ, ◌+◌, ◌-◌, ◌^◌, ◌≤◌, ◌<◌, pos, true, false, List, [], ◌∷◌, ◌++◌, length, arith, append_assoc}
+use Rattle.std.specs.Prelude.{codes, decimal, Some, None}
 use Rattle.std.specs.List.{list_all}
 use Rattle.pf_ints.specs.declared.lane.LaneType.{LaneType}
 use Rattle.pf_ints.specs.Words.{is_name_byte}
@@ -8,12 +8,11 @@ use Rattle.pf_terms.specs.declared.draft.Draft.{Draft}
 use Rattle.pf_terms.specs.declared.draft.Draft.TheVariants.{Node}
 use Rattle.pf_terms.specs.declared.op.Op.{Op}
 use Rattle.pf_terms.specs.declared.op.Op.TheVariants.{Cast}
-use Rattle.pf_terms.specs.declared.symbol.CallShape.{CallShape}
 use Rattle.pf_terms.specs.declared.symbol.CallShape.TheVariants.{One, Two, OneAndAmount, TwoAndAmount, TypeAndOne}
 use Rattle.pf_terms.specs.declared.token.Kind.{Kind}
 use Rattle.pf_terms.specs.declared.token.Kind.TheVariants.{TypeWord, Number, Word, Choose, Open, Close, Comma}
 use Rattle.pf_terms.specs.Drafts.{bracket_limit, IsShallow}
-use Rattle.pf_terms.specs.Grammar.{Rank, Atoms, Whole, Spells, cast, one, two, one_by, two_by, typed, chosen, bracketed as in_brackets, alone, term, unshifted, IsComparison, over, call_shape}
+use Rattle.pf_terms.specs.Grammar.{Atoms, Whole, Spells, cast, one, two, one_by, two_by, typed, chosen, bracketed as in_brackets, alone, term, unshifted, IsComparison, over, call_shape}
 use Rattle.pf_terms.specs.Terms.{greatest_of}
 use Rattle.pf_terms.specs.TermTexts.{type_word, called, bracketed, signed_by, op_word, spelling_of}
 use Rattle.pf_terms.specs.Tokens.{IsNoRun, is_word_spelling}

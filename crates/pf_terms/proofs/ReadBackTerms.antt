@@ -1,6 +1,6 @@
 -- A well-typed term's printed text is the spelling of an expression.
-use Rattle.std.proofs.Common.{◌≡◌, refl, sym, ap, ◌∙◌, subst, ℕ, zero, suc, ◌+◌, ◌^◌, ◌≤◌, ◌<◌, pos, lit<, Bool, true, false, ◌&&◌, List, [], ◌∷◌, ◌++◌, length, map, arith, append-nil}
-use Rattle.std.specs.Prelude.{All, codes, Option, Some, None, Result, Ok, nat_le}
+use Rattle.std.proofs.Common.{◌≡◌, refl, sym, ap, ◌∙◌, subst, ℕ, ◌+◌, ◌^◌, ◌≤◌, ◌<◌, pos, Bool, true, false, List, [], ◌∷◌, ◌++◌, length, map, arith, append-nil}
+use Rattle.std.specs.Prelude.{codes, Option, None, nat_le}
 use Rattle.std.specs.List.{list_all}
 use borrow.Author.Tests.{leb-true}
 use Rattle.pf_ints.specs.declared.lane.LaneType.{LaneType}
@@ -24,7 +24,7 @@ use Rattle.pf_terms.specs.declared.term.Term.TheOpen.Term-F.{Leaf as LeafLayer, 
 use Rattle.pf_terms.specs.declared.term.Term.TheViews.{roll-Term}
 use Rattle.pf_terms.specs.declared.term.Term.TheFolds.{fold-roll-Term, ind-Term, map-Term}
 use Rattle.pf_terms.specs.declared.token.Kind.{Kind}
-use Rattle.pf_terms.specs.declared.token.Kind.TheVariants.{Number, Plus, Minus, Times, Less, Greater, Same, ShiftLeft as LeftSign, ShiftRight as RightSign}
+use Rattle.pf_terms.specs.declared.token.Kind.TheVariants.{Number, Plus, Minus, Times, Greater, Same, ShiftLeft as LeftSign, ShiftRight as RightSign}
 use Rattle.pf_terms.specs.Drafts.{bracket_limit, IsShallow, IsDraftText}
 use Rattle.pf_terms.specs.Grammar.{Atoms, Whole, Spells, sum, difference, product, left, right, alone, term, unshifted, greater, same, over, call_shape}
 use Rattle.pf_terms.specs.KernelNames.{IsNames}

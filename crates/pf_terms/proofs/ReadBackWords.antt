@@ -1,6 +1,6 @@
 -- The numbers and the words of a printed text as tokens.
-use Rattle.std.proofs.Common.{◌≡◌, refl, sym, ap, ◌∙◌, subst, ℕ, zero, suc, ◌+◌, ◌*◌, ◌-◌, ◌^◌, ◌≤◌, ◌<◌, ℤ, pos, Bool, true, false, ◌&&◌, List, [], ◌∷◌, ◌++◌, length, get_or, arith, rules}
-use Rattle.std.specs.Prelude.{All, codes, decimal, nat_le, not}
+use Rattle.std.proofs.Common.{◌≡◌, refl, sym, ap, ℕ, zero, suc, ◌^◌, ◌≤◌, ◌<◌, pos, Bool, true, false, ◌&&◌, List, [], ◌∷◌, ◌++◌, length, arith, rules}
+use Rattle.std.specs.Prelude.{All, decimal, nat_le, not}
 use Rattle.std.specs.Fmt.{digits}
 use Rattle.std.specs.List.{list_all}
 use Rattle.std.proofs.lemmas.Bool.Decides.{nat_tests}
@@ -16,8 +16,7 @@ use Rattle.pf_terms.specs.declared.token.Kind.{Kind}
 use Rattle.pf_terms.specs.declared.token.Kind.TheVariants.{Name, TypeWord, Number, Typed}
 use Rattle.pf_terms.specs.Terms.{typed_as}
 use Rattle.pf_terms.specs.TermTexts.{type_word}
-use Rattle.pf_terms.specs.Tokens.{digits_behind, IsNumber, IsNoRun, IsRun}
-use Rattle.pf_terms.proofs.Lexing.{spelled_word}
+use Rattle.pf_terms.specs.Tokens.{digits_behind, IsNumber, IsNoRun}
 use Rattle.pf_terms.proofs.ReadBackTexts.{Reads, reads_run}
 use Rattle.pf_terms.proofs.Typing.{and_left, and_right}
 

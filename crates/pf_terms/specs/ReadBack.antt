@@ -1,5 +1,5 @@
 -- The expression that a term's printed text spells.
-use Rattle.std.specs.Prelude.{ℕ, pos, false, List, Option, Some, None, slice_index_or}
+use Rattle.std.specs.Prelude.{pos, false, List, Option, Some, None, slice_index_or}
 use Rattle.pf_ints.specs.declared.lane.LaneType.{LaneType}
 use Rattle.pf_terms.specs.declared.draft.Draft.{Draft}
 use Rattle.pf_terms.specs.declared.draft.Draft.TheVariants.{Number, Named, Placed, Node as DraftNode}
