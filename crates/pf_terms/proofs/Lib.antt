@@ -19,3 +19,4 @@ pub mod ReadBackNodes
 pub mod ReadBackLeaves
 pub mod ReadBackTerms
 pub mod ReadBackMeanings
+pub mod NoNames
