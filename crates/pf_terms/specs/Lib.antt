@@ -12,4 +12,5 @@ pub mod Drafts
 pub mod Reading
 pub mod KernelNames
 pub mod Meanings
+pub mod Building
 pub mod ReadBack
