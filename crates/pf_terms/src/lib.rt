@@ -22,6 +22,8 @@ mod stack;
 mod symbol;
 mod table;
 mod term;
+#[cfg(test)]
+mod tests;
 mod token;
 mod types;
 #[cfg(test)]
