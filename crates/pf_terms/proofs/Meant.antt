@@ -1,6 +1,6 @@
 -- What follows where a draft has a meaning, and where it has none.
 use Rattle.std.proofs.Common.{◌≡◌, sym, ap, ◌∙◌, subst, ℕ, ◌+◌, ◌-◌, ◌<◌, ◌≤◌, arith, true, List, [], ◌∷◌, length, get_or, drop, take, length-drop, inl, inr}
-use Rattle.std.specs.Prelude.{◌⊎◌, All, Option, Some, None, Result, Ok, Err, IfOk, IfErr, slice_get}
+use Rattle.std.specs.Prelude.{◌⊎◌, All, Option, Some, None, Result, Ok, Err, IfOk, IfErr, OnOk, OnErr, slice_get}
 use Rattle.std.proofs.lemmas.Option.{slice_get_cases}
 use Rattle.pf_terms.specs.declared.draft.Draft.{Draft}
 use Rattle.pf_terms.specs.declared.draft.DraftFault.{DraftFault}
@@ -189,3 +189,8 @@ refusal_within text (NoSyntax b) at e h =
     let same : b ≡ at = cc in
     subst (λ n. n ≤ length text) same (fault_within text b h)
 refusal_within text NoMemory at e h = absurd (cc)
+
+-- whatever the answer, the names are such as a kernel may have
+pub names_either : (old now : Names) (r : Result Term ReadFault) → IsNames old → OnOk r (IsNames now) → OnErr r (now ≡ old) → IsNames now
+names_either old now (Ok u) n h k = h
+names_either old now (Err f) n h k = subst IsNames (sym k) n

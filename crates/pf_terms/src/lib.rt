@@ -13,6 +13,8 @@ mod names;
 mod op;
 mod print;
 mod read;
+#[cfg(test)]
+mod read_tests;
 mod reader;
 mod resolve;
 mod row;
