@@ -13,3 +13,4 @@ pub mod Reading
 pub mod KernelNames
 pub mod Meanings
 pub mod Building
+pub mod ReadBack
