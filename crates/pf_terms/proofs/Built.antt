@@ -1,11 +1,11 @@
 -- A node that is built over its operands.
 use Rattle.std.proofs.Common.{◌≡◌, sym, ap, ◌∙◌, subst, ℕ, ◌+◌, ◌<◌, ◌≤◌, Bool, false, ℤ, pos, List, [], ◌∷◌, ◌++◌, length, map, get_or, drop, take, arith}
-use Rattle.std.specs.Prelude.{Option, Some, None, Result, Ok, Err, unsigned_abs}
+use Rattle.std.specs.Prelude.{Option, Some, None, Result, Ok, Err, unsigned_abs, slice_index_or}
 use Rattle.std.proofs.lemmas.List.{length-map, drop_all, take_more, take_all}
 use Rattle.pf_ints.specs.declared.lane.LaneType.{LaneType}
 use Rattle.pf_ints.specs.Lanes.{lane_width}
 use Rattle.pf_terms.specs.declared.draft.Draft.{Draft}
-use Rattle.pf_terms.specs.declared.draft.Draft.TheVariants.{Node}
+use Rattle.pf_terms.specs.declared.draft.Draft.TheVariants.{Node, Placed}
 use Rattle.pf_terms.specs.declared.fault.TermFault.{TermFault}
 use Rattle.pf_terms.specs.declared.fault.TermFault.TheVariants.{Types as TypesAt, Amount as AmountAt}
 use Rattle.pf_terms.specs.declared.meaning.ReadFault.{ReadFault}
@@ -14,12 +14,15 @@ use Rattle.pf_terms.specs.declared.names.Names.{Names}
 use Rattle.pf_terms.specs.declared.op.Op.{Op}
 use Rattle.pf_terms.specs.declared.row.Operands.{Operands}
 use Rattle.pf_terms.specs.declared.row.Operands.TheVariants.{One, OneSigned, Alike, Narrow, WideFirst, Choice}
+use Rattle.pf_terms.specs.declared.term.Leaf.TheVariants.{Tap as TapOf}
 use Rattle.pf_terms.specs.declared.term.Term.{Term}
-use Rattle.pf_terms.specs.declared.term.Term.TheVariants.{Node as NodeTerm}
+use Rattle.pf_terms.specs.declared.term.Term.TheVariants.{Leaf, Node as NodeTerm}
 use Rattle.pf_terms.specs.Operators.{Row, row_of}
 use Rattle.pf_terms.specs.Building.{IsNodeFault, IsFound, place_in_order}
-use Rattle.pf_terms.specs.Meanings.{in_order, term_of, node_over, written_type}
+use Rattle.pf_terms.specs.Meanings.{in_order, term_of, node_over, written_type, tap_at, tap_number, image_number}
 use Rattle.pf_terms.specs.Terms.{node_type, type_fault, is_amount, first_width, unless_differs, operand_count, typing, types_from, then_node, fault_below, result_type, stated_type}
+use Rattle.pf_terms.specs.TermTexts.{no_image}
+use Rattle.pf_terms.proofs.DraftForms.{term_placed}
 use Rattle.pf_terms.proofs.NodeParts.{typing_is}
 use Rattle.pf_terms.proofs.Typing.{behind, stopped, gather, gathered}
 use Rattle.pf_terms.proofs.TermRanges.{typing_stated, gathered_types, first_type}
@@ -150,3 +153,10 @@ made_more names less xs n x before now t pair below at is so_far more =
     let all = in_order less (map (term_of names) xs) in
     let long : length all ≡ length xs = length_in_order less (map (term_of names) xs) ∙ length-map xs (term_of names) in
     more ∙ ap (λ ys. ys ++ t ∷ []) so_far ∙ ap (λ y. take n all ++ y ∷ []) (is ∙ sym (get_operand (term_of names) less xs n x (term_of names x) pair below at)) ∙ sym (take_more all n (term_of names x) (omega (arith, long)))
+
+-- a tap as it is made
+pub placed_made : (names : Names) (d : Draft) (s : List ℕ) (dx dy a b : ℤ) (t : Term) → d ≡ Placed s dx dy → a ≡ dx → b ≡ dy →
+    t ≡ Leaf (TapOf (tap_number names.taps (tap_at names.images s a b))) (slice_index_or names.images (image_number names.images s) no_image).ty → t ≡ term_of names d
+placed_made names d s dx dy a b t is across down made =
+    let leaf = λ (x y : ℤ). Leaf (TapOf (tap_number names.taps (tap_at names.images s x y))) (slice_index_or names.images (image_number names.images s) no_image).ty in
+    made ∙ ap (λ x. leaf x b) across ∙ ap (leaf dx) down ∙ sym (ap (term_of names) is ∙ term_placed names s dx dy)

@@ -1,7 +1,9 @@
 ghost use Rattle.std.specs.Prelude.{◌≡◌, ◌≤◌, ◌+◌, length, true, unsigned_abs, slice_index_or, List, IfOk, IsTrue, ◌<◌};
 ghost use Rattle.pf_terms.specs.declared.names.Tap.{Tap};
+ghost use Rattle.pf_terms.specs.declared.term.Leaf.TheVariants.{Tap as TapOf, Def};
+ghost use Rattle.pf_terms.specs.declared.term.Term.TheVariants.{Leaf as LeafTerm};
 ghost use Rattle.pf_terms.specs.Building.{is_formed_draft, with_these, IsFound, IsBuilt};
-ghost use Rattle.pf_terms.specs.Meanings.{term_of, image_number, def_number, written_type};
+ghost use Rattle.pf_terms.specs.Meanings.{term_of, image_number, def_number, tap_at, tap_number, written_type};
 ghost use Rattle.pf_terms.specs.Operators.{row_of};
 ghost use Rattle.pf_terms.specs.Terms.{operand_count, node_type, result_type, typing, stated_type, is_amount};
 ghost use Rattle.pf_terms.specs.TermTexts.{no_image, no_def};
@@ -44,21 +46,8 @@ pub fn resolved(
             leaf: Leaf::Const(*n),
             ty: *ty,
         }),
-        Draft::Named(name) => {
-            let n = def_number(&names.defs, name);
-            Ok(Term::Leaf {
-                leaf: Leaf::Def(n as u8),
-                ty: def_type(&names.defs, n),
-            })
-        }
-        Draft::Placed(name, dx, dy) => {
-            let image = image_number(&names.images, name);
-            let spot = Spot::new(image as u8, *dx, *dy);
-            Ok(Term::Leaf {
-                leaf: Leaf::Tap(spot_number(taps, spot) as u8),
-                ty: image_type(&names.images, image),
-            })
-        }
+        Draft::Named(name) => Ok(definition(&names.defs, name)),
+        Draft::Placed(name, dx, dy) => Ok(tap(&names.images, taps, name, *dx, *dy)),
         Draft::Node {
             op,
             less,
@@ -82,6 +71,30 @@ pub fn resolved(
                 args,
             })
         }
+    }
+}
+
+fn definition(defs: &DefNames, name: &Name) -> Term
+    requires few { length defs.now ≤ 64 }
+    ensures { result ≡ LeafTerm (Def (def_number defs.now name.now)) (slice_index_or defs.now (def_number defs.now name.now) no_def).ty }
+{
+    let n = def_number(defs, name);
+    Term::Leaf {
+        leaf: Leaf::Def(n as u8),
+        ty: def_type(defs, n),
+    }
+}
+
+fn tap(images: &ImageNames, taps: &[Spot], name: &Name, dx: i64, dy: i64) -> Term
+    requires few_images { length images.now ≤ 8 }
+    requires few_taps { length taps.now ≤ 64 }
+    ensures { result ≡ LeafTerm (TapOf (tap_number taps.now (tap_at images.now name.now dx dy))) (slice_index_or images.now (image_number images.now name.now) no_image).ty }
+{
+    let image = image_number(images, name);
+    let spot = Spot::new(image as u8, dx, dy);
+    Term::Leaf {
+        leaf: Leaf::Tap(spot_number(taps, spot) as u8),
+        ty: image_type(images, image),
     }
 }
 
