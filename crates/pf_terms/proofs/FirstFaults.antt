@@ -1,5 +1,5 @@
 -- The first token that doesn't fit is the first fault.
-use Rattle.std.proofs.Common.{◌≡◌, refl, sym, ap, ◌∙◌, subst, ℕ, ◌+◌, ◌≤◌, ◌<◌, Bool, true, false, List, [], ◌∷◌, ◌++◌, length, take, get_or, append_assoc, append-nil, arith, inl, inr, ltb-true, ltb-false, lt-ltb, ◌-◌, drop}
+use Rattle.std.proofs.Common.{◌≡◌, refl, sym, ap, ◌∙◌, subst, ℕ, ◌+◌, ◌≤◌, ◌<◌, Bool, true, false, List, [], ◌∷◌, ◌++◌, length, take, get_or, append_assoc, append-nil, arith, inl, inr, ltb-true, ltb-false, lt-ltb, ◌-◌, drop, take-take}
 use Rattle.std.specs.Prelude.{Option, Some, None, if◌then◌else◌, nat_lt, ◌⊎◌}
 use Rattle.std.proofs.lemmas.List.{take_more, take_all, take-append-drop}
 use Rattle.pf_terms.specs.declared.symbol.Symbol.{Symbol}
@@ -131,3 +131,25 @@ no_fault ks n d h shallow f = by (nat_lt n (length ks)) refl where
       let parts : take (n + 1) ks ++ drop (n + 1) ks ≡ ks = take-append-drop (n + 1) ks in
       f.fault (ltb-true n (length ks) is) (drop (n + 1) ks, (d, subst (λ l. Spells Whole l d) (sym parts) h)) (shallow_front 0 (take (n + 1) ks) (drop (n + 1) ks) (subst (IsShallow 0) (sym parts) shallow))
   by false is = let past : length ks ≤ n = ltb-false n (length ks) is in f.end (omega (arith, f.within)) (d, h)
+
+-- what begins so, begins with less of it too
+begun_front : (a b : List Kind) → IsBegun (a ++ b) → IsBegun a
+begun_front a b h = (b ++ h.0, (h.1.0, subst (λ l. Spells Whole l h.1.0) (append_assoc a b h.0) h.1.1))
+
+-- a fault comes behind no other
+not_later : (ks : List Kind) (m n : ℕ) → IsFirstFault ks m → IsFirstFault ks n → m < n → ⊥
+not_later ks m n f g below =
+    let parts : take n ks ≡ take (m + 1) ks ++ drop (m + 1) (take n ks) =
+    sym (take-append-drop (m + 1) (take n ks)) ∙ ap (λ l. l ++ drop (m + 1) (take n ks)) (take-take (m + 1) n ks (omega arith)) in
+    f.fault (omega (arith, g.within)) (begun_front (take (m + 1) ks) (drop (m + 1) (take n ks)) (subst IsBegun parts g.begun))
+    (shallow_front 0 (take (m + 1) ks) (drop (m + 1) (take n ks)) (subst (IsShallow 0) parts g.shallow))
+
+one_size : (m n : ℕ) → (m < n → ⊥) → (n < m → ⊥) → m ≡ n
+one_size m n a b = by (nat_lt m n) (nat_lt n m) refl refl where
+  by : (t u : Bool) → nat_lt m n ≡ t → nat_lt n m ≡ u → m ≡ n
+  by true u e f = absurd (a (ltb-true m n e))
+  by false true e f = absurd (b (ltb-true n m f))
+  by false false e f = omega (arith, ltb-false m n e, ltb-false n m f)
+
+pub one_fault : (ks : List Kind) (m n : ℕ) → IsFirstFault ks m → IsFirstFault ks n → m ≡ n
+one_fault ks m n f g = one_size m n (not_later ks m n f g) (not_later ks n m g f)

@@ -83,3 +83,9 @@ IsDraftOr d (Err (Syntax at)) = ⊥
 abbrev pub IsRefusal : List ℕ → DraftFault → Type 0
 IsRefusal text (Syntax at) = IsSyntaxFault text at
 IsRefusal text Memory = Unit {0}
+
+-- the answer is a fault at this place, or memory was wanting
+abbrev pub IsSyntaxOr : ℕ → Result Draft DraftFault → Type 0
+IsSyntaxOr place (Ok d) = ⊥
+IsSyntaxOr place (Err Memory) = Unit {0}
+IsSyntaxOr place (Err (Syntax at)) = at ≡ place

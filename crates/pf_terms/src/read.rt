@@ -1,7 +1,7 @@
-ghost use Rattle.std.specs.Prelude.{◌≡◌, true, All, IfOk, IfErr};
+ghost use Rattle.std.specs.Prelude.{◌≡◌, ℕ, true, All, IfOk, IfErr};
 ghost use Rattle.pf_terms.specs.declared.draft.Draft.{Draft};
 ghost use Rattle.pf_terms.specs.Parsing.{is_unsigned, place_of};
-ghost use Rattle.pf_terms.specs.Drafts.{IsDraftText, IsDraftOr, IsRefusal};
+ghost use Rattle.pf_terms.specs.Drafts.{IsDraftText, IsDraftOr, IsSyntaxFault, IsSyntaxOr, IsRefusal};
 ghost use Rattle.pf_terms.specs.Reading.{fault_place, IsDraftOf, IsRefusalOf};
 
 use crate::draft::{Draft, DraftFault};
@@ -23,6 +23,8 @@ pub fn read_draft(alloc: Global, text: &[u8]) -> Result<Draft, DraftFault>
     ensures only { (d : Draft) → IsDraftText text.now d → IsDraftOr d result }
     // A fault stands where it is told.
     ensures fault { IfErr result (IsRefusal text.now) }
+    // Where a fault stands, it is told, unless memory runs out.
+    ensures told { (at : ℕ) → IsSyntaxFault text.now at → IsSyntaxOr at result }
 {
     let tokens = tokens(alloc, text)?;
     read_tokens(alloc, tokens.as_slice())
