@@ -10,7 +10,6 @@ ghost use Rattle.pf_terms.specs.TermTexts.{no_image, no_def};
 
 use crate::draft::Draft;
 use crate::lookup::{def_number, image_number};
-use crate::meaning::ReadFault;
 use crate::names::{DefNames, ImageNames, Names};
 use crate::op::Op;
 use crate::spots::{Spot, place_in_order, spot_number};
@@ -18,7 +17,35 @@ use crate::term::{Leaf, Term};
 use crate::types::{is_amount, result_type, type_fault};
 use pf_ints::{Bits, LaneType, Name};
 use sqlite_items::Items;
-use std::alloc::Global;
+use std::alloc::{AllocError, AllocFailed, Global};
+
+/// Why a node has no type. It is small, since each node of a long chain has one on the stack.
+#[derive(Clone, Copy, Debug)]
+pub enum NodeFault {
+    Types { want: LaneType, got: LaneType },
+    Amount { amount: u64 },
+    Memory,
+}
+
+impl From<AllocError> for NodeFault {
+    ghost use Rattle.pf_terms.specs.declared.resolve.NodeFault.TheVariants.{Memory};
+
+    ghost from_gives = { λ _ e. e ≡ Memory };
+
+    fn from(_error: AllocError) -> NodeFault {
+        NodeFault::Memory
+    }
+}
+
+impl<T: Drop> From<AllocFailed<T>> for NodeFault {
+    ghost use Rattle.pf_terms.specs.declared.resolve.NodeFault.TheVariants.{Memory};
+
+    ghost from_gives = { λ _ e. e ≡ Memory };
+
+    fn from(_error: AllocFailed<T>) -> NodeFault {
+        NodeFault::Memory
+    }
+}
 
 // The type of what has no entry.
 const NO_TYPE: LaneType = LaneType {
@@ -33,7 +60,7 @@ pub fn resolved(
     draft: &Draft,
     names: &Names,
     taps: &[Spot],
-) -> Result<Term, ReadFault>
+) -> Result<Term, NodeFault>
     requires formed { is_formed_draft draft.now ≡ true }
     requires few_defs { length names.now.defs ≤ 64 }
     requires few_taps { length taps.now ≤ 64 }
@@ -133,22 +160,20 @@ fn node_type(
     ty: Option<LaneType>,
     k: i64,
     types: &[LaneType],
-) -> Result<LaneType, ReadFault>
+) -> Result<LaneType, NodeFault>
     requires { length types.now ≡ operand_count (row_of op).operands }
     ensures found { IsFound (node_type (row_of op) (result_type (row_of op).gives (written_type ty) types.now) (unsigned_abs k) types.now) result }
     ensures small { IfOk result (λ t. (unsigned_abs k < 64) × (t ≡ result_type (row_of op).gives (written_type ty) types.now)) }
 {
     let ty = result_type(op.gives(), ty.unwrap_or(NO_TYPE), types);
     if let Some((want, got)) = type_fault(op, ty, types) {
-        return Err(ReadFault::Types { want, got });
+        return Err(NodeFault::Types { want, got });
     }
     let amount = k.unsigned_abs();
     if takes(op, types[0].width(), amount) {
         Ok(ty)
     } else {
-        Err(ReadFault::Amount {
-            amount: amount as i128,
-        })
+        Err(NodeFault::Amount { amount })
     }
 }
 
