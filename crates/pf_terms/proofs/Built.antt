@@ -1,25 +1,28 @@
 -- A node that is built over its operands.
 use Rattle.std.proofs.Common.{◌≡◌, sym, ap, ◌∙◌, subst, ℕ, ◌+◌, ◌<◌, ◌≤◌, Bool, false, ℤ, pos, List, [], ◌∷◌, ◌++◌, length, map, get_or, drop, take, arith}
-use Rattle.std.specs.Prelude.{Option, Some, None, Result, Ok, Err, unsigned_abs}
+use Rattle.std.specs.Prelude.{Option, Some, None, Result, Ok, Err, unsigned_abs, slice_index_or}
 use Rattle.std.proofs.lemmas.List.{length-map, drop_all, take_more, take_all}
 use Rattle.pf_ints.specs.declared.lane.LaneType.{LaneType}
 use Rattle.pf_ints.specs.Lanes.{lane_width}
 use Rattle.pf_terms.specs.declared.draft.Draft.{Draft}
-use Rattle.pf_terms.specs.declared.draft.Draft.TheVariants.{Node}
+use Rattle.pf_terms.specs.declared.draft.Draft.TheVariants.{Node, Placed}
 use Rattle.pf_terms.specs.declared.fault.TermFault.{TermFault}
 use Rattle.pf_terms.specs.declared.fault.TermFault.TheVariants.{Types as TypesAt, Amount as AmountAt}
-use Rattle.pf_terms.specs.declared.meaning.ReadFault.{ReadFault}
-use Rattle.pf_terms.specs.declared.meaning.ReadFault.TheVariants.{Syntax, Name, Types, Amount, Limit, Memory}
+use Rattle.pf_terms.specs.declared.resolve.NodeFault.{NodeFault}
+use Rattle.pf_terms.specs.declared.resolve.NodeFault.TheVariants.{Types, Amount, Memory}
 use Rattle.pf_terms.specs.declared.names.Names.{Names}
 use Rattle.pf_terms.specs.declared.op.Op.{Op}
 use Rattle.pf_terms.specs.declared.row.Operands.{Operands}
 use Rattle.pf_terms.specs.declared.row.Operands.TheVariants.{One, OneSigned, Alike, Narrow, WideFirst, Choice}
+use Rattle.pf_terms.specs.declared.term.Leaf.TheVariants.{Tap as TapOf}
 use Rattle.pf_terms.specs.declared.term.Term.{Term}
-use Rattle.pf_terms.specs.declared.term.Term.TheVariants.{Node as NodeTerm}
+use Rattle.pf_terms.specs.declared.term.Term.TheVariants.{Leaf, Node as NodeTerm}
 use Rattle.pf_terms.specs.Operators.{Row, row_of}
 use Rattle.pf_terms.specs.Building.{IsNodeFault, IsFound, place_in_order}
-use Rattle.pf_terms.specs.Meanings.{in_order, term_of, node_over, written_type}
+use Rattle.pf_terms.specs.Meanings.{in_order, term_of, node_over, written_type, tap_at, tap_number, image_number}
 use Rattle.pf_terms.specs.Terms.{node_type, type_fault, is_amount, first_width, unless_differs, operand_count, typing, types_from, then_node, fault_below, result_type, stated_type}
+use Rattle.pf_terms.specs.TermTexts.{no_image}
+use Rattle.pf_terms.proofs.DraftForms.{term_placed}
 use Rattle.pf_terms.proofs.NodeParts.{typing_is}
 use Rattle.pf_terms.proofs.Typing.{behind, stopped, gather, gathered}
 use Rattle.pf_terms.proofs.TermRanges.{typing_stated, gathered_types, first_type}
@@ -31,13 +34,13 @@ pub types_told : (r : Row) (ty u : LaneType) (k : ℕ) (ts : List LaneType) (o :
 types_told r ty u k ts o want got e h is =
     ([], ap (λ v. node_type r v k ts) (sym e) ∙ ap (λ q. unless_differs q (is_amount r.amounts (first_width ts) k) u k) (sym h ∙ is))
 
-pub amount_told : (r : Row) (ty u : LaneType) (k : ℕ) (ts : List LaneType) (o : Option (LaneType × LaneType)) (fits : Bool) (w m : ℕ) (a : ℤ) → u ≡ ty → o ≡ type_fault r u ts → o ≡ None → fits ≡ is_amount r.amounts w m → fits ≡ false → w ≡ first_width ts → m ≡ k → a ≡ pos k →
-    (path : List ℕ) × (node_type r ty k ts ≡ Err (AmountAt path a))
-amount_told r ty u k ts o fits w m a e h is told none wide same amount = (
+pub amount_told : (r : Row) (ty u : LaneType) (k : ℕ) (ts : List LaneType) (o : Option (LaneType × LaneType)) (fits : Bool) (w m : ℕ) → u ≡ ty → o ≡ type_fault r u ts → o ≡ None → fits ≡ is_amount r.amounts w m → fits ≡ false → w ≡ first_width ts → m ≡ k →
+    (path : List ℕ) × (node_type r ty k ts ≡ Err (AmountAt path (pos m)))
+amount_told r ty u k ts o fits w m e h is told none wide same = (
   [],
   ap (λ v. node_type r v k ts) (sym e) ∙ ap (λ q. unless_differs q (is_amount r.amounts (first_width ts) k) u k) (sym h ∙ is)
       ∙ ap (λ b. unless_differs None b u k) (ap (λ v. is_amount r.amounts v k) (sym wide) ∙ ap (is_amount r.amounts w) (sym same) ∙ sym told ∙ none)
-      ∙ ap (λ n. Err (AmountAt [] n)) (sym amount),
+      ∙ ap (λ n. Err (AmountAt [] (pos n))) (sym same),
 )
 
 pub some_operands : (o : Operands) → 1 ≤ operand_count o
@@ -53,7 +56,7 @@ first_wide [] d w n h some is = absurd (omega (arith, h, some))
 first_wide (t ∷ ts) d w n h some is = is
 
 -- the fault of an operand is the node's
-pub fault_up : (op : Op) (ty : LaneType) (k : ℕ) (args : List Term) (x : Term) (ts : List LaneType) (n : ℕ) (rest : List Term) (f : ReadFault) → drop n args ≡ x ∷ rest →
+pub fault_up : (op : Op) (ty : LaneType) (k : ℕ) (args : List Term) (x : Term) (ts : List LaneType) (n : ℕ) (rest : List Term) (f : NodeFault) → drop n args ≡ x ∷ rest →
     behind ts (types_from n (map typing (drop n args))) ≡ types_from 0 (map typing args) →
     IsNodeFault (typing x) f → IsNodeFault (typing (NodeTerm op ty k args)) f
 fault_up op ty k args x ts n rest f here onward h = by f h where
@@ -63,13 +66,10 @@ fault_up op ty k args x ts n rest f here onward h = by f h where
       ap (λ y. behind ts (types_from n (y ∷ map typing rest))) (sym r) ∙ ap (λ ys. behind ts (types_from n (map typing ys))) (sym here) ∙ onward in
       typing_is op ty k args ∙ ap (then_node (row_of op) ty k) (sym (stopped ts e n (map typing rest) (types_from 0 (map typing args)) first))
 
-  by : (f : ReadFault) → IsNodeFault (typing x) f → IsNodeFault (typing (NodeTerm op ty k args)) f
+  by : (f : NodeFault) → IsNodeFault (typing x) f → IsNodeFault (typing (NodeTerm op ty k args)) f
   by (Types want got) (path, r) = (n ∷ path, up (TypesAt path want got) r)
-  by (Amount a) (path, r) = (n ∷ path, up (AmountAt path a) r)
+  by (Amount a) (path, r) = (n ∷ path, up (AmountAt path (pos a)) r)
   by Memory r = tt
-  by (Syntax c) r = absurd r
-  by (Name s) r = absurd r
-  by (Limit w c) r = absurd r
 
 types_stated : (ts : List Term) (n : ℕ) (us : List LaneType) → types_from n (map typing ts) ≡ Ok us → us ≡ map stated_type ts
 types_stated [] n us h = cc
@@ -112,7 +112,7 @@ types_more names less xs ts n x t all pair below at type onward =
     ∙ ap (λ ys. behind ts (types_from n (map typing ys))) (sym (operand_at (term_of names) less xs n x pair below at)) ∙ onward)
 
 -- an operand's fault is the node's
-pub operand_fault : (names : Names) (d : Draft) (op : Op) (less : Bool) (ty : Option LaneType) (k : ℤ) (args xs : List Draft) (ts : List LaneType) (n : ℕ) (x : Draft) (f : ReadFault) → d ≡ Node op less ty k args → xs ≡ args →
+pub operand_fault : (names : Names) (d : Draft) (op : Op) (less : Bool) (ty : Option LaneType) (k : ℤ) (args xs : List Draft) (ts : List LaneType) (n : ℕ) (x : Draft) (f : NodeFault) → d ≡ Node op less ty k args → xs ≡ args →
     HasPair less (length xs) → n < length xs → x ≡ get_or xs (place_in_order less n) x →
     behind ts (types_from n (map typing (drop n (in_order less (map (term_of names) xs))))) ≡ types_from 0 (map typing (in_order less (map (term_of names) xs))) →
     IsNodeFault (typing (term_of names x)) f → IsNodeFault (typing (term_of names d)) f
@@ -124,7 +124,7 @@ operand_fault names d op less ty k args xs ts n x f is same pair below at onward
     (operand_at (term_of names) less xs n x pair below at) onward h)
 
 -- a node's own fault
-pub own_fault : (told found : Result LaneType TermFault) (r : Result LaneType ReadFault) (f : ReadFault) → told ≡ found → r ≡ Err f → IsFound found r → IsNodeFault told f
+pub own_fault : (told found : Result LaneType TermFault) (r : Result LaneType NodeFault) (f : NodeFault) → told ≡ found → r ≡ Err f → IsFound found r → IsNodeFault told f
 own_fault told found r f same is h = subst (λ v. IsNodeFault v f) (sym same) (by (subst (IsFound found) is h)) where
   by : IsNodeFault found f → IsNodeFault found f
   by g = g
@@ -150,3 +150,10 @@ made_more names less xs n x before now t pair below at is so_far more =
     let all = in_order less (map (term_of names) xs) in
     let long : length all ≡ length xs = length_in_order less (map (term_of names) xs) ∙ length-map xs (term_of names) in
     more ∙ ap (λ ys. ys ++ t ∷ []) so_far ∙ ap (λ y. take n all ++ y ∷ []) (is ∙ sym (get_operand (term_of names) less xs n x (term_of names x) pair below at)) ∙ sym (take_more all n (term_of names x) (omega (arith, long)))
+
+-- a tap as it is made
+pub placed_made : (names : Names) (d : Draft) (s : List ℕ) (dx dy a b : ℤ) (t : Term) → d ≡ Placed s dx dy → a ≡ dx → b ≡ dy →
+    t ≡ Leaf (TapOf (tap_number names.taps (tap_at names.images s a b))) (slice_index_or names.images (image_number names.images s) no_image).ty → t ≡ term_of names d
+placed_made names d s dx dy a b t is across down made =
+    let leaf = λ (x y : ℤ). Leaf (TapOf (tap_number names.taps (tap_at names.images s x y))) (slice_index_or names.images (image_number names.images s) no_image).ty in
+    made ∙ ap (λ x. leaf x b) across ∙ ap (leaf dx) down ∙ sym (ap (term_of names) is ∙ term_placed names s dx dy)

@@ -10,11 +10,13 @@ use Rattle.pf_terms.specs.declared.meaning.ReadFault.{ReadFault}
 use Rattle.pf_terms.specs.declared.meaning.ReadFault.TheVariants.{Syntax, Name, Types, Amount, Limit, Memory}
 use Rattle.pf_terms.specs.declared.names.Names.{Names}
 use Rattle.pf_terms.specs.declared.names.Tap.{Tap}
+use Rattle.pf_terms.specs.declared.resolve.NodeFault.{NodeFault}
+use Rattle.pf_terms.specs.declared.resolve.NodeFault.TheVariants.{Types as TypesOf, Amount as AmountOf, Memory as MemoryOf}
 use Rattle.pf_terms.specs.declared.term.Term.{Term}
 use Rattle.pf_terms.specs.declared.token.Kind.{Kind}
 use Rattle.pf_terms.specs.declared.token.Token.{Token}
 use Rattle.std.proofs.lemmas.List.{take_all}
-use Rattle.pf_terms.specs.Building.{is_formed_draft, with_these, HasNearOffsets, IsFaultOrMemory, IsNodeFault}
+use Rattle.pf_terms.specs.Building.{is_formed_draft, with_these, HasNearOffsets, IsFaultOrMemory, IsNodeFault, told_as}
 use Rattle.pf_terms.specs.Drafts.{IsDraftText, IsDraftOr, IsRefusal, IsSyntaxFault, IsFaultPlace, behind, first}
 use Rattle.pf_terms.specs.KernelNames.{IsNames, IsNearTap}
 use Rattle.pf_terms.specs.Meanings.{Means, IsTermOr, IsTermText, IsTyped, names_after, with_taps, tap_uses, first_far, first_unknown, term_of}
@@ -71,13 +73,10 @@ near_after names d ts n near is =
     (each_with_taps HasNearOffsets names.taps (tap_uses names.images d) (near_old (length names.images) names.taps (each_of_all (IsNearTap (length names.images)) names.taps n.near)) (near_uses names.images d near)))
 
 -- a node's fault is the draft's
-pub node_fault : (names : Names) (d : Draft) (f : ReadFault) → first_unknown names d ≡ None → IsNodeFault (typing (term_of (names_after names d) d)) f → IsFaultOrMemory names d f
-node_fault names d (Types want got) known h = (known, h)
-node_fault names d (Amount k) known h = (known, h)
-node_fault names d Memory known h = tt
-node_fault names d (Syntax c) known h = absurd h
-node_fault names d (Name s) known h = absurd h
-node_fault names d (Limit w c) known h = absurd h
+pub node_fault : (names : Names) (d : Draft) (f : NodeFault) → first_unknown names d ≡ None → IsNodeFault (typing (term_of (names_after names d) d)) f → IsFaultOrMemory names d (told_as f)
+node_fault names d (TypesOf want got) known h = (known, h)
+node_fault names d (AmountOf k) known h = (known, h)
+node_fault names d MemoryOf known h = tt
 
 -- what has a meaning has no fault
 no_fault : (names : Names) (d : Draft) (t : Term) (after now : Names) (f : ReadFault) → Means names d t after → IsFaultOrMemory names d f → IsTermOr t after (Err f) now

@@ -1,5 +1,5 @@
 -- What the steps between a draft and its term say.
-use Rattle.std.specs.Prelude.{◌≡◌, ℕ, Bool, true, ◌&&◌, ◌||◌, not, nat_le, unsigned_abs, List, length, zero, suc, Result, Ok, Err}
+use Rattle.std.specs.Prelude.{◌≡◌, ℕ, pos, Bool, true, ◌&&◌, ◌||◌, not, nat_le, unsigned_abs, List, length, zero, suc, Result, Ok, Err}
 use Rattle.pf_ints.specs.declared.lane.LaneType.{LaneType}
 use Rattle.pf_terms.specs.declared.draft.Draft.{Draft}
 use Rattle.pf_terms.specs.declared.draft.Draft.TheOpen.{Draft-F}
@@ -8,7 +8,9 @@ use Rattle.pf_terms.specs.declared.draft.Draft.TheFolds.{fold-Draft}
 use Rattle.pf_terms.specs.declared.fault.TermFault.{TermFault}
 use Rattle.pf_terms.specs.declared.fault.TermFault.TheVariants.{Types as TypesAt, Amount as AmountAt}
 use Rattle.pf_terms.specs.declared.meaning.ReadFault.{ReadFault}
-use Rattle.pf_terms.specs.declared.meaning.ReadFault.TheVariants.{Types, Amount, Memory}
+use Rattle.pf_terms.specs.declared.meaning.ReadFault.TheVariants.{Types as TypesRead, Amount as AmountRead, Memory as MemoryRead}
+use Rattle.pf_terms.specs.declared.resolve.NodeFault.{NodeFault}
+use Rattle.pf_terms.specs.declared.resolve.NodeFault.TheVariants.{Types, Amount, Memory}
 use Rattle.pf_terms.specs.declared.names.Names.{Names}
 use Rattle.pf_terms.specs.declared.names.Tap.{Tap}
 use Rattle.pf_terms.specs.declared.term.Term.{Term}
@@ -43,22 +45,27 @@ pub record HasNearOffsets (t : Tap) : Type 0 where
   pub down : IsNear t.dy
 
 -- a fault is that of a node
-abbrev pub IsNodeFault : Result LaneType TermFault → ReadFault → Type 0
+abbrev pub IsNodeFault : Result LaneType TermFault → NodeFault → Type 0
 IsNodeFault told (Types want got) = (path : List ℕ) × (told ≡ Err (TypesAt path want got))
-IsNodeFault told (Amount k) = (path : List ℕ) × (told ≡ Err (AmountAt path k))
+IsNodeFault told (Amount k) = (path : List ℕ) × (told ≡ Err (AmountAt path (pos k)))
 IsNodeFault told Memory = Unit {0}
-IsNodeFault told _ = ⊥
+
+-- a node's fault as the reader of terms tells it
+abbrev pub told_as : NodeFault → ReadFault
+told_as (Types want got) = TypesRead want got
+told_as (Amount k) = AmountRead (pos k)
+told_as Memory = MemoryRead
 
 -- what is found at a node is its type or its fault, unless memory was wanting
-abbrev pub IsFound : Result LaneType TermFault → Result LaneType ReadFault → Type 0
+abbrev pub IsFound : Result LaneType TermFault → Result LaneType NodeFault → Type 0
 IsFound told (Ok t) = told ≡ Ok t
 IsFound told (Err fault) = IsNodeFault told fault
 
-abbrev pub IsBuilt : Result LaneType TermFault → Result Term ReadFault → Type 0
+abbrev pub IsBuilt : Result LaneType TermFault → Result Term NodeFault → Type 0
 IsBuilt told (Ok t) = told ≡ Ok (stated_type t)
 IsBuilt told (Err fault) = IsNodeFault told fault
 
 -- the draft means nothing, and this is its first fault, unless memory was wanting
 abbrev pub IsFaultOrMemory : Names → Draft → ReadFault → Type 0
-IsFaultOrMemory names d Memory = Unit {0}
+IsFaultOrMemory names d MemoryRead = Unit {0}
 IsFaultOrMemory names d fault = IsMeaningFault names d fault

@@ -12,7 +12,7 @@ use crate::limit::LimitKind;
 use crate::lookup::{first_far, first_unknown};
 use crate::names::Names;
 use crate::read::read_draft;
-use crate::resolve::resolved;
+use crate::resolve::{NodeFault, resolved};
 use crate::spots::{Spots, add_uses, spots_of, taps_of};
 use crate::term::Term;
 use pf_ints::{LaneType, Name};
@@ -58,6 +58,22 @@ impl<T: Drop> From<AllocFailed<T>> for ReadFault {
 
     fn from(_error: AllocFailed<T>) -> ReadFault {
         ReadFault::Memory
+    }
+}
+
+impl From<NodeFault> for ReadFault {
+    ghost use Rattle.pf_terms.specs.Building.{told_as};
+
+    ghost from_gives = { λ fault e. e ≡ told_as fault };
+
+    fn from(fault: NodeFault) -> ReadFault {
+        match fault {
+            NodeFault::Types { want, got } => ReadFault::Types { want, got },
+            NodeFault::Amount { amount } => ReadFault::Amount {
+                amount: amount as i128,
+            },
+            NodeFault::Memory => ReadFault::Memory,
+        }
     }
 }
 

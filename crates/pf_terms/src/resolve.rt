@@ -1,14 +1,15 @@
 ghost use Rattle.std.specs.Prelude.{◌≡◌, ◌≤◌, ◌+◌, length, true, unsigned_abs, slice_index_or, List, IfOk, IsTrue, ◌<◌};
 ghost use Rattle.pf_terms.specs.declared.names.Tap.{Tap};
+ghost use Rattle.pf_terms.specs.declared.term.Leaf.TheVariants.{Tap as TapOf, Def};
+ghost use Rattle.pf_terms.specs.declared.term.Term.TheVariants.{Leaf as LeafTerm};
 ghost use Rattle.pf_terms.specs.Building.{is_formed_draft, with_these, IsFound, IsBuilt};
-ghost use Rattle.pf_terms.specs.Meanings.{term_of, image_number, def_number, written_type};
+ghost use Rattle.pf_terms.specs.Meanings.{term_of, image_number, def_number, tap_at, tap_number, written_type};
 ghost use Rattle.pf_terms.specs.Operators.{row_of};
 ghost use Rattle.pf_terms.specs.Terms.{operand_count, node_type, result_type, typing, stated_type, is_amount};
 ghost use Rattle.pf_terms.specs.TermTexts.{no_image, no_def};
 
 use crate::draft::Draft;
 use crate::lookup::{def_number, image_number};
-use crate::meaning::ReadFault;
 use crate::names::{DefNames, ImageNames, Names};
 use crate::op::Op;
 use crate::spots::{Spot, place_in_order, spot_number};
@@ -16,7 +17,35 @@ use crate::term::{Leaf, Term};
 use crate::types::{is_amount, result_type, type_fault};
 use pf_ints::{Bits, LaneType, Name};
 use sqlite_items::Items;
-use std::alloc::Global;
+use std::alloc::{AllocError, AllocFailed, Global};
+
+/// Why a node has no type. It is small, since each node of a long chain has one on the stack.
+#[derive(Clone, Copy, Debug)]
+pub enum NodeFault {
+    Types { want: LaneType, got: LaneType },
+    Amount { amount: u64 },
+    Memory,
+}
+
+impl From<AllocError> for NodeFault {
+    ghost use Rattle.pf_terms.specs.declared.resolve.NodeFault.TheVariants.{Memory};
+
+    ghost from_gives = { λ _ e. e ≡ Memory };
+
+    fn from(_error: AllocError) -> NodeFault {
+        NodeFault::Memory
+    }
+}
+
+impl<T: Drop> From<AllocFailed<T>> for NodeFault {
+    ghost use Rattle.pf_terms.specs.declared.resolve.NodeFault.TheVariants.{Memory};
+
+    ghost from_gives = { λ _ e. e ≡ Memory };
+
+    fn from(_error: AllocFailed<T>) -> NodeFault {
+        NodeFault::Memory
+    }
+}
 
 // The type of what has no entry.
 const NO_TYPE: LaneType = LaneType {
@@ -31,7 +60,7 @@ pub fn resolved(
     draft: &Draft,
     names: &Names,
     taps: &[Spot],
-) -> Result<Term, ReadFault>
+) -> Result<Term, NodeFault>
     requires formed { is_formed_draft draft.now ≡ true }
     requires few_defs { length names.now.defs ≤ 64 }
     requires few_taps { length taps.now ≤ 64 }
@@ -44,21 +73,8 @@ pub fn resolved(
             leaf: Leaf::Const(*n),
             ty: *ty,
         }),
-        Draft::Named(name) => {
-            let n = def_number(&names.defs, name);
-            Ok(Term::Leaf {
-                leaf: Leaf::Def(n as u8),
-                ty: def_type(&names.defs, n),
-            })
-        }
-        Draft::Placed(name, dx, dy) => {
-            let image = image_number(&names.images, name);
-            let spot = Spot::new(image as u8, *dx, *dy);
-            Ok(Term::Leaf {
-                leaf: Leaf::Tap(spot_number(taps, spot) as u8),
-                ty: image_type(&names.images, image),
-            })
-        }
+        Draft::Named(name) => Ok(definition(&names.defs, name)),
+        Draft::Placed(name, dx, dy) => Ok(tap(&names.images, taps, name, *dx, *dy)),
         Draft::Node {
             op,
             less,
@@ -82,6 +98,30 @@ pub fn resolved(
                 args,
             })
         }
+    }
+}
+
+fn definition(defs: &DefNames, name: &Name) -> Term
+    requires few { length defs.now ≤ 64 }
+    ensures { result ≡ LeafTerm (Def (def_number defs.now name.now)) (slice_index_or defs.now (def_number defs.now name.now) no_def).ty }
+{
+    let n = def_number(defs, name);
+    Term::Leaf {
+        leaf: Leaf::Def(n as u8),
+        ty: def_type(defs, n),
+    }
+}
+
+fn tap(images: &ImageNames, taps: &[Spot], name: &Name, dx: i64, dy: i64) -> Term
+    requires few_images { length images.now ≤ 8 }
+    requires few_taps { length taps.now ≤ 64 }
+    ensures { result ≡ LeafTerm (TapOf (tap_number taps.now (tap_at images.now name.now dx dy))) (slice_index_or images.now (image_number images.now name.now) no_image).ty }
+{
+    let image = image_number(images, name);
+    let spot = Spot::new(image as u8, dx, dy);
+    Term::Leaf {
+        leaf: Leaf::Tap(spot_number(taps, spot) as u8),
+        ty: image_type(images, image),
     }
 }
 
@@ -120,22 +160,20 @@ fn node_type(
     ty: Option<LaneType>,
     k: i64,
     types: &[LaneType],
-) -> Result<LaneType, ReadFault>
+) -> Result<LaneType, NodeFault>
     requires { length types.now ≡ operand_count (row_of op).operands }
     ensures found { IsFound (node_type (row_of op) (result_type (row_of op).gives (written_type ty) types.now) (unsigned_abs k) types.now) result }
     ensures small { IfOk result (λ t. (unsigned_abs k < 64) × (t ≡ result_type (row_of op).gives (written_type ty) types.now)) }
 {
     let ty = result_type(op.gives(), ty.unwrap_or(NO_TYPE), types);
     if let Some((want, got)) = type_fault(op, ty, types) {
-        return Err(ReadFault::Types { want, got });
+        return Err(NodeFault::Types { want, got });
     }
     let amount = k.unsigned_abs();
     if takes(op, types[0].width(), amount) {
         Ok(ty)
     } else {
-        Err(ReadFault::Amount {
-            amount: amount as i128,
-        })
+        Err(NodeFault::Amount { amount })
     }
 }
 

@@ -1,6 +1,6 @@
 use Rattle.std.proofs.Common.{rules, ◌≡◌, sym, ap, ◌∙◌, subst, length, arith, ◌≤◌, pos, w64, Err, IfErr, None}
 use Rattle.std.proofs.lemmas.Int.{to_z-of_z, to_z_pos}
-use Rattle.pf_terms.specs.Building.{IsFaultOrMemory}
+use Rattle.pf_terms.specs.Building.{told_as, IsFaultOrMemory}
 use Rattle.pf_terms.specs.Meanings.{names_after, first_far}
 use Rattle.pf_terms.proofs.Meant.{node_fault, typed_after, near_after, meant}
 use Rattle.pf_terms.proofs.meaning.meaning_of.Goals as goal
@@ -9,7 +9,7 @@ pub returns-in_err-term-clause-fault : goal.returns-in_err-term-clause-fault
 returns-in_err-term-clause-fault c =
     let names = c.args.names.now in
     let d = c.args.draft.now in
-    let e : c.from_residual-in_err-term.result ≡ Err c.in_err-term.field-0.0 = search rules in
+    let e : c.from_residual-in_err-term.result ≡ Err (told_as c.in_err-term.field-0.0) = search rules in
     let fault = node_fault names d c.in_err-term.field-0.0 (sym c.first_unknown.ensures ∙ c.in_default.is) (c.in_err-term.ensures.found (names_after names d).taps) in
     subst (λ r. IfErr r (IsFaultOrMemory names d)) (sym e) fault
 

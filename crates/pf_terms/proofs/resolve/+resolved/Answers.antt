@@ -9,7 +9,7 @@ use Rattle.pf_terms.specs.Building.{with_these, IsBuilt, place_in_order}
 use Rattle.pf_terms.proofs.DraftParts.{IsFormedNode, formed_node}
 use Rattle.pf_terms.proofs.Evaluating.{count_most}
 use Rattle.pf_terms.proofs.Typing.{behind, behind_nil}
-use Rattle.pf_terms.proofs.Built.{types_more, types_all, made_more, node_made, node_told, operand_fault, own_fault}
+use Rattle.pf_terms.proofs.Built.{types_more, types_all, made_more, node_made, node_told, operand_fault, own_fault, placed_made}
 use Rattle.pf_terms.proofs.TermRanges.{stated_node}
 use Rattle.pf_terms.proofs.resolve.+resolved.Goals as goal
 
@@ -87,3 +87,8 @@ returns-in_ok-ty-in-Node-clause-found t c others =
     let found = types_all c.in-Node.less names xs (take c.loop-n.n c.loop-n.types) ts c.loop-n.n (omega arith) (ap (λ m. take m c.loop-n.types) end) (c.loop-n.invariant.onward others) in
     node_told names c.args.draft.now c.in-Node.op c.in-Node.less c.in-Node.ty c.in-Node.k c.in-Node.args xs ts (unsigned_abs (to_z w64 (of_z w64 c.in-Node.k))) c.in-Node.is c.as_slice-drafts.ensures (search (rules, to_z-of_z)) found
     ∙ c.in_ok-ty-in-Node.ensures.found ∙ ap (λ u. Ok u) (sym (stated_node c.in-Node.op c.in_ok-ty-in-Node.ty c.unsigned_abs.result c.loop-n.args))
+
+pub returns-in-Placed-clause-made : goal.returns-in-Placed-clause-made
+returns-in-Placed-clause-made t c =
+    placed_made (with_these c.args.names.now c.args.taps.now) c.args.draft.now c.in-Placed.name c.in-Placed.dx c.in-Placed.dy (to_z w64 (of_z w64 c.in-Placed.dx)) (to_z w64 (of_z w64 c.in-Placed.dy)) c.tap.result
+    c.in-Placed.is (search (rules, to_z-of_z)) (search (rules, to_z-of_z)) c.tap.ensures

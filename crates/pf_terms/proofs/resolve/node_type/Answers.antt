@@ -19,5 +19,5 @@ returns-else-takes-clause-found c =
     let type : c.result_type-ty.result ≡ result_type row.gives (written_type c.args.ty) c.args.types.now = search rules in
     let wide : c.width.result ≡ first_width c.args.types.now = first_wide c.args.types.now _ c.width.result _ c.requires (some_operands row.operands) c.width.ensures in
     let same : c.unsigned_abs-amount.result ≡ unsigned_abs c.args.k = search (rules, to_z-of_z) in
-    amount_told row _ c.result_type-ty.result (unsigned_abs c.args.k) c.args.types.now c.type_fault.result c.takes.result c.width.result c.unsigned_abs-amount.result _
-    type c.type_fault.ensures c.in_default.is c.takes.ensures.value c.if-takes.false wide same (search (rules, to_z-of_z))
+    amount_told row _ c.result_type-ty.result (unsigned_abs c.args.k) c.args.types.now c.type_fault.result c.takes.result c.width.result c.unsigned_abs-amount.result
+    type c.type_fault.ensures c.in_default.is c.takes.ensures.value c.if-takes.false wide same
