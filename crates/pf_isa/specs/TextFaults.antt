@@ -14,6 +14,7 @@ use Rattle.pf_terms.specs.declared.names.Names.{Names}
 use Rattle.pf_terms.specs.declared.names.Tap.{Tap}
 use Rattle.pf_terms.specs.Terms.{node_count}
 use Rattle.pf_terms.specs.TermTexts.{no_type}
+use Rattle.pf_isa.specs.declared.code.Label.{Label as LabelOf}
 use Rattle.pf_isa.specs.declared.code.Line.{Line}
 use Rattle.pf_isa.specs.declared.code.Line.TheVariants.{Vector, Control as Controls}
 use Rattle.pf_isa.specs.declared.fault.TextFault.{TextFault}
@@ -243,7 +244,17 @@ abbrev pub IsTextRefusal : (I : Type 0) {O : Type 0} → Table O → (O → Type
 IsTextRefusal I t is_op bytes (At at kind) = IsTextFault I t is_op bytes at kind
 IsTextRefusal I t is_op bytes Memory = Unit {0}
 
--- the answer is this program, or memory was wanting
+-- the answer is this, or memory was wanting
+abbrev pub IsHeadOr : Head → ℕ → Result (Head × ℕ) TextFault → Type 0
+IsHeadOr h n (Ok r) = (r.0 ≡ h) × (r.1 ≡ n)
+IsHeadOr h n (Err Memory) = Unit {0}
+IsHeadOr h n (Err (At at kind)) = ⊥
+
+abbrev pub IsCodeOr : {I O : Type 0} → List (Line I O) → List LabelOf → Result (List (Line I O) × List LabelOf) TextFault → Type 0
+IsCodeOr code labels (Ok r) = (r.0 ≡ code) × (r.1 ≡ labels)
+IsCodeOr code labels (Err Memory) = Unit {0}
+IsCodeOr code labels (Err (At at kind)) = ⊥
+
 abbrev pub IsProgramOr : {I O : Type 0} → Text I O → Result (Text I O) TextFault → Type 0
 IsProgramOr p (Ok q) = q ≡ p
 IsProgramOr p (Err Memory) = Unit {0}
