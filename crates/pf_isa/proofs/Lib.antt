@@ -8,6 +8,7 @@ pub mod StepLaws
 pub mod RowLaws
 pub mod TextLaws
 pub mod LineLaws
+pub mod HeadWordLaws
 pub mod TermLaws
 mod WrittenHeads
 pub mod WrittenLaws

@@ -8,6 +8,7 @@ pub mod Memory
 pub mod Steps
 pub mod Heads
 pub mod Programs
+pub mod HeadWords
 pub mod Texts
 pub mod TextFaults
 pub mod Blocks

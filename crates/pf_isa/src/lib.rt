@@ -6,6 +6,7 @@ mod block;
 mod code;
 mod control;
 mod fault;
+mod head_words;
 mod isa;
 mod lines;
 mod machine;
@@ -21,6 +22,7 @@ mod steps;
 mod target_line;
 mod text;
 mod tight;
+mod words;
 mod write;
 
 pub use access::Access;
