@@ -1,9 +1,9 @@
 -- Words of a head's lines: each is one value's.
-use Rattle.std.proofs.Common.{ℤ, pos, negsuc, neg_ℤ, zero, suc, ◌≡◌, ◌≢◌, refl, sym, ap, ◌∙◌, ℕ, ◌+◌, ◌-◌, ◌^◌, ◌<◌, ◌≤◌, List, [], ◌∷◌, ◌++◌, length, take, drop, Bool, true, false, not, ◌&&◌, nat_le, Option, Some, None, arith, get_or, ⊎_elim, append_assoc, subst, ◌==◌, if◌then◌else◌}
+use Rattle.std.proofs.Common.{inl, inr, ℤ, pos, negsuc, neg_ℤ, zero, suc, ◌≡◌, ◌≢◌, refl, sym, ap, ◌∙◌, ℕ, ◌+◌, ◌-◌, ◌^◌, ◌<◌, ◌≤◌, List, [], ◌∷◌, ◌++◌, length, take, drop, Bool, true, false, not, ◌&&◌, nat_le, Option, Some, None, arith, get_or, ⊎_elim, append_assoc, subst, ◌==◌, if◌then◌else◌}
 use Rattle.std.specs.Prelude.{codes, MatchOption, IfSome, IsSome, IsTrue}
 use Rattle.std.specs.Int.Signed.{mag}
 use Rattle.std.specs.Fmt.{decimal, signed_decimal, digits}
-use Rattle.std.specs.List.{list_all, slice_split, position, before_first, after_first, position_or_len}
+use Rattle.std.specs.List.{AllPairs, list_all, slice_split, position, before_first, after_first, position_or_len}
 use Rattle.std.specs.Borrow.{Bor}
 use Rattle.std.proofs.lemmas.List.{take_rest, map-append}
 use Rattle.std.proofs.lemmas.List.Quantifiers.{position-Some}
@@ -20,9 +20,11 @@ use Rattle.pf_ints.specs.Images.{IsPixelType}
 use Rattle.pf_ints.specs.Lanes.{IsIn}
 use Rattle.pf_ints.specs.Words.{is_digit, is_name, is_spelled, is_reserved}
 use Rattle.pf_terms.specs.declared.kernel.ImageDecl.{ImageDecl}
-use Rattle.pf_terms.specs.TermTexts.{type_word, no_type}
-use Rattle.pf_isa.specs.Heads.{IsDecl}
-use Rattle.pf_isa.specs.HeadWords.{IsTheOne, image_words, IsOffset, is_space}
+use Rattle.pf_terms.specs.declared.names.ImageName.{ImageName}
+use Rattle.pf_terms.specs.declared.names.Tap.{Tap}
+use Rattle.pf_terms.specs.TermTexts.{type_word, no_type, no_image}
+use Rattle.pf_isa.specs.Heads.{IsDecl, IsTap}
+use Rattle.pf_isa.specs.HeadWords.{IsTheOne, image_words, tap_words, lifted_words, IsLiftedName, IsOffset, is_space}
 use Rattle.pf_isa.specs.Scan.{number_on, behind}
 use Rattle.pf_isa.specs.TextFaults.{texts}
 use Rattle.pf_isa.proofs.ScanLaws.{number_on-decimal}
@@ -49,7 +51,7 @@ type_only w None h = h
 type_only w (Some t) h = (h, λ u k. type_word_injective u t (k ∙ sym h))
 
 -- ---- names
-name_size : (w : List ℕ) → is_name w ≡ true → (1 ≤ length w) × (length w ≤ 32)
+pub name_size : (w : List ℕ) → is_name w ≡ true → (1 ≤ length w) × (length w ≤ 32)
 unfolding is_name
 name_size [] h = absurd (cc)
 name_size (c ∷ cs) h =
@@ -72,7 +74,7 @@ pub value_is : (w : List ℕ) (v n : ℕ) → v ≡ number_on 0 w → (n < 2 ^ 6
 value_is w v n value (small, is) = sym (value ∙ ap (number_on 0) (sym is) ∙ number_on-decimal n small)
 
 -- ---- offsets
-near : (z : ℤ) → IsOffset z → mag z ≤ 64
+pub near : (z : ℤ) → IsOffset z → mag z ≤ 64
 near (pos n) h = omega (arith, ints, h.1)
 near (negsuc n) h = omega (arith, ints, h.0)
 
@@ -179,3 +181,61 @@ one_image ws key name word low high ty lo hi called is is_key named is_name pixe
       let names : e.name ≡ name = ap (λ l. get_or l 1 []) at ∙ sym is_name in
       λ i. record { name = names i; ty = same i; lo = (pair i).0; hi = (pair i).1 },
 )
+
+-- ---- taps and lifted terms
+pub four_words : (xs : List (Bor (List ℕ))) (d : Bor (List ℕ)) → 4 ≤ length xs → length xs < 5 → texts xs ≡ (get_or xs 0 d).now ∷ (get_or xs 1 d).now ∷ (get_or xs 2 d).now ∷ (get_or xs 3 d).now ∷ []
+four_words [] d some few = absurd (omega arith)
+four_words (a ∷ []) d some few = absurd (omega arith)
+four_words (a ∷ b ∷ []) d some few = absurd (omega arith)
+four_words (a ∷ b ∷ c ∷ []) d some few = absurd (omega arith)
+four_words (a ∷ b ∷ c ∷ e ∷ []) d some few = refl
+four_words (a ∷ b ∷ c ∷ e ∷ f ∷ xs) d some few = absurd (omega arith)
+
+-- of distinct names one stands in one place
+pub same_place : (images : List ImageName) (name : List ℕ) (n m : ℕ) → AllPairs (λ i j. i.name ≢ j.name) images → n < length images → m < length images → (get_or images n no_image).name ≡ name → (get_or images m no_image).name ≡ name → m ≡ n
+same_place images name n m distinct in_n in_m at_n at_m =
+    ⊎_elim (λ (less : m < n). absurd (distinct m n no_image less in_n (at_m ∙ sym at_n)))
+    (λ (le : n ≤ m). ⊎_elim (λ (less : n < m). absurd (distinct n m no_image less in_m (at_n ∙ sym at_m))) (λ (other : m ≤ n). omega (arith, le, other)) (cases_lt n m)) (cases_lt m n)
+
+pub one_tap : (ws : List (List ℕ)) (images : List ImageName) (key name left down : List ℕ) (image : ℕ) (dx dy : ℤ) → ws ≡ key ∷ name ∷ left ∷ down ∷ [] → key ≡ codes ".tap"
+    → ((image < length images) × ((get_or images image no_image).name ≡ name)) × ((n : ℕ) → (n < length images) × ((get_or images n no_image).name ≡ name) → n ≡ image)
+    → (IsOffset dx × (signed_decimal dx ≡ left)) × ((z : ℤ) → IsOffset z × (signed_decimal z ≡ left) → z ≡ dx)
+    → (IsOffset dy × (signed_decimal dy ≡ down)) × ((z : ℤ) → IsOffset z × (signed_decimal z ≡ down) → z ≡ dy)
+    → let t : Tap = record { image = image; dx = dx; dy = dy } in (IsTap (length images) t × (ws ≡ tap_words images t)) × ((u : Tap) → IsTap (length images) u × (ws ≡ tap_words images u) → u ≡ t)
+one_tap ws images key name left down image dx dy is is_key (at, only) (across, one_across) (below, one_below) = (
+  (record { image = at.0; left = across.0.0; right = across.0.1; up = below.0.0; down = below.0.1 }, is ∙ rw (is_key, ← at.1, ← across.1, ← below.1) refl),
+  λ u (tap, says).
+  let same : tap_words images u ≡ key ∷ name ∷ left ∷ down ∷ [] = sym says ∙ is in
+  let image_is : u.image ≡ image = only u.image (tap.image, ap (λ l. get_or l 1 []) same) in
+  let dx_is : u.dx ≡ dx = one_across u.dx ((tap.left, tap.right), ap (λ l. get_or l 2 []) same) in
+  let dy_is : u.dy ≡ dy = one_below u.dy ((tap.up, tap.down), ap (λ l. get_or l 3 []) same) in
+  λ i. record { image = image_is i; dx = dx_is i; dy = dy_is i },
+)
+
+pub out_only : (w : List ℕ) (o : Option (List ℕ)) → w ≡ codes "out" → IfSome o (λ n. n ≡ w) → ((1 ≤ length w) × (length w ≤ 32) → IsSome o) → IsTheOne (λ n. IsLiftedName n × (n ≡ w)) o
+out_only w (Some n) h value some = ((inl (value ∙ h), value), λ m k. k.1 ∙ sym value)
+out_only w None h value some = absurd (let never : ◌≡◌ {A = Bool} false true = some (rw h (omega arith, omega arith)) in cc)
+
+pub lifted_only : (w : List ℕ) (o : Option (List ℕ)) → w ≢ codes "out" → IsTheOne (λ n. IsTrue (is_name n) × (n ≡ w)) o → IsTheOne (λ n. IsLiftedName n × (n ≡ w)) o
+lifted_only w (Some n) other h = ((inr h.0.0, h.0.1), λ m k. k.1 ∙ sym h.0.1)
+lifted_only w None other h = λ n k. ⊎_elim (λ (out : n ≡ codes "out"). other (sym k.1 ∙ out)) (λ (named : IsTrue (is_name n)). h n (named, k.1)) k.0
+
+pub one_lifted : (ws : List (List ℕ)) (key called word sign name : List ℕ) (ty : LaneType) → ws ≡ key ∷ called ∷ word ∷ sign ∷ [] → key ≡ codes ".lifted" → sign ≡ codes "=" → IsLiftedName name → name ≡ called → type_word ty ≡ word
+    → (IsLiftedName name × (ws ≡ lifted_words name ty)) × ((r : List ℕ × LaneType) → IsLiftedName r.0 × (ws ≡ lifted_words r.0 r.1) → r ≡ (name, ty))
+one_lifted ws key called word sign name ty is is_key is_sign named is_name typed = (
+  (named, is ∙ rw (is_key, is_sign, is_name, typed) refl),
+  λ r (other, says).
+  let same : lifted_words r.0 r.1 ≡ key ∷ called ∷ word ∷ sign ∷ [] = sym says ∙ is in
+  let names : r.0 ≡ name = ap (λ l. get_or l 1 []) same ∙ sym is_name in
+  let types : r.1 ≡ ty = type_word_injective r.1 ty (ap (λ l. get_or l 2 []) same ∙ sym typed) in
+  λ i. (names i, types i),
+)
+
+pub no_lifted_name : (ws : List (List ℕ)) (key called word sign : List ℕ) → ws ≡ key ∷ called ∷ word ∷ sign ∷ [] → ((n : List ℕ) → IsLiftedName n × (n ≡ called) → ⊥) → (r : List ℕ × LaneType) → IsLiftedName r.0 × (ws ≡ lifted_words r.0 r.1) → ⊥
+no_lifted_name ws key called word sign is never r (named, says) = never r.0 (named, ap (λ l. get_or l 1 []) (sym says ∙ is))
+
+pub no_lifted_type : (ws : List (List ℕ)) (key called word sign : List ℕ) → ws ≡ key ∷ called ∷ word ∷ sign ∷ [] → ((t : LaneType) → type_word t ≡ word → ⊥) → (r : List ℕ × LaneType) → IsLiftedName r.0 × (ws ≡ lifted_words r.0 r.1) → ⊥
+no_lifted_type ws key called word sign is never r (named, says) = never r.1 (ap (λ l. get_or l 2 []) (sym says ∙ is))
+
+pub no_tap_down : (ws : List (List ℕ)) (images : List ImageName) (key name left down : List ℕ) → ws ≡ key ∷ name ∷ left ∷ down ∷ [] → ((z : ℤ) → IsOffset z × (signed_decimal z ≡ down) → ⊥) → (t : Tap) → IsTap (length images) t × (ws ≡ tap_words images t) → ⊥
+no_tap_down ws images key name left down is never t (tap, says) = never t.dy ((tap.up, tap.down), ap (λ l. get_or l 3 []) (sym says ∙ is))

@@ -9,6 +9,8 @@ pub mod RowLaws
 pub mod TextLaws
 pub mod LineLaws
 pub mod HeadWordLaws
+pub mod NameLaws
+pub mod WordLines
 pub mod TermLaws
 mod WrittenHeads
 pub mod WrittenLaws

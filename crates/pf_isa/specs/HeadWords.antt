@@ -1,5 +1,5 @@
 -- The lines of a head as lists of words.
-use Rattle.std.specs.Prelude.{◌≡◌, ℕ, ℤ, pos, neg_ℤ, ◌^◌, ◌≤◌, ◌<◌, ◌≤ℤ◌, Bool, ◌==◌, List, [], ◌∷◌, length, IsTrue, Option, Some, None, codes, decimal, slice_index_or}
+use Rattle.std.specs.Prelude.{◌≡◌, ℕ, ℤ, pos, neg_ℤ, ◌^◌, ◌≤◌, ◌<◌, ◌≤ℤ◌, ◌⊎◌, Bool, ◌==◌, List, [], ◌∷◌, length, IsTrue, Option, Some, None, codes, decimal, slice_index_or}
 use Rattle.std.specs.Fmt.{signed_decimal}
 use Rattle.std.specs.List.{slice_split}
 use Rattle.pf_ints.specs.Images.{IsPixelType}
@@ -19,6 +19,9 @@ IsTheOne P (Some a) = P a × ((x : _) → P x → x ≡ a)
 
 abbrev pub is_space : ℕ → Bool
 is_space c = c == 32
+
+abbrev pub is_sign : ℕ → Bool
+is_sign c = c == 61
 
 -- what stands between the blanks of a line
 abbrev pub words_in : List ℕ → List (List ℕ)
@@ -45,3 +48,7 @@ lifted_words name ty = codes ".lifted" ∷ name ∷ type_word ty ∷ codes "=" �
 -- an offset of a tap
 abbrev pub IsOffset : ℤ → Type 0
 IsOffset z = (neg_ℤ (pos 64) ≤ℤ z) × (z ≤ℤ pos 64)
+
+-- what a lifted term may be called
+abbrev pub IsLiftedName : List ℕ → Type 0
+IsLiftedName name = (name ≡ codes "out") ⊎ IsTrue (is_name name)

@@ -11,6 +11,7 @@ pub mod Programs
 pub mod HeadWords
 pub mod Texts
 pub mod TextFaults
+pub mod HeadSteps
 pub mod Blocks
 pub mod Runs
 pub mod RowEnds

@@ -1,12 +1,12 @@
-ghost use Rattle.std.specs.Prelude.{◌≡◌, neg_ℤ, ℕ, List, [], ◌∷◌, ◌<◌, ◌≤◌, ◌^◌, pos, length, All, MatchOption, IsTrue, ◌↔◌, decimal, true};
-ghost use Rattle.std.specs.List.{list_all};
+ghost use Rattle.std.specs.Prelude.{◌≡◌, ◌≢◌, neg_ℤ, slice_index_or, ℕ, List, [], ◌∷◌, ◌<◌, ◌≤◌, ◌^◌, pos, length, All, MatchOption, IsTrue, ◌↔◌, decimal, true};
+ghost use Rattle.std.specs.List.{list_all, AllPairs};
 ghost use Rattle.std.specs.Fmt.{signed_decimal};
 ghost use Rattle.pf_ints.specs.Images.{IsPixelType};
 ghost use Rattle.pf_ints.specs.Lanes.{greatest, IsIn};
 ghost use Rattle.pf_ints.specs.Words.{is_name, is_digit};
-ghost use Rattle.pf_terms.specs.TermTexts.{type_word};
+ghost use Rattle.pf_terms.specs.TermTexts.{type_word, no_image};
 ghost use Rattle.pf_isa.specs.Heads.{IsDecl, IsTap};
-ghost use Rattle.pf_isa.specs.HeadWords.{IsTheOne, IsOffset, image_words, tap_words, out_words, scratch_words, cost_words};
+ghost use Rattle.pf_isa.specs.HeadWords.{IsTheOne, IsOffset, image_words, tap_words, lifted_words, IsLiftedName, out_words, scratch_words, cost_words};
 ghost use Rattle.pf_isa.specs.Scan.{number_on};
 ghost use Rattle.pf_isa.specs.TextFaults.{texts};
 
@@ -204,4 +204,62 @@ pub fn cost_of(words: &[&[u8]]) -> Option<u64>
     ensures { IsTheOne (λ n. (n < 2 ^ 64) × (texts words.now ≡ cost_words n)) result }
 {
     number_of_word(behind_word(b".cost", words)?)
+}
+
+/// The tap that the words say, of one of these images.
+pub fn tap_of(words: &[&[u8]], images: &[ImageName]) -> Option<Tap>
+    requires few { length images.now ≤ 8 }
+    requires distinct { AllPairs (λ i j. i.name ≢ j.name) images.now }
+    ensures { IsTheOne (λ t. IsTap (length images.now) t × (texts words.now ≡ tap_words images.now t)) result }
+{
+    let [word, name, dx, dy] = words else {
+        return None;
+    };
+    if *word != b".tap".as_slice() {
+        return None;
+    }
+    let image = image_of_name(name, images)?;
+    let dx = offset_of_word(dx)?;
+    let dy = offset_of_word(dy)?;
+    Some(Tap { image, dx, dy })
+}
+
+fn image_of_name(name: &[u8], images: &[ImageName]) -> Option<u8>
+    requires few { length images.now ≤ 8 }
+    requires distinct { AllPairs (λ i j. i.name ≢ j.name) images.now }
+    ensures { IsTheOne (λ n. (n < length images.now) × ((slice_index_or images.now n no_image).name ≡ name.now)) result }
+{
+    for (n, image) in images.iter().enumerate() {
+        if image.name.as_slice() == name {
+            return Some(n as u8);
+        }
+    }
+    None
+}
+
+/// The name and the type of the lifted term whose line begins with the words.
+pub fn lifted_of(words: &[&[u8]]) -> Option<(Name, LaneType)>
+    ensures { IsTheOne (λ r. IsLiftedName r.0 × (texts words.now ≡ lifted_words r.0 r.1)) result }
+{
+    let [word, name, ty, sign] = words else {
+        return None;
+    };
+    if *word != b".lifted".as_slice() {
+        return None;
+    }
+    if *sign != b"=".as_slice() {
+        return None;
+    }
+    let name = lifted_name_of_word(name)?;
+    let ty = lane_of_word(ty)?;
+    Some((name, ty))
+}
+
+fn lifted_name_of_word(word: &[u8]) -> Option<Name>
+    ensures { IsTheOne (λ n. IsLiftedName n × (n ≡ word.now)) result }
+{
+    if word == b"out".as_slice() {
+        return Name::new(word);
+    }
+    name_of_word(word)
 }
