@@ -11,6 +11,8 @@ pub mod LineLaws
 pub mod HeadWordLaws
 pub mod NameLaws
 pub mod WordLines
+pub mod HeadStepLaws
+pub mod HeadLineLaws
 pub mod TermLaws
 mod WrittenHeads
 pub mod WrittenLaws

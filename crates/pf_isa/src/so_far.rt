@@ -2,14 +2,15 @@ ghost use Rattle.std.specs.Prelude.{◌≡◌, ◌≢◌, ◌<◌, ◌≤◌, �
 ghost use Rattle.std.specs.List.{position};
 ghost use Rattle.std.specs.Str.{bytes_eq};
 ghost use Rattle.pf_ints.specs.Images.{IsPixelType};
+ghost use Rattle.pf_terms.specs.declared.meaning.ReadFault.TheVariants.{Memory as Refused};
 ghost use Rattle.pf_terms.specs.KernelNames.{IsNames};
 ghost use Rattle.pf_terms.specs.Meanings.{IsTermText};
 ghost use Rattle.pf_terms.specs.Terms.{IsWellTyped, stated_type};
 ghost use Rattle.pf_terms.specs.TermTexts.{is_named};
 ghost use Rattle.pf_isa.specs.Heads.{IsDecl, IsTap};
-ghost use Rattle.pf_isa.specs.HeadSteps.{WordsGoOn, DeclarationGoesOn, ImageGoesOn, TapGoesOn, OutGoesOn, LiftedGoesOn, IsReady};
+ghost use Rattle.pf_isa.specs.HeadSteps.{WordsGoOn, DeclarationGoesOn, TapOrOutGoesOn, OutWordsGoOn, ImageGoesOn, TapGoesOn, OutGoesOn, LiftedGoesOn, TermGoesOn, IsDefinitionOf, IsFitting, IsRoom, IsReady};
 ghost use Rattle.pf_isa.specs.HeadWords.{IsTheOne, IsLiftedName, is_sign};
-ghost use Rattle.pf_isa.specs.TextFaults.{texts, SoFar, nothing, names_in, names_so_far, GoesOn, GoesOnAt};
+ghost use Rattle.pf_isa.specs.TextFaults.{texts, SoFar, nothing, names_in, names_so_far, GoesOn, GoesOnAt, stage_behind};
 ghost use Rattle.pf_isa.specs.declared.so_far.Stage.TheVariants.{Declarations, Lifted, Code};
 
 use crate::head_words::{cost_of, image_of, lifted_of, out_of, scratch_of, tap_of};
@@ -189,20 +190,31 @@ impl HeadSoFar {
         })
     }
 
+    fn with_out_words(self, words: &[&[u8]]) -> Option<HeadSoFar>
+        ensures { IsTheOne (OutWordsGoOn self.head (texts words.now)) result }
+    {
+        self.with_out(out_of(words)?)
+    }
+
+    fn with_tap_or_out(self, words: &[&[u8]]) -> Result<Option<HeadSoFar>, Memory>
+        requires stage { self.stage ≡ Declarations }
+        requires names { IsNames (names_so_far self.head) }
+        ensures { IfOk result (IsTheOne (TapOrOutGoesOn self.head (texts words.now))) }
+    {
+        match tap_of(words, self.names.images.as_slice()) {
+            Some(tap) => self.with_tap(tap),
+            None => Ok(self.with_out_words(words)),
+        }
+    }
+
     fn with_declaration(self, words: &[&[u8]]) -> Result<Option<HeadSoFar>, Memory>
         requires stage { self.stage ≡ Declarations }
         requires names { IsNames (names_so_far self.head) }
         ensures { IfOk result (IsTheOne (DeclarationGoesOn self.head (texts words.now))) }
     {
-        if let Some(image) = image_of(words) {
-            return self.with_image(&image);
-        }
-        if let Some(tap) = tap_of(words, self.names.images.as_slice()) {
-            return self.with_tap(tap);
-        }
-        match out_of(words) {
-            Some(ty) => Ok(self.with_out(ty)),
-            None => Ok(None),
+        match image_of(words) {
+            Some(image) => self.with_image(&image),
+            None => self.with_tap_or_out(words),
         }
     }
 
@@ -261,6 +273,14 @@ impl HeadSoFar {
         }
     }
 
+    // Whether a lifted term of the name may come, of which at most 64 aren't the output's.
+    fn has_room(&self, name: &[u8]) -> bool
+        requires { IsLiftedName name.now }
+        ensures { IsTrue result ↔ IsRoom self.now.head name.now }
+    {
+        is_out(name) || self.head.lifted.len() < 64
+    }
+
     fn with_lifted(
         self,
         alloc: Global,
@@ -272,38 +292,40 @@ impl HeadSoFar {
         requires name { IsLiftedName name.now }
         ensures { IfOk result (IsTheOne (LiftedGoesOn self.head name.now ty text.now)) }
     {
-        let is_out = is_out(name.as_slice());
         if self.has_name(name.as_slice()) {
             return Ok(None);
         }
-        if !is_out && 64 <= self.head.lifted.len() {
+        if !self.has_room(name.as_slice()) {
             return Ok(None);
         }
+        self.with_term(alloc, name, ty, text)
+    }
+
+    fn with_term(
+        self,
+        alloc: Global,
+        name: &Name,
+        ty: LaneType,
+        text: &[u8],
+    ) -> Result<Option<HeadSoFar>, Memory>
+        requires names { IsNames (names_so_far self.head) }
+        ensures { IfOk result (IsTheOne (TermGoesOn self.head name.now ty text.now)) }
+    {
         let HeadSoFar {
             mut head,
             mut names,
             nodes: before,
             ..
         } = self;
-        let term = match lifted_term(alloc, text, &mut names)? {
-            Some(term) => term,
+        let definition = match definition_of(alloc, name, ty, text, &mut names, before)? {
+            Some(definition) => definition,
             None => return Ok(None),
         };
-        if stated_type(&term) != ty || 1024 < depth(&term) {
-            return Ok(None);
-        }
-        let nodes = before.saturating_add(nodes(&term));
-        if 1536 < nodes {
-            return Ok(None);
-        }
+        let nodes = before.saturating_add(nodes(&definition.term));
         names.defs.push(DefName { name: *name, ty })?;
-        head.lifted.push(Definition {
-            name: *name,
-            ty,
-            term,
-        })?;
+        head.lifted.push(definition)?;
         Ok(Some(HeadSoFar {
-            stage: if is_out { Stage::Cost } else { Stage::Lifted },
+            stage: stage_behind(name.as_slice()),
             head,
             names,
             nodes,
@@ -315,13 +337,14 @@ impl HeadSoFar {
         requires { IsNames (names_so_far self.head) }
         ensures { IfOk result (IsTheOne (GoesOnAt Lifted self.head line.now)) }
     {
-        let Some(end) = sign_in(line) else {
-            return Ok(None);
+        let end = match sign_in(line) {
+            Some(end) => end,
+            None => return Ok(None),
         };
         let front = tight_line(alloc, &line[..end + 1])?;
         let words = words_of(alloc, front.as_slice())?;
         match lifted_of(words.as_slice()) {
-            Some((name, ty)) => self.with_lifted(alloc, &name, ty, &line[end + 1..]),
+            Some(found) => self.with_lifted(alloc, &found.0, found.1, &line[end + 1..]),
             None => Ok(None),
         }
     }
@@ -354,6 +377,49 @@ fn is_out(name: &[u8]) -> bool
     name == b"out".as_slice()
 }
 
+fn stage_behind(name: &[u8]) -> Stage
+    ensures { result ≡ stage_behind name.now }
+{
+    if is_out(name) {
+        Stage::Cost
+    } else {
+        Stage::Lifted
+    }
+}
+
+// The lifted term of a text, behind others with so many nodes.
+fn definition_of(
+    alloc: Global,
+    name: &Name,
+    ty: LaneType,
+    text: &[u8],
+    names: &mut Names,
+    before: u64,
+) -> Result<Option<Definition>, Memory>
+    requires { IsNames names.old }
+    ensures found { IfOk result (IsTheOne (IsDefinitionOf names.old name.now ty text.now before)) }
+    ensures kept { IfOk result (λ found. IfSome found (λ d. names.new ≡ names.old)) }
+{
+    let term = match lifted_term(alloc, text, names)? {
+        Some(term) => term,
+        None => return Ok(None),
+    };
+    if !is_fitting(&term, ty, before) {
+        return Ok(None);
+    }
+    Ok(Some(Definition {
+        name: *name,
+        ty,
+        term,
+    }))
+}
+
+fn is_fitting(term: &Term, ty: LaneType, before: u64) -> bool
+    ensures { IsTrue result ↔ IsFitting term.now ty before }
+{
+    stated_type(term) == ty && depth(term) <= 1024 && before.saturating_add(nodes(term)) <= 1536
+}
+
 // The term that a text means, where it has no tap that isn't listed.
 fn lifted_term(alloc: Global, text: &[u8], names: &mut Names) -> Result<Option<Term>, Memory>
     requires { IsNames names.old }
@@ -361,9 +427,21 @@ fn lifted_term(alloc: Global, text: &[u8], names: &mut Names) -> Result<Option<T
     ensures known { IfOk result (λ found. IfSome found (λ t. (names.new ≡ names.old) × IsWellTyped t × (is_named names.old t ≡ true))) }
 {
     let many = names.taps.len();
-    match read_term(alloc, text, names) {
-        Ok(term) if names.taps.len() <= many => Ok(Some(term)),
-        Err(ReadFault::Memory) => Err(AllocError),
+    let term = match read_term(alloc, text, names) {
+        Ok(term) => term,
+        Err(fault) => return refused(fault),
+    };
+    if many < names.taps.len() {
+        return Ok(None);
+    }
+    Ok(Some(term))
+}
+
+fn refused(fault: ReadFault) -> Result<Option<Term>, Memory>
+    ensures { IfOk result (λ found. (found ≡ None) × (fault ≢ ReadFault.Memory)) }
+{
+    match fault {
+        ReadFault::Memory => Err(AllocError),
         _ => Ok(None),
     }
 }
