@@ -4,7 +4,7 @@ use Rattle.std.specs.Prelude.{◌⊎◌, Result, Ok, Err, IfOk, IsTrue, Contains
 use Rattle.std.specs.Fmt.{signed_decimal}
 use Rattle.std.specs.List.{position, position_or_len}
 use Rattle.std.proofs.Math.Seq.{take-append_seam, drop-append_seam, get_or-append_right}
-use Rattle.std.proofs.lemmas.List.{take_more, take-append-drop, length-take, get_or-take_lt, length-map, get_or-map, get_or_append_left}
+use Rattle.std.proofs.lemmas.List.{take_more, take-append-drop, length-take, get_or-take, length-map, get_or-map, get_or_append_left}
 use Rattle.std.proofs.lemmas.List.Quantifiers.{position-Some}
 use Rattle.std.proofs.lemmas.List.Sums.{position_or_len_is}
 use Rattle.std.proofs.lemmas.Bool.{lt-ltb, ne_eqb}
@@ -44,11 +44,11 @@ ok_along P Q (Ok o) there back h = one_along P Q o there back h
 
 -- a line and its words say the same
 record IsBoth (line printed : List ℕ) (ws : List (List ℕ)) : Type 0 where
-  words : IsLine line printed → words_in line ≡ ws
-  line : words_in line ≡ ws → IsLine line printed
+  there : IsLine line printed → words_in line ≡ ws
+  back : words_in line ≡ ws → IsLine line printed
 
 both : (line printed : List ℕ) (ws : List (List ℕ)) → printed ≡ spaced_line ws → AreWords ws → IsBoth line printed ws
-both line printed ws is words = record { words = words_of_line line printed ws is words; line = line_of_words line printed ws is words }
+both line printed ws is words = record { there = words_of_line line printed ws is words; back = line_of_words line printed ws is words }
 
 -- ---- each line is its words with spaces between them
 two_spaced : (key a b : List ℕ) → key ++ codes " " ++ a ++ codes " " ++ b ≡ key ++ 32 ∷ (a ++ 32 ∷ b)
@@ -134,27 +134,27 @@ lifted_both line d h = both line (lifted_front d) (lifted_words d.name d.ty) (li
 -- ---- lines but those of lifted terms
 declared_there : (h : Head) (line : List ℕ) → IsNames (names_so_far h) → (next : SoFar) → DeclarationGoesOn h (words_in line) next → GoesOnAt Declarations h line next
 declared_there h line names next k = ⊎_elim
-    (λ (i : (d : ImageDecl) × (words_in line ≡ image_words d) × ImageGoesOn h d next). inl (i.0, (image_both line i.0 i.2.0.decl).line i.1, i.2.0, i.2.1))
+    (λ (i : (d : ImageDecl) × (words_in line ≡ image_words d) × ImageGoesOn h d next). inl (i.0, (image_both line i.0 i.2.0.decl).back i.1, i.2.0, i.2.1))
     (λ (o : TapOrOutGoesOn h (words_in line) next). inr (⊎_elim
-    (λ (t : (u : Tap) × (words_in line ≡ tap_words (map image_name h.images) u) × TapGoesOn h u next). inl (t.0, (tap_both line h t.0 names t.2.0.tap).line t.1, t.2.0, t.2.1))
-    (λ (e : OutWordsGoOn h (words_in line) next). inr (e.0, (out_both line e.0).line e.1, e.2.0, e.2.1, e.2.2)) o)) k
+    (λ (t : (u : Tap) × (words_in line ≡ tap_words (map image_name h.images) u) × TapGoesOn h u next). inl (t.0, (tap_both line h t.0 names t.2.0.tap).back t.1, t.2.0, t.2.1))
+    (λ (e : OutWordsGoOn h (words_in line) next). inr (e.0, (out_both line e.0).back e.1, e.2.0, e.2.1, e.2.2)) o)) k
 
 declared_back : (h : Head) (line : List ℕ) → IsNames (names_so_far h) → (next : SoFar) → GoesOnAt Declarations h line next → DeclarationGoesOn h (words_in line) next
 declared_back h line names next k = ⊎_elim
-    (λ i. inl (i.0, (image_both line i.0 i.2.decl).words i.1, (i.2, i.3)))
+    (λ i. inl (i.0, (image_both line i.0 i.2.decl).there i.1, (i.2, i.3)))
     (λ o. inr (⊎_elim
-    (λ t. inl (t.0, (tap_both line h t.0 names t.2.tap).words t.1, (t.2, t.3)))
-    (λ e. inr (e.0, (out_both line e.0).words e.1, (e.2, e.3, e.4))) o)) k
+    (λ t. inl (t.0, (tap_both line h t.0 names t.2.tap).there t.1, (t.2, t.3)))
+    (λ e. inr (e.0, (out_both line e.0).there e.1, (e.2, e.3, e.4))) o)) k
 
 pub words_line_goes : {E : Type 0} (st : Stage) (h : Head) (line : List ℕ) (ws : List (List ℕ)) (r : Result (Option SoFar) E) → st ≢ Lifted → IsReadyAt st h → ws ≡ words_in line → IfOk r (IsTheOne (WordsGoOn st h ws)) → IfOk r (IsTheOne (GoesOnAt st h line))
 words_line_goes Declarations h line ws r other ready is told =
     ok_along (DeclarationGoesOn h (words_in line)) (GoesOnAt Declarations h line) r (declared_there h line ready) (declared_back h line ready) (subst (λ l. IfOk r (IsTheOne (DeclarationGoesOn h l))) is told)
 words_line_goes Scratch h line ws r other ready is told =
-    ok_along (WordsGoOn Scratch h (words_in line)) (GoesOnAt Scratch h line) r (λ next k. (k.0, (scratch_both line k.0 k.2).line k.1, k.2, k.3)) (λ next k. (k.0, (scratch_both line k.0 k.2).words k.1, k.2, k.3))
+    ok_along (WordsGoOn Scratch h (words_in line)) (GoesOnAt Scratch h line) r (λ next k. (k.0, (scratch_both line k.0 k.2).back k.1, k.2, k.3)) (λ next k. (k.0, (scratch_both line k.0 k.2).there k.1, k.2, k.3))
     (subst (λ l. IfOk r (IsTheOne (WordsGoOn Scratch h l))) is told)
 words_line_goes Lifted h line ws r other ready is told = absurd (other refl)
 words_line_goes Cost h line ws r other ready is told =
-    ok_along (WordsGoOn Cost h (words_in line)) (GoesOnAt Cost h line) r (λ next k. (k.0, (cost_both line k.0 k.2).line k.1, k.2, k.3)) (λ next k. (k.0, (cost_both line k.0 k.2).words k.1, k.2, k.3))
+    ok_along (WordsGoOn Cost h (words_in line)) (GoesOnAt Cost h line) r (λ next k. (k.0, (cost_both line k.0 k.2).back k.1, k.2, k.3)) (λ next k. (k.0, (cost_both line k.0 k.2).there k.1, k.2, k.3))
     (subst (λ l. IfOk r (IsTheOne (WordsGoOn Cost h l))) is told)
 words_line_goes Code h line ws r other ready is told = told
 
@@ -197,7 +197,7 @@ parted line i found =
       parts = sym (take-append-drop (i + 1) line) ∙ ap (λ l. l ++ drop (i + 1) line) front ∙ append_assoc (take i line) (61 ∷ []) (drop (i + 1) line);
       first = λ k d lt e.
         let below : k < i = omega (arith, lt, length-take i line) in
-        let same : get_or (take i line) k d ≡ get_or line k d = get_or-take_lt i line k d below in
+        let same : get_or (take i line) k d ≡ get_or line k d = get_or-take i line k d below in
         let other = (position-Some is_sign line i d (sym found)).2 k below in
         absurd (let here : is_sign 61 ≡ false = ap is_sign (sym e ∙ same) ∙ other in cc);
       front = front;
@@ -208,7 +208,7 @@ lifted_there : (h : Head) (line : List ℕ) (i : ℕ) (name : List ℕ) (ty : La
 lifted_there h line i name ty next found named words (new, room, (d, is, made)) =
     let p = parted line i found in
     let same_words : words_in (take (i + 1) line) ≡ lifted_words d.name d.ty = words ∙ ap (λ n. lifted_words n ty) (sym is.0) ∙ ap (lifted_words d.name) (sym is.1) in
-    let printed : IsLine (take (i + 1) line) (lifted_front d) = (lifted_both (take (i + 1) line) d (subst IsLiftedName (sym is.0) named)).line same_words in
+    let printed : IsLine (take (i + 1) line) (lifted_front d) = (lifted_both (take (i + 1) line) d (subst IsLiftedName (sym is.0) named)).back same_words in
     (
       d,
       record { front = take i line; term = drop (i + 1) line; parts = p.parts; first = p.first; printed = subst (λ l. IsLine l (lifted_front d)) p.front printed; means = is.2 },
@@ -242,7 +242,7 @@ lifted_back h line i next found (d, is, step, made) =
       name = d.name;
       ty = d.ty;
       named = named;
-      words = ap words_in front ∙ (lifted_both (is.front ++ 61 ∷ []) d named).words is.printed;
+      words = ap words_in front ∙ (lifted_both (is.front ++ 61 ∷ []) d named).there is.printed;
       goes = (step.new, step.name, (d, (refl, refl, subst (λ l. IsTermText (names_so_far h) l d.term (names_so_far h)) (sym behind) is.means, step.lifted, step.nodes), made));
     }
 
