@@ -11,3 +11,4 @@ pub mod TermLaws
 pub mod WrittenLaws
 pub mod MachineLaws
 pub mod RunLaws
+pub mod PlaceLaws

@@ -15,3 +15,4 @@ pub mod RowEnds
 pub mod Moved
 pub mod Spans
 pub mod Machines
+pub mod Places
