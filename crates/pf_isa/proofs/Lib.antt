@@ -14,3 +14,5 @@ pub mod WrittenLaws
 pub mod MachineLaws
 pub mod RunLaws
 pub mod PlaceLaws
+pub mod CodeLineLaws
+pub mod CodeLaws

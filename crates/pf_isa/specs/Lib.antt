@@ -10,6 +10,7 @@ pub mod Heads
 pub mod Programs
 pub mod Texts
 pub mod TextFaults
+pub mod CodeReading
 pub mod Blocks
 pub mod Runs
 pub mod RowEnds
