@@ -1,11 +1,12 @@
 -- What lines of code say, with one line more.
-use Rattle.std.proofs.Common.{◌≡◌, ℕ, zero, suc, ◌+◌, ◌<◌, ◌≤◌, List, [], ◌∷◌, ◌++◌, length, take, drop, map, Bool, true, false, not, ◌||◌, refl, sym, ◌∙◌, ap, subst, arith, ⊎_elim, append_assoc, if◌then◌else◌}
+use Rattle.std.proofs.Common.{◌≡◌, ℕ, zero, suc, ◌+◌, ◌-◌, ◌<◌, ◌≤◌, List, [], ◌∷◌, ◌++◌, length, take, drop, map, Bool, true, false, not, ◌||◌, Option, Some, None, refl, sym, ◌∙◌, ap, subst, arith, get_or, ⊎_elim, append_assoc, if◌then◌else◌}
 use Rattle.std.specs.Prelude.{Ok, Err, Result, Contains, slice_index_or, IsTrue, ◌≢◌}
 use Rattle.std.specs.Borrow.{Bor}
-use Rattle.std.specs.List.{AllPairs, AllZip, list_any}
+use Rattle.std.specs.List.{AllPairs, AllZip, list_any, last_or, slice_get, drop-map}
+use Rattle.std.specs.Result.{IfErr, IsErrAnd}
 use Rattle.std.specs.Str.{bytes_eq}
 use Rattle.std.proofs.lemmas.Bool.{cases_Bool}
-use Rattle.std.proofs.lemmas.List.{append-nil}
+use Rattle.std.proofs.lemmas.List.{append-nil, take_rest, length-map, get_or-map, length-take-le, take_all}
 use Rattle.std.proofs.lemmas.List.Elements.{Contains-get_or}
 use Rattle.std.proofs.lemmas.List.Folds.{list_any-append}
 use Rattle.std.proofs.lemmas.List.Quantifiers.{all_pairs_push}
@@ -22,8 +23,9 @@ use Rattle.pf_isa.specs.declared.fault.TextKind.TheVariants.{Label as LabelFault
 use Rattle.pf_isa.specs.declared.read_code.Reading.{Reading}
 use Rattle.pf_isa.specs.Tables.{Table}
 use Rattle.pf_isa.specs.Texts.{Said, Nothing, Named, Does, Says, code_of, labels_of}
-use Rattle.pf_isa.specs.TextFaults.{IsKnown, SaysKnown, label_names, AreRead, IsLineFault}
-use Rattle.pf_isa.specs.CodeReading.{jump_label, jump_of, jumps_of, has_name, IsReading, HasLabel, AddsLabel, HasInstruction, AddsInstruction, IsTaken}
+use Rattle.pf_isa.specs.TextFaults.{IsKnown, SaysKnown, texts, label_names, AreRead, IsLineFault}
+use Rattle.pf_isa.proofs.PlaceLaws.{take_item, split_item}
+use Rattle.pf_isa.specs.CodeReading.{jump_label, jump_of, jumps_of, has_name, IsReading, HasLabel, AddsLabel, HasInstruction, AddsInstruction, IsTaken, IsLineRefusal}
 
 zip_push : {A B : Type 0} (R : A → B → Type 0) (xs : List A) (ys : List B) (x : A) (y : B) → AllZip R xs ys → R x y → AllZip R (xs ++ x ∷ []) (ys ++ y ∷ [])
 zip_push R [] [] x y z r = (r, tt)
@@ -166,3 +168,57 @@ label_taken t is_op start ls said line name number old new (Err (At at kind)) nu
     let there : Contains (label_names said) name = has_contains (label_names said) name (sym (r.names_are name) ∙ adds.2) in
     (adds.0, rw adds.1 (name, says.0, there))
 label_taken t is_op start ls said line name number old new (Err Memory) numbered r says adds = tt
+
+-- ---- the lines behind a head, one after another
+
+pub carried : {A E : Type 0} (r : Result A E) (f : E) (Q : E → Type 0) → IsErrAnd r (λ e. e ≡ f) → Q f → IfErr r Q
+carried (Ok x) f Q is q = tt
+carried (Err e) f Q is q = subst Q (sym is) q
+
+pub behind_texts : (lines : List (Bor (List ℕ))) (start : ℕ) → take (length lines - start) (drop start lines) ≡ drop start lines
+behind_texts lines start = take_rest lines start
+
+pub text_at : (lines : List (Bor (List ℕ))) (start n : ℕ) (d : Bor (List ℕ)) → n < length (take (length lines - start) (drop start lines))
+    → (n < length (drop start (texts lines))) × (slice_index_or (drop start (texts lines)) n (get_or (take (length lines - start) (drop start lines)) n d).now ≡ (get_or (take (length lines - start) (drop start lines)) n d).now)
+text_at lines start n d within =
+    let rest : take (length lines - start) (drop start lines) ≡ drop start lines = take_rest lines start in
+    let all : drop start (texts lines) ≡ map (λ (s : Bor (List ℕ)). s.now) (drop start lines) = drop-map (λ (s : Bor (List ℕ)). s.now) start lines in
+    let inside : n < length (drop start lines) = rw rest at within in
+    let many : n < length (map (λ (s : Bor (List ℕ)). s.now) (drop start lines)) = rw length-map inside in
+    (rw all many, rw (rest, all) (get_or-map (λ (s : Bor (List ℕ)). s.now) (drop start lines) n d _ inside))
+
+pub number_at : (start n : ℕ) (back : List (List ℕ)) → n < length back → start + n + 1 ≡ start + length (take n back) + 1
+number_at start n back within =
+    let inside : n ≤ length back = omega arith in
+    let size : length (take n back) ≡ n = length-take-le n back inside in
+    rw size refl
+
+pub reading_on : {I O : Type 0} (t : Table O) (is_op : O → Type 0) (start : ℕ) (back : List (List ℕ)) (n : ℕ) (line : List ℕ) (said : List (Said I O)) (new : Reading I O)
+    → n < length back → line ≡ slice_index_or back n line → (s : Said I O) × IsReading t is_op start (take n back ++ line ∷ []) (said ++ s ∷ []) new
+    → (more : List (Said I O)) × IsReading t is_op start (take (n + 1) back) more new
+reading_on t is_op start back n line said new within is on =
+    (said ++ on.0 ∷ [], subst (λ ls. IsReading t is_op start ls (said ++ on.0 ∷ []) new) (sym (take_item back n line within is)) on.1)
+
+pub line_refused : {I O : Type 0} (t : Table O) (is_op : O → Type 0) (start : ℕ) (back : List (List ℕ)) (n : ℕ) (line : List ℕ) (said : List (Said I O)) (old new : Reading I O) (fault : TextFault)
+    → n < length back → line ≡ slice_index_or back n line → IsReading t is_op start (take n back) said old
+    → IsTaken t is_op start (take n back) said line (start + n + 1) new (Err fault) → IsLineRefusal I t is_op start back fault
+line_refused t is_op start back n line said old new (At at kind) within is r h =
+    let inside : n ≤ length back = omega arith in
+    (n, record { front = take n back; line = line; rest = drop (n + 1) back; said = said; parts = split_item back n line within is; count = sym (length-take-le n back inside); before = r.read; fault = h.1 }, h.0)
+line_refused t is_op start back n line said old new Memory within is r h = tt
+
+pub all_read : {I O : Type 0} (t : Table O) (is_op : O → Type 0) (start n : ℕ) (back : List (List ℕ)) (r : Reading I O) → length back ≤ n
+    → (said : List (Said I O)) × IsReading t is_op start (take n back) said r → (said : List (Said I O)) × IsReading t is_op start back said r
+all_read t is_op start n back r many on = (on.0, subst (λ ls. IsReading t is_op start ls on.0 r) (take_all n back many) on.1)
+
+-- ---- the last instruction
+
+last_item : {A : Type 0} (x : A) (xs : List A) (o : Option A) → last_or o (x ∷ xs) ≡ slice_get (x ∷ xs) (length xs)
+last_item x [] o = refl
+last_item x (y ∷ ys) o = last_item y ys (Some x)
+
+pub last_is : {A : Type 0} (xs : List A) → last_or None xs ≡ slice_get xs (length xs - 1)
+last_is [] = refl
+last_is (x ∷ xs) =
+    let count : length (x ∷ xs) - 1 ≡ length xs = omega arith in
+    rw count (last_item x xs None)

@@ -1,4 +1,4 @@
-ghost use Rattle.std.specs.Prelude.{◌≡◌, ◌+◌, ◌≤◌, ◌<◌, ◌^◌, ◌∷◌, ◌++◌, List, ℕ, [], length, drop, None, IfOk, IfErr, IsTrue, ◌↔◌};
+ghost use Rattle.std.specs.Prelude.{◌≡◌, ◌+◌, ◌≤◌, ◌<◌, ◌^◌, ◌∷◌, ◌++◌, List, ℕ, [], length, drop, None, Some, IfOk, IfErr, IsTrue, ◌↔◌};
 ghost use Rattle.std.specs.List.{last_or};
 ghost use Rattle.pf_ints.specs.Words.{is_name};
 ghost use Rattle.pf_isa.specs.declared.code.Label.{Label};
@@ -153,7 +153,19 @@ fn ends<I: Isa>(code: &[Line<I>]) -> bool
     ensures { IsTrue result ↔ IsLast (last_or None code.now) }
 {
     match code.last() {
-        Some(Line::Control(c)) => matches!(c.control(), Control::Jump { .. } | Control::Return),
-        _ => false,
+        None => false,
+        Some(line) => is_end(line),
+    }
+}
+
+fn is_end<I: Isa>(line: &Line<I>) -> bool
+    ensures { IsTrue result ↔ IsLast (Some line.now) }
+{
+    match line {
+        Line::Vector(_) => false,
+        Line::Control(c) => match c.control() {
+            Control::Jump { .. } | Control::Return => true,
+            _ => false,
+        },
     }
 }
