@@ -16,3 +16,5 @@ pub mod RunLaws
 pub mod PlaceLaws
 pub mod CodeLineLaws
 pub mod CodeLaws
+pub mod CodeTexts
+pub mod CodeOnce
