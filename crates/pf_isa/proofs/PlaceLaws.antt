@@ -10,6 +10,10 @@ use Rattle.std.proofs.lemmas.Bool.{cases_Bool}
 use Rattle.std.proofs.lemmas.List.{take_more, take-append-drop}
 use Rattle.std.proofs.lemmas.Slice.Eq.{bytes_eq-Decides}
 use Rattle.pf_isa.specs.declared.code.Label.{Label}
+use Rattle.pf_isa.specs.declared.code.Line.{Line}
+use Rattle.pf_isa.specs.declared.code.Line.TheVariants.{Vector, Control as Controls}
+use Rattle.pf_isa.specs.CodeReading.{jump_label}
+use Rattle.pf_isa.specs.Machines.{destination, destination_of}
 use Rattle.pf_isa.specs.Steps.{place_of}
 use Rattle.pf_isa.specs.Places.{labelled, found, Finds}
 
@@ -99,7 +103,19 @@ place_labelled (l ∷ ls) end name =
     (λ (other : bytes_eq l.name name ≡ false). rw other rest)
     (cases_Bool (bytes_eq l.name name))
 
-pub place_found : {S : Type 0} (places : HashMap (Bor (List ℕ)) ℕ S) (ls : List Label) (end place : ℕ) (name : List ℕ) → place ≡ unwrap_or (found places name) end → Finds places ls → place ≡ place_of ls end name
+place_found : {S : Type 0} (places : HashMap (Bor (List ℕ)) ℕ S) (ls : List Label) (end place : ℕ) (name : List ℕ) → place ≡ unwrap_or (found places name) end → Finds places ls → place ≡ place_of ls end name
 place_found places ls end place name is f =
     let there : found places name ≡ labelled ls name = f.at_name name in
     is ∙ rw there (place_labelled ls end name)
+
+-- where an instruction may jump to
+label_destination : {I O : Type 0} (labels : List Label) (end : ℕ) (line : Line I O) → destination labels end (jump_label line) ≡ destination_of labels end line
+label_destination labels end (Vector op) = refl
+label_destination labels end (Controls c) = refl
+
+pub no_destination : {I O : Type 0} (labels : List Label) (end : ℕ) (line : Line I O) → jump_label line ≡ None → end ≡ destination_of labels end line
+no_destination labels end line none = rw none at (label_destination labels end line)
+
+pub destination_found : {I O S : Type 0} (places : HashMap (Bor (List ℕ)) ℕ S) (labels : List Label) (end place : ℕ) (label : List ℕ) (line : Line I O) → jump_label line ≡ Some label
+    → place ≡ unwrap_or (found places label) end → Finds places labels → place ≡ destination_of labels end line
+destination_found places labels end place label line some is f = place_found places labels end place label is f ∙ rw some at (label_destination labels end line)

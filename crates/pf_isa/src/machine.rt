@@ -9,8 +9,8 @@ ghost use Rattle.pf_isa.specs.declared.code.Label.{Label};
 ghost use Rattle.pf_isa.specs.Machines.{Answers, Ends, IsMemory, HasTable, is_table, with_entries, destination_of};
 
 use crate::code::{Label, Line};
-use crate::control::Control;
 use crate::isa::Isa;
+use crate::jumps::jump_label;
 use crate::memory::{Region, RegionList};
 use crate::memory_access::bytes_of;
 use crate::program::Program;
@@ -175,13 +175,9 @@ fn place_of(places: &Places<'_>, name: Name, end: u64) -> u64
 fn destination<I: Isa>(places: &Places<'_>, end: u64, line: &Line<I>) -> u64
     ensures { (labels : List Label) → Finds places.now labels → result ≡ destination_of labels end line.now }
 {
-    match line {
-        Line::Vector(_) => end,
-        Line::Control(c) => match c.control() {
-            Control::Below { label } => place_of(places, label, end),
-            Control::Jump { label } => place_of(places, label, end),
-            _ => end,
-        },
+    match jump_label(line) {
+        None => end,
+        Some(label) => place_of(places, label, end),
     }
 }
 

@@ -3,6 +3,7 @@ ghost use Rattle.std.specs.List.{last_or};
 ghost use Rattle.pf_ints.specs.Words.{is_name};
 ghost use Rattle.pf_isa.specs.declared.code.Label.{Label};
 ghost use Rattle.pf_isa.specs.declared.code.Line.{Line};
+ghost use Rattle.pf_isa.specs.declared.fault.TextFault.TheVariants.{At};
 ghost use Rattle.pf_isa.specs.Programs.{IsLast};
 ghost use Rattle.pf_isa.specs.Texts.{Said, Does, IsCodeText};
 ghost use Rattle.pf_isa.specs.TextFaults.{texts, IsKnown, IsCodeRefusal, IsCodeOr};
@@ -52,16 +53,10 @@ fn read_whole_code<I: Isa>(
 {
     let reading = read_lines(alloc, lines, start)?;
     if let Some(line) = first_missing(reading.jumps.as_slice(), &reading.names) {
-        return Err(TextFault::At {
-            line,
-            kind: TextKind::Label,
-        });
+        return Err(fault(line, TextKind::Label));
     }
     if !ends(reading.code.as_slice()) {
-        return Err(TextFault::At {
-            line: lines.len() as u64,
-            kind: TextKind::NoEnd,
-        });
+        return Err(fault(lines.len() as u64, TextKind::NoEnd));
     }
     Ok((reading.code, reading.labels))
 }
@@ -97,10 +92,7 @@ fn take_line<'a, I: Isa>(
     ensures { TakesLine I.table I.is_op line.now number reading.old reading.new result }
 {
     match code_line(line) {
-        None => Err(TextFault::At {
-            line: number,
-            kind: TextKind::Instruction,
-        }),
+        None => Err(fault(number, TextKind::Instruction)),
         Some(CodeLine::Blank) => Ok(()),
         Some(CodeLine::Label(name)) => add_label(reading, name, number),
         Some(CodeLine::Instruction(instruction)) => add_instruction(reading, instruction, number),
@@ -118,10 +110,7 @@ fn add_label<'a, I: Isa>(
 {
     let label = Name::new(name).unwrap();
     if !reading.names.insert(name)? {
-        return Err(TextFault::At {
-            line: number,
-            kind: TextKind::Label,
-        });
+        return Err(fault(number, TextKind::Label));
     }
     reading.labels.push(Label {
         name: label,
@@ -146,6 +135,12 @@ fn add_instruction<I: Isa>(
     }
     reading.code.push(line)?;
     Ok(())
+}
+
+fn fault(line: u64, kind: TextKind) -> TextFault
+    ensures { result ≡ At line kind }
+{
+    TextFault::At { line, kind }
 }
 
 /// Whether the end of the code isn't reached from its last instruction.

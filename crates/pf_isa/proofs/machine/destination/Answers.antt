@@ -1,8 +1,9 @@
-use Rattle.pf_isa.proofs.PlaceLaws.{place_found}
+use Rattle.std.proofs.Common.{sym, ◌∙◌}
+use Rattle.pf_isa.proofs.PlaceLaws.{no_destination, destination_found}
 use Rattle.pf_isa.proofs.machine.destination.Goals as goal
 
-pub returns-in-Below : goal.returns-in-Below
-returns-in-Below g c = λ ls f. rw (c.in-Control.is, ← c.control.ensures.value, c.in-Below.is) (place_found c.args.places.now ls _ _ _ c.place_of.ensures f)
+pub returns-in-None : goal.returns-in-None
+returns-in-None g c = λ ls f. no_destination ls c.args.end c.args.line.now (sym c.jump_label.ensures ∙ c.in-None.is)
 
-pub returns-in-Jump : goal.returns-in-Jump
-returns-in-Jump g c = λ ls f. rw (c.in-Control.is, ← c.control.ensures.value, c.in-Jump.is) (place_found c.args.places.now ls _ _ _ c.place_of-in-Jump.ensures f)
+pub returns-in-Some : goal.returns-in-Some
+returns-in-Some g c = λ ls f. destination_found c.args.places.now ls c.args.end c.place_of.result c.in-Some.label c.args.line.now (sym c.jump_label.ensures ∙ c.in-Some.is) c.place_of.ensures f
