@@ -18,3 +18,4 @@ pub mod CodeLineLaws
 pub mod CodeLaws
 pub mod CodeTexts
 pub mod CodeOnce
+pub mod JoinLaws
