@@ -4,10 +4,12 @@
 mod access;
 mod block;
 mod code;
+mod code_line;
 mod control;
 mod fault;
 mod head_words;
 mod isa;
+mod jumps;
 mod lines;
 mod machine;
 mod memory;
