@@ -13,6 +13,10 @@ pub mod NameLaws
 pub mod WordLines
 pub mod HeadStepLaws
 pub mod HeadLineLaws
+pub mod ListLaws
+pub mod HeadChains
+pub mod HeadSaid
+pub mod ReadingLaws
 pub mod TermLaws
 mod WrittenHeads
 pub mod WrittenLaws
