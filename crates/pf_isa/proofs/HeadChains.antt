@@ -1,6 +1,6 @@
 -- The lines of a head go on from nothing to the whole head.
 use Rattle.std.proofs.Common.{◌≡◌, ◌≢◌, refl, sym, ap, ◌∙◌, subst, inl, inr, ⊎_elim, zero, suc, ℕ, ◌+◌, ◌≤◌, ◌<◌, ◌^◌, List, [], ◌∷◌, ◌++◌, length, map, get_or, Bool, true, false, arith, append_assoc, length-append, All, rules, if◌then◌else◌}
-use Rattle.std.specs.Prelude.{IsTrue, Contains, sum, codes}
+use Rattle.std.specs.Prelude.{◌⊎◌, IsTrue, Contains, sum, codes}
 use Rattle.std.specs.Str.{bytes_eq}
 use Rattle.std.specs.List.{AllPairs, AllZip}
 use Rattle.std.proofs.lemmas.Bool.{cases_Bool}

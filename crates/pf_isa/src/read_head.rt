@@ -24,14 +24,21 @@ pub fn read_head(
     ensures only { (h : Head) (front back : List (List ℕ)) → texts lines.now ≡ front ++ back → IsHeadText target front h → IsHead h → IsHeadOr h (length front) result }
     ensures fault { IfErr result (IsHeadRefusal target (texts lines.now)) }
 {
-    match lines {
-        [first, rest @ ..] if is_for(target, first) => {
-            read_rest(alloc, HeadSoFar::new(alloc), rest, 1)
-        }
-        _ => Err(TextFault::At {
-            line: 1,
-            kind: TextKind::Target,
-        }),
+    let [first, rest @ ..] = lines else {
+        return Err(no_target());
+    };
+    if !is_for(target, first) {
+        return Err(no_target());
+    }
+    read_rest(alloc, HeadSoFar::new(alloc), rest, 1)
+}
+
+fn no_target() -> TextFault
+    ensures { result ≡ TextFault.At 1 TextKind.Target }
+{
+    TextFault::At {
+        line: 1,
+        kind: TextKind::Target,
     }
 }
 
