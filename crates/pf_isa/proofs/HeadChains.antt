@@ -93,7 +93,7 @@ out_is_no_name name is h = let out : is_name (codes "out") ≡ true = ap is_name
 is_no_out : (name : List ℕ) → IsTrue (is_name name) → bytes_eq name (codes "out") ≡ false
 is_no_out name h = ⊎_elim (λ (same : bytes_eq name (codes "out") ≡ true). absurd (out_is_no_name name ((bytes_eq-Decides name (codes "out")).0 same) h)) (λ (other : bytes_eq name (codes "out") ≡ false). other) (cases_Bool (bytes_eq name (codes "out")))
 
-names_more : (h : Head) (done : List Definition) (d : Definition) → names_so_far (with_terms h (done ++ d ∷ [])) ≡ with_def (names_so_far (with_terms h done)) d
+pub names_more : (h : Head) (done : List Definition) (d : Definition) → names_so_far (with_terms h (done ++ d ∷ [])) ≡ with_def (names_so_far (with_terms h done)) d
 names_more h done d = ap (λ defs. record { images = map image_name h.images; taps = h.taps; defs = defs }) (map_push def_name done d)
 
 next_lifted : (h : Head) → IsHead h → (done todo : List Definition) (d : Definition) → done ++ d ∷ todo ≡ h.lifted → IsLifted (names_so_far (with_terms h done)) d

@@ -338,22 +338,26 @@ named_of : (ds : List ImageDecl) → All IsDecl ds → All (λ s. is_name s ≡ 
 named_of [] h = All-nil (λ s. is_name s ≡ true)
 named_of (d ∷ ds) h = All-cons (λ s. is_name s ≡ true) d.name (map (λ e. e.name) ds) (All-head IsDecl d ds h).name (named_of ds (All-tail IsDecl d ds h))
 
-names_ready : (h : Head) → IsValid h → All (λ s. is_name s ≡ true) (map (λ d. d.name) h.lifted) → length h.lifted ≤ 64 → IsNames (names_so_far h)
-names_ready h v named few =
+pub names_from : (h : Head) → length h.images ≤ 8 → All IsDecl h.images → length h.taps ≤ 64 → All (IsTap (length h.images)) h.taps → AllPairs (λ t u. t ≢ u) h.taps → AllPairs (λ n m. n ≢ m) (names_in h)
+    → All (λ s. is_name s ≡ true) (map (λ d. d.name) h.lifted) → length h.lifted ≤ 64 → IsNames (names_so_far h)
+names_from h few_images decls few_taps taps distinct_taps distinct named few =
     let images : map (λ (i : ImageName). i.name) (map image_name h.images) ≡ map (λ d. d.name) h.images = map_images h.images in
     let defs : map (λ d. d.name) (map def_name h.lifted) ≡ map (λ d. d.name) h.lifted = map_defs h.lifted in
     let long = length-map h.images image_name in
     record {
-      few_images = omega (arith, long, v.few_images);
-      few_taps = v.few_taps;
+      few_images = omega (arith, long, few_images);
+      few_taps = few_taps;
       few_defs = omega (arith, few, length-map h.lifted def_name);
-      pixels = pixels_of h.images v.images;
+      pixels = pixels_of h.images decls;
       named = subst (λ l. All (λ s. is_name s ≡ true) (l ++ map (λ d. d.name) (map def_name h.lifted))) (sym images)
-      (subst (λ l. All (λ s. is_name s ≡ true) (map (λ d. d.name) h.images ++ l)) (sym defs) (All-append (λ s. is_name s ≡ true) (map (λ d. d.name) h.images) (map (λ d. d.name) h.lifted) (named_of h.images v.images) named));
-      distinct_names = subst (λ l. AllPairs (λ s t. s ≢ t) (l ++ map (λ d. d.name) (map def_name h.lifted))) (sym images) (subst (λ l. AllPairs (λ s t. s ≢ t) (map (λ d. d.name) h.images ++ l)) (sym defs) v.names);
-      near = subst (λ n. All (IsNearTap n) h.taps) (sym long) (λ k d lt. let t = v.taps k d lt in record { image = t.image; across = record { low = t.left; high = t.right }; down = record { low = t.up; high = t.down } });
-      distinct_taps = v.distinct_taps;
+      (subst (λ l. All (λ s. is_name s ≡ true) (map (λ d. d.name) h.images ++ l)) (sym defs) (All-append (λ s. is_name s ≡ true) (map (λ d. d.name) h.images) (map (λ d. d.name) h.lifted) (named_of h.images decls) named));
+      distinct_names = subst (λ l. AllPairs (λ s t. s ≢ t) (l ++ map (λ d. d.name) (map def_name h.lifted))) (sym images) (subst (λ l. AllPairs (λ s t. s ≢ t) (map (λ d. d.name) h.images ++ l)) (sym defs) distinct);
+      near = subst (λ n. All (IsNearTap n) h.taps) (sym long) (λ k d lt. let t = taps k d lt in record { image = t.image; across = record { low = t.left; high = t.right }; down = record { low = t.up; high = t.down } });
+      distinct_taps = distinct_taps;
     }
+
+names_ready : (h : Head) → IsValid h → All (λ s. is_name s ≡ true) (map (λ d. d.name) h.lifted) → length h.lifted ≤ 64 → IsNames (names_so_far h)
+names_ready h v named few = names_from h v.few_images v.images v.few_taps v.taps v.distinct_taps v.names named few
 
 ready_at : (st : Stage) (h : Head) (ls : List (List ℕ)) → IsSaid (record { stage = st; head = h }) ls → IsReadyAt st h
 ready_at Declarations h ls said = names_ready h said.valid (subst (λ l. All (λ s. is_name s ≡ true) (map (λ (d : Definition). d.name) l)) (sym said.at.0) (All-nil (λ s. is_name s ≡ true))) (subst (λ (l : List Definition). length l ≤ 64) (sym said.at.0) (omega arith))
