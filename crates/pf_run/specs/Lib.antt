@@ -2,3 +2,4 @@ pub mod Reach
 pub mod Sets
 pub mod Placement
 pub mod Answers
+pub mod Rows

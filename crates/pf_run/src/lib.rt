@@ -2,8 +2,10 @@
 #![tactic(auto)]
 
 mod fault;
+mod places;
 mod program;
 mod reach;
+mod rows;
 mod set;
 
 pub use fault::{RunFault, SetFault};
