@@ -1,3 +1,4 @@
 pub mod SetLaws
 pub mod KeptLaws
 pub mod PlacedLaws
+pub mod RowLaws

@@ -146,7 +146,6 @@ module _ (h : Head) (is : IsHead h) (pictures : List Picture) (are : All IsPictu
   pub output_small : output_size h pictures ≤ 2 * 16777216
   output_small = mul-le (pixel_bytes h.out_ty) (columns h pictures * rows h pictures) 2 16777216 (pixel_at_most_two h.out_ty is.out_ty) small
 
-
   abbrev second : ℕ
   second = start_behind (65536 + table_size h)
 

@@ -1,6 +1,6 @@
 //! The rows of a run, one behind the other.
 
-ghost use Rattle.std.specs.Prelude.{◌≡◌, ◌+◌, ◌*◌, ◌<◌, ◌≤◌, ◌^◌, ◌++◌, ◌∷◌, [], length, map, All, IfOk, OnOk};
+ghost use Rattle.std.specs.Prelude.{◌≡◌, pos, ◌+ℤ◌, ◌-ℤ◌, unsigned_abs, ◌+◌, ◌*◌, ◌<◌, ◌≤◌, ◌^◌, ◌++◌, ◌∷◌, [], length, map, All, IfOk, OnOk};
 ghost use Rattle.pf_isa.specs.Runs.{row_budget, tap_address};
 ghost use Rattle.pf_isa.specs.Steps.{run, started};
 ghost use Rattle.pf_isa.specs.Machines.{HasTable, with_entries};
@@ -45,6 +45,34 @@ pub fn row_budget(instructions: u64, taps: u64, pixels: u64) -> u64
     (instructions + 1) * (pixels + 8) + 4096 * (taps + 2)
 }
 
+/// How far a tap of this offset lies from the first pixel of an image, so many pixels on, where
+/// `least` is the least of 0 and all offsets.
+fn distance(from: u32, least: i16, offset: i16) -> u32
+    requires { from ≤ 8192 }
+    ensures { result ≡ unsigned_abs ((pos from -ℤ least) +ℤ offset) }
+{
+    (i64::from(from) - i64::from(least) + i64::from(offset)).unsigned_abs() as u32
+}
+
+/// The number of the pixel in this row and column of an image.
+fn pixel_number(width: u32, row: u32, column: u32) -> u64
+    requires { width ≤ 8192 }
+    ensures value { result ≡ width * row + column }
+    ensures small { result < 2 ^ 48 }
+{
+    u64::from(width) * u64::from(row) + u64::from(column)
+}
+
+/// The address of pixel n of an image that starts here, or of the output.
+fn pixel_address(start: u64, bytes: u64, n: u64) -> u64
+    requires start { start < 2 ^ 31 }
+    requires bytes { bytes ≤ 4 }
+    requires pixel { n < 2 ^ 48 }
+    ensures { result ≡ start + bytes * n }
+{
+    start + bytes * n
+}
+
 /// The address of the tap's pixel at column 0 of row y of the output.
 fn tap_address(plan: &Plan, images: &[Image], y: u32, tap: &Tap) -> u64
     requires plan { IsPlan images.now plan.now }
@@ -54,10 +82,10 @@ fn tap_address(plan: &Plan, images: &[Image], y: u32, tap: &Tap) -> u64
 {
     let number = usize::from(tap.image);
     let image = &images[number];
-    let column = (0 - i64::from(plan.left) + i64::from(tap.dx)).unsigned_abs();
-    let row = (i64::from(y) - i64::from(plan.up) + i64::from(tap.dy)).unsigned_abs();
-    let place = u64::from(image.width()) * row + column;
-    plan.starts.images[number] + pixel_bytes(image.ty()) * place
+    let column = distance(0, plan.left, tap.dx);
+    let row = distance(y, plan.up, tap.dy);
+    let n = pixel_number(image.width(), row, column);
+    pixel_address(plan.starts.images[number], pixel_bytes(image.ty()), n)
 }
 
 /// Puts the table of row y in place of the entries.
@@ -75,19 +103,15 @@ fn write_entries(
     'taps: for tap in plan.taps.as_slice() {
         entries.push(tap_address(plan, images, y, tap))?;
     }
-    let before = u64::from(plan.columns) * u64::from(y);
-    entries.push(plan.starts.output + pixel_bytes(plan.out_ty) * before)?;
+    let n = pixel_number(plan.columns, y, 0);
+    entries.push(pixel_address(plan.starts.output, pixel_bytes(plan.out_ty), n))?;
     entries.push(plan.starts.scratch)?;
     entries.push(u64::from(plan.columns))?;
     Ok(())
 }
 
 /// Runs a row from its table to its return.
-fn run_row<I: Isa>(
-    machine: &mut Machine<I>,
-    entries: &[u64],
-    budget: u64,
-) -> Result<(), RunFault>
+fn run_row<I: Isa>(machine: &mut Machine<I>, entries: &[u64], budget: u64) -> Result<(), RunFault>
     requires { HasTable machine.old.state.regions 65536 (8 * length entries.now) }
     ensures value { RowAnswers (run I.table machine.old.text.code machine.old.text.labels budget (started I.table 65536 (with_entries machine.old.state.regions 65536 entries.now))) budget result machine.new.state }
     ensures text { machine.new.text ≡ machine.old.text }
@@ -95,11 +119,13 @@ fn run_row<I: Isa>(
     machine.start_row(TABLE, entries);
     match machine.run_row(budget) {
         Ok(()) => Ok(()),
-        Err(Trap::Outside {
-            at,
-            address,
-            length,
-        }) => Err(RunFault::Outside {
+        Err(
+            Trap::Outside {
+                at,
+                address,
+                length,
+            },
+        ) => Err(RunFault::Outside {
             at,
             address,
             length,
@@ -125,7 +151,9 @@ pub fn run_rows<I: Isa>(
     let mut entries = Vec::with_capacity(alloc, plan.taps.len() + 3)?;
     'rows: for y in 0..plan.rows {
         write_entries(plan, images, y, &mut entries)?;
-        run_row(machine, &entries, plan.budget)?;
+        if let Err(fault) = run_row(machine, &entries, plan.budget) {
+            return Err(fault);
+        }
     }
     Ok(())
 }
