@@ -21,6 +21,8 @@ use Rattle.pf_isa.specs.Memory.{Apart}
 use Rattle.pf_isa.specs.Heads.{IsHead}
 use Rattle.pf_isa.specs.Runs.{Places, IsPlaced, IsAligned, pixel_bytes, pixels_in_memory, region, image_regions, memory, columns, rows, table_size, output_size}
 use Rattle.pf_isa.proofs.ByteLaws.{length-packed}
+use Rattle.pf_run.specs.declared.reach.Axis.{Axis}
+use Rattle.pf_run.specs.Reach.{offset_along, least_offset, greatest_offset, extent}
 use Rattle.pf_run.specs.Placement.{start_behind, image_size, starts_from, start_after, run_places, blank_scratch, blank_output}
 
 -- the regions lie one behind the other, from an address on and up to another
@@ -109,12 +111,30 @@ highest_high (n ∷ ns) =
 within_size : (low high : ℤ) (size : ℕ) → low ≤ℤ pos 0 → pos 0 ≤ℤ high → pos 1 ≤ℤ (pos size -ℤ (high -ℤ low)) → unsigned_abs (pos size -ℤ (high -ℤ low)) ≤ size
 within_size low high size below above some = omega (arith, ints)
 
+pub extent_within : (axis : Axis) (taps : List Tap) (size : ℕ) → pos 1 ≤ℤ extent axis taps size → unsigned_abs (extent axis taps size) ≤ size
+extent_within axis taps size some = within_size (least_offset axis taps) (greatest_offset axis taps) size (lowest_low (map (offset_along axis) taps)) (highest_high (map (offset_along axis) taps)) some
+
 module _ (taps : List Tap) (pictures : List Picture) where
   pub columns_within : pos 1 ≤ℤ out_width taps pictures → unsigned_abs (out_width taps pictures) ≤ width_of pictures
   columns_within some = within_size (left_reach taps) (right_reach taps) (width_of pictures) (lowest_low (map (λ t. t.dx) taps)) (highest_high (map (λ t. t.dx) taps)) some
 
   pub rows_within : pos 1 ≤ℤ out_height taps pictures → unsigned_abs (out_height taps pictures) ≤ height_of pictures
   rows_within some = within_size (up_reach taps) (down_reach taps) (height_of pictures) (lowest_low (map (λ t. t.dy) taps)) (highest_high (map (λ t. t.dy) taps)) some
+
+after_above : (start : ℕ) (ps : List Picture) → start ≤ start_after start (map image_size ps)
+after_above start [] = omega arith
+after_above start (p ∷ ps) =
+    let next : start + image_size p ≤ start_behind (start + image_size p) = behind_above (start + image_size p) in
+    let rest = after_above (start_behind (start + image_size p)) ps in
+    omega arith
+
+starts_below : (start top : ℕ) (ps : List Picture) → start_after start (map image_size ps) < top → All (λ a. a < top) (starts_from start (map image_size ps))
+starts_below start top [] below = All-nil (λ a. a < top)
+starts_below start top (p ∷ ps) below =
+    let next : start + image_size p ≤ start_behind (start + image_size p) = behind_above (start + image_size p) in
+    let rest = after_above (start_behind (start + image_size p)) ps in
+    let here : start < top = omega arith in
+    All-cons (λ a. a < top) start (starts_from (start_behind (start + image_size p)) (map image_size ps)) here (starts_below (start_behind (start + image_size p)) top ps below)
 
 -- no images have no regions
 pub no_regions : (starts : List ℕ) (ps : List Picture) (rs : List Region) → length ps ≡ 0 → rs ≡ rs ++ image_regions starts ps
@@ -155,22 +175,31 @@ module _ (h : Head) (is : IsHead h) (pictures : List Picture) (are : All IsPictu
   abbrev begun : List Region
   begun = memory pictures (run_places h pictures) (replicate (table_size h) 0) (blank_scratch h) (blank_output h pictures)
 
-  between : Between 65536 2147483647 begun
-  between =
-      let out = region (start_after third (map image_size pictures)) (blank_output h pictures) true in
+  pub output_end : start_after third (map image_size pictures) + length (blank_output h pictures) ≤ 2147483647
+  output_end =
       let after : start_after third (map image_size pictures) ≤ third + 33562623 * length pictures = after_below third pictures are in
-      let table : length (replicate {A = ℕ} (table_size h) 0) ≡ table_size h = length-replicate (table_size h) 0 in
-      let scratch : length (blank_scratch h) ≡ h.scratch = length-replicate h.scratch 0 in
       let output : length (blank_output h pictures) ≡ output_size h pictures = length-replicate (output_size h pictures) 0 in
       let some_taps = is.few_taps in
       let some_scratch = is.scratch in
-      let low_second : 65536 + table_size h ≤ second = behind_above (65536 + table_size h) in
       let high_second : second ≤ 65536 + table_size h + 8191 = behind_below (65536 + table_size h) in
-      let low_third : second + h.scratch ≤ third = behind_above (second + h.scratch) in
       let high_third : third ≤ second + h.scratch + 8191 = behind_below (second + h.scratch) in
       let most = output_small in
-      let end : start_after third (map image_size pictures) + length (blank_output h pictures) ≤ 2147483647 = rw output (omega arith) in
-      (omega arith, (rw table low_second, images_between (second + length (blank_scratch h)) third 2147483647 pictures out (rw scratch low_third) are refl end))
+      rw output (omega arith)
+
+  between : Between 65536 2147483647 begun
+  between =
+      let out = region (start_after third (map image_size pictures)) (blank_output h pictures) true in
+      let table : length (replicate {A = ℕ} (table_size h) 0) ≡ table_size h = length-replicate (table_size h) 0 in
+      let scratch : length (blank_scratch h) ≡ h.scratch = length-replicate h.scratch 0 in
+      let low_second : 65536 + table_size h ≤ second = behind_above (65536 + table_size h) in
+      let low_third : second + h.scratch ≤ third = behind_above (second + h.scratch) in
+      (omega arith, (rw table low_second, images_between (second + length (blank_scratch h)) third 2147483647 pictures out (rw scratch low_third) are refl output_end))
+
+  pub output_low : (run_places h pictures).output < 2 ^ 31
+  output_low = let end = output_end in omega arith
+
+  pub images_low : All (λ start. start < 2 ^ 31) (run_places h pictures).images
+  images_low = starts_below third (2 ^ 31) pictures output_low
 
   pub placed : IsPlaced h pictures (run_places h pictures) (blank_scratch h) (blank_output h pictures)
   placed = record {

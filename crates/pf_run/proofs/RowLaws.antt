@@ -17,7 +17,7 @@ use Rattle.pf_isa.specs.Runs.{Places, RunEnd, Finished, Failed, then_rows, rows_
 use Rattle.pf_isa.proofs.ByteLaws.{length-packed}
 use Rattle.pf_run.specs.declared.fault.RunFault.{RunFault}
 use Rattle.pf_run.specs.declared.fault.RunFault.TheVariants.{Set, Outside, Spent as Overspent, Memory}
-use Rattle.pf_run.specs.declared.rows.Plan.{Plan}
+use Rattle.pf_run.specs.declared.plan.Plan.{Plan}
 use Rattle.pf_run.specs.Placement.{run_places, places_of, blank_memory, blank_scratch, blank_output}
 use Rattle.pf_run.specs.Answers.{run_end}
 use Rattle.pf_run.specs.Rows.{RowAnswers, RowsAnswer, IsPlan, IsPlanOf, entries_of}
@@ -126,13 +126,13 @@ pub record SoFar {I O : Type 0} (t : Table O) (p : Text I O) (pictures : List Pi
   pub onwards : rows_from t p 65536 (row_budget (length p.code) (length p.head.taps) (columns p.head pictures)) (λ z. row_entries p.head pictures (run_places p.head pictures) z) (rows p.head pictures - y) y rs ≡ run_end t p pictures
 
 module _ {I O : Type 0} (t : Table O) (p : Text I O) (pictures : List Picture) where
-  abbrev entries : ℕ → List ℕ
+  abbrev pub entries : ℕ → List ℕ
   entries y = row_entries p.head pictures (run_places p.head pictures) y
 
-  abbrev budget : ℕ
+  abbrev pub budget : ℕ
   budget = row_budget (length p.code) (length p.head.taps) (columns p.head pictures)
 
-  abbrev row_end : ℕ → List Region → End
+  abbrev pub row_end : ℕ → List Region → End
   row_end y rs = run t p.code p.labels budget (started t 65536 (with_table rs (packed 8 (entries y))))
 
   pub begun : (rs : List Region) → rs ≡ blank_memory p.head pictures (run_places p.head pictures) → SoFar t p pictures 0 rs
@@ -146,7 +146,7 @@ module _ {I O : Type 0} (t : Table O) (p : Text I O) (pictures : List Picture) w
       let one : rows p.head pictures - y ≡ suc (rows p.head pictures - suc y) = omega arith in
       rw one refl
 
-  kept_by_row : (y : ℕ) (rs : List Region) (s : State) → Held p.head pictures (run_places p.head pictures) rs → row_end y rs ≡ Ended s → Held p.head pictures (run_places p.head pictures) s.regions
+  pub kept_by_row : (y : ℕ) (rs : List Region) (s : State) → Held p.head pictures (run_places p.head pictures) rs → row_end y rs ≡ Ended s → Held p.head pictures (run_places p.head pictures) s.regions
   kept_by_row y rs s held ends =
       let same : AllAlike (with_table rs (packed 8 (entries y))) s.regions = run_keeps t p.code p.labels budget (started t 65536 (with_table rs (packed 8 (entries y)))) s ends in
       held_alike p.head pictures (run_places p.head pictures) (packed 8 (entries y)) held.scratch held.output s.regions (length-packed 8 (entries y) ∙ length-entries p.head pictures (run_places p.head pictures) y) held.of_scratch held.of_output
@@ -194,14 +194,14 @@ module _ {I O : Type 0} (t : Table O) (p : Text I O) (pictures : List Picture) w
       sym so_far.onwards ∙ rw none refl
 
   -- the entries of a plan are those of its program
-  pub planned : (plan : Plan) (y : ℕ) → IsPlanOf p pictures plan → entries_of plan.taps plan.out_ty pictures (places_of plan.starts) y ≡ entries y
+  pub planned : (plan : Plan) (y : ℕ) → IsPlanOf p.head (length p.code) pictures plan → entries_of plan.taps plan.out_ty pictures (places_of plan.starts) y ≡ entries y
   planned plan y of_program =
       ap (λ taps. entries_of taps plan.out_ty pictures (places_of plan.starts) y) of_program.taps
       ∙ ap (λ ty. entries_of p.head.taps ty pictures (places_of plan.starts) y) of_program.out_ty
       ∙ ap (λ at. entries_of p.head.taps p.head.out_ty pictures at y) of_program.places
 
   -- what a row answers, where its program, its budget and its entries are told otherwise
-  pub answers_here : (p' : Text I O) (plan : Plan) (y : ℕ) (es : List ℕ) (rs : List Region) (r : Result (Unit {0}) RunFault) (new : State) → p' ≡ p → IsPlanOf p pictures plan → es ≡ entries_of plan.taps plan.out_ty pictures (places_of plan.starts) y
+  pub answers_here : (p' : Text I O) (plan : Plan) (y : ℕ) (es : List ℕ) (rs : List Region) (r : Result (Unit {0}) RunFault) (new : State) → p' ≡ p → IsPlanOf p.head (length p.code) pictures plan → es ≡ entries_of plan.taps plan.out_ty pictures (places_of plan.starts) y
       → RowAnswers (run t p'.code p'.labels plan.budget (started t 65536 (with_entries rs 65536 es))) plan.budget r new
       → RowAnswers (run t p.code p.labels budget (started t 65536 (with_entries rs 65536 (entries y)))) budget r new
   answers_here p' plan y es rs r new same of_program are answers =

@@ -2,7 +2,9 @@
 #![tactic(auto)]
 
 mod fault;
+mod output;
 mod places;
+mod plan;
 mod program;
 mod reach;
 mod rows;

@@ -9,41 +9,12 @@ ghost use Rattle.pf_run.specs.Placement.{blank_memory, places_of, run_places};
 ghost use Rattle.pf_run.specs.Rows.{IsPlan, IsPlanOf, RowAnswers, RowsAnswer, entries_of};
 
 use crate::fault::RunFault;
-use crate::places::{Starts, TABLE, pixel_bytes};
-use pf_ints::{Image, LaneType, Memory};
+use crate::places::{TABLE, pixel_bytes};
+use crate::plan::Plan;
+use pf_ints::{Image, Memory};
 use pf_isa::{Isa, Machine, Trap};
-use pf_terms::{Tap, TapList};
+use pf_terms::Tap;
 use std::alloc::Global;
-
-/// What the rows of a run have in common.
-#[derive(Debug, Drop)]
-pub struct Plan {
-    pub taps: TapList,
-    /// The type of the output's pixels.
-    pub out_ty: LaneType,
-    pub starts: Starts,
-    /// The least of 0 and all offsets of the taps along a row.
-    pub left: i16,
-    /// The least of 0 and all offsets of the taps along a column.
-    pub up: i16,
-    /// Pixels of a row of the output.
-    pub columns: u32,
-    /// Rows of the output.
-    pub rows: u32,
-    /// How many steps a row may take.
-    pub budget: u64,
-}
-
-/// How many steps a row may take, of a program of so many instructions and taps, over so many
-/// pixels.
-pub fn row_budget(instructions: u64, taps: u64, pixels: u64) -> u64
-    requires instructions { instructions < 2 ^ 31 }
-    requires taps { taps ≤ 64 }
-    requires pixels { pixels ≤ 8192 }
-    ensures { result ≡ row_budget instructions taps pixels }
-{
-    (instructions + 1) * (pixels + 8) + 4096 * (taps + 2)
-}
 
 /// How far a tap of this offset lies from the first pixel of an image, so many pixels on, where
 /// `least` is the least of 0 and all offsets.
@@ -142,7 +113,7 @@ pub fn run_rows<I: Isa>(
     images: &[Image],
 ) -> Result<(), RunFault>
     requires plan { IsPlan images.now plan.now }
-    requires program { IsPlanOf machine.old.text images.now plan.now }
+    requires program { IsPlanOf machine.old.text.head (length machine.old.text.code) images.now plan.now }
     requires ready { IsReady machine.old.text images.now }
     requires begun { machine.old.state.regions ≡ blank_memory machine.old.text.head images.now (run_places machine.old.text.head images.now) }
     ensures value { RowsAnswer (run_end I.table machine.old.text images.now) plan.now.budget result machine.new.state.regions }
