@@ -5,3 +5,4 @@ pub mod RowLaws
 pub mod PixelLaws
 pub mod ReadyLaws
 pub mod ProgramLaws
+pub mod TextLengths

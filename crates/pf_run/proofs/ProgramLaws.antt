@@ -14,7 +14,7 @@ use Rattle.pf_isa.specs.Tables.{Table}
 use Rattle.pf_isa.specs.Runs.{RunEnd, Finished, Failed, Leaves, then_rows, rows_from, memory, region, image_regions, pixel_bytes, pixels_in_memory, columns, rows, row_budget, output_size}
 use Rattle.pf_isa.proofs.MemoryLaws.{memory-output, output_place, length-memory, length-image_regions}
 use Rattle.pf_run.specs.declared.fault.RunFault.{RunFault}
-use Rattle.pf_run.specs.declared.fault.RunFault.TheVariants.{Set, Outside, Spent as Overspent, Memory}
+use Rattle.pf_run.specs.declared.fault.RunFault.TheVariants.{Text as TextAt, Set, Outside, Spent as Overspent, Memory}
 use Rattle.pf_run.specs.declared.plan.Plan.{Plan}
 use Rattle.pf_run.specs.Answers.{IsReady, IsOutput, Ran, run_end}
 use Rattle.pf_run.specs.Placement.{run_places, blank_memory, blank_scratch}
@@ -49,6 +49,7 @@ module _ {I O : Type 0} (t : Table O) (p : Text I O) (pictures : List Picture) w
     is_memory rs same = subst IsMemory (sym same) (record { apart = (ready p.head pictures is kept).places.apart; low = (ready p.head pictures is kept).places.low })
 
     pub failed_ran : (fault : RunFault) (plan : Plan) (rs : List Region) → IsPlanOf p.head (length p.code) pictures plan → RowsAnswer (run_end t p pictures) plan.budget (Err fault) rs → Ran t p pictures (Err fault)
+    failed_ran (TextAt line kind) plan rs of_program answers = absurd answers
     failed_ran (Set fault) plan rs of_program answers = absurd answers
     failed_ran (Outside at address count) plan rs of_program answers = (is_ready, answers)
     failed_ran (Overspent steps) plan rs of_program answers = (is_ready, (answers.0, answers.1, answers.2), answers.3 ∙ of_program.budget)

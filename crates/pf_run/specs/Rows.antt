@@ -10,7 +10,7 @@ use Rattle.pf_isa.specs.declared.program.Head.{Head}
 use Rattle.pf_isa.specs.Steps.{State, End, Ended, Stopped, Spent}
 use Rattle.pf_isa.specs.Runs.{Places, RunEnd, Finished, Failed, pixel_bytes, tap_address, columns, rows, row_budget}
 use Rattle.pf_run.specs.declared.fault.RunFault.{RunFault}
-use Rattle.pf_run.specs.declared.fault.RunFault.TheVariants.{Set, Outside, Spent as Overspent, Memory}
+use Rattle.pf_run.specs.declared.fault.RunFault.TheVariants.{Text, Set, Outside, Spent as Overspent, Memory}
 use Rattle.pf_run.specs.declared.plan.Plan.{Plan}
 use Rattle.pf_run.specs.Placement.{places_of, run_places}
 
@@ -51,6 +51,7 @@ abbrev pub RowsAnswer : RunEnd → ℕ → Result (Unit {0}) RunFault → List R
 RowsAnswer end budget (Ok done) regions = end ≡ Finished regions
 RowsAnswer end budget (Err (Outside at address count)) regions = (row : ℕ) × (s : State) × (end ≡ Failed row (Stopped at address count s))
 RowsAnswer end budget (Err (Overspent steps)) regions = (row : ℕ) × (s : State) × (end ≡ Failed row (Spent s)) × (steps ≡ budget)
+RowsAnswer end budget (Err (Text line kind)) regions = ⊥
 RowsAnswer end budget (Err (Set fault)) regions = ⊥
 RowsAnswer end budget (Err Memory) regions = Unit {0}
 

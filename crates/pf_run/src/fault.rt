@@ -3,6 +3,7 @@
 ghost use Rattle.std.specs.Prelude.{◌≡◌};
 ghost use Rattle.pf_run.specs.declared.fault.RunFault.TheVariants.{Memory};
 
+use pf_isa::TextKind;
 use std::alloc::{AllocError, AllocFailed};
 
 /// What is wrong with a set of images. Images are counted from 0.
@@ -38,6 +39,8 @@ pub enum SetFault {
 /// Why a run gives no image.
 #[derive(Clone, Copy, Debug, PartialEq, Eq)]
 pub enum RunFault {
+    /// What is wrong with the text, and in which line, counted from 1.
+    Text { line: u64, kind: TextKind },
     /// The images aren't such as the program asks for.
     Set(SetFault),
     /// The instruction of this number, counted from 1, loads or stores so many bytes at the

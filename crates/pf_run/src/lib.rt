@@ -9,7 +9,9 @@ mod program;
 mod reach;
 mod rows;
 mod set;
+mod text;
 
 pub use fault::{RunFault, SetFault};
 pub use program::run_program;
 pub use set::judge_set;
+pub use text::run_images;
