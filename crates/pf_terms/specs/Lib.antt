@@ -9,3 +9,5 @@ pub mod Grammar
 pub mod Parsing
 pub mod Limits
 pub mod Drafts
+pub mod KernelNames
+pub mod Meanings
