@@ -1,3 +1,4 @@
 pub mod Kernels
 pub mod Lines
 pub mod Texts
+pub mod Sizes

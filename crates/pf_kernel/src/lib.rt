@@ -5,9 +5,11 @@ mod fault;
 mod front;
 mod kernel;
 mod read;
+mod size;
 
 pub use fault::KernelFault;
 pub use front::Front;
 pub use kernel::Kernel;
 pub use pf_terms::{Definition, Definitions, ImageDecl, ImageList};
 pub use read::read_kernel;
+pub use size::out_size;
