@@ -1,5 +1,5 @@
 -- Kernels as texts.
-use Rattle.std.specs.Prelude.{◌≡◌, ℕ, pos, ◌+◌, ◌≤◌, ◌<◌, List, [], ◌∷◌, ◌++◌, length, map, Some, None, Result, Ok, Err, codes, decimal}
+use Rattle.std.specs.Prelude.{◌≡◌, ℕ, pos, ◌+◌, ◌≤◌, ◌<◌, List, [], ◌∷◌, ◌++◌, length, Some, None, Result, Ok, Err, codes, decimal}
 use Rattle.std.specs.Str.Lines.{lines}
 use Rattle.std.specs.List.{flat_map}
 use Rattle.pf_terms.specs.declared.kernel.Definition.{Definition}
@@ -7,11 +7,13 @@ use Rattle.pf_terms.specs.declared.kernel.ImageDecl.{ImageDecl}
 use Rattle.pf_terms.specs.declared.limit.LimitKind.TheVariants.{Bytes, Amount as AmountLimit}
 use Rattle.pf_terms.specs.declared.meaning.ReadFault.{ReadFault}
 use Rattle.pf_terms.specs.declared.meaning.ReadFault.TheVariants.{Syntax as SyntaxAt, Name as NameOf, Types as TypesOf, Amount, Limit as LimitOf, Memory as NoMemory}
+use Rattle.pf_ints.specs.declared.lane.LaneType.{LaneType}
 use Rattle.pf_terms.specs.declared.names.Names.{Names}
+use Rattle.pf_terms.specs.declared.term.Term.{Term}
 use Rattle.pf_terms.specs.TermTexts.{type_word, term_text}
 use Rattle.pf_kernel.specs.declared.fault.KernelFault.{KernelFault}
 use Rattle.pf_kernel.specs.declared.fault.KernelFault.TheVariants.{Syntax, Name, Types, Limit, Memory}
-use Rattle.pf_kernel.specs.Kernels.{Meaning, names_of, names_behind}
+use Rattle.pf_kernel.specs.Kernels.{Meaning, names_of}
 use Rattle.pf_kernel.specs.Lines.{Begun, nothing, IsLineFault, AreRead}
 
 -- how many bytes a text may have
@@ -59,13 +61,20 @@ IsRefusal bytes fault = IsKernelFault bytes fault
 abbrev pub image_text : ImageDecl → List ℕ
 image_text d = codes "image " ++ d.name ++ codes " " ++ type_word d.ty ++ codes " " ++ decimal d.lo ++ codes " " ++ decimal d.hi
 
-abbrev pub def_text : Names → Definition → List ℕ
-def_text names d = codes "def " ++ d.name ++ codes " " ++ type_word d.ty ++ codes " = " ++ term_text names d.term
+-- a type and a term of it
+abbrev pub typed_text : Names → LaneType → Term → List ℕ
+typed_text names ty t = type_word ty ++ codes " = " ++ term_text names t
 
-abbrev pub kernel_lines : Meaning → List (List ℕ)
-kernel_lines k =
-    (codes "kernel " ++ k.name) ∷ (map image_text k.source.images ++ (map (def_text (names_of k.source)) k.source.defs
-    ++ (codes "out " ++ type_word k.source.out_ty ++ codes " = " ++ term_text (names_of k.source) k.source.out) ∷ []))
+abbrev pub def_text : Names → Definition → List ℕ
+def_text names d = codes "def " ++ d.name ++ codes " " ++ typed_text names d.ty d.term
+
+-- a line with its end
+abbrev pub ended : List ℕ → List ℕ
+ended text = text ++ 10 ∷ []
 
 abbrev pub kernel_text : Meaning → List ℕ
-kernel_text k = flat_map (λ l. l ++ 10 ∷ []) (kernel_lines k)
+kernel_text k =
+    ended (codes "kernel " ++ k.name)
+    ++ (flat_map (λ d. ended (image_text d)) k.source.images
+    ++ (flat_map (λ d. ended (def_text (names_of k.source) d)) k.source.defs
+    ++ ended (codes "out " ++ typed_text (names_of k.source) k.source.out_ty k.source.out)))

@@ -6,6 +6,7 @@ mod front;
 mod kernel;
 mod read;
 mod size;
+mod write;
 
 pub use fault::KernelFault;
 pub use front::Front;
@@ -13,3 +14,4 @@ pub use kernel::Kernel;
 pub use pf_terms::{Definition, Definitions, ImageDecl, ImageList};
 pub use read::read_kernel;
 pub use size::out_size;
+pub use write::write_kernel;
