@@ -3,3 +3,4 @@ pub mod Sets
 pub mod Placement
 pub mod Answers
 pub mod Rows
+pub mod Evaluations

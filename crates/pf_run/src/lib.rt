@@ -1,6 +1,7 @@
 //! Running programs on images, and what is wrong with a set of images.
 #![tactic(auto)]
 
+mod eval;
 mod fault;
 mod output;
 mod places;
@@ -11,7 +12,8 @@ mod rows;
 mod set;
 mod text;
 
-pub use fault::{RunFault, SetFault};
+pub use eval::eval_images;
+pub use fault::{EvalFault, RunFault, SetFault};
 pub use program::run_program;
 pub use set::judge_set;
 pub use text::run_images;
