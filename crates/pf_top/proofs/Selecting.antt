@@ -7,9 +7,9 @@ use Rattle.pf_top.specs.declared.verdict.FileWord.{FileWord}
 use Rattle.pf_top.specs.declared.verdict.FileWord.TheVariants.{Kernel, Lift, Lower}
 use Rattle.pf_top.specs.declared.verdict.Verdict.{Verdict}
 use Rattle.pf_top.specs.declared.verdict.Verdict.TheVariants.{Done, TargetNotBuilt, NotBuilt, Missing, ReadFailed, WriteFailed, Memory}
-use Rattle.pf_top.specs.Counts.{raised, raised_by, Rose}
+use Rattle.pf_images.specs.Counts.{raised, raised_by, Rose}
 use Rattle.pf_top.specs.LeastKernels.{IsLeastKernel}
-use Rattle.pf_top.specs.Outside.{Contents, SameContents, Puts, PutsPart, Changes}
+use Rattle.pf_images.specs.Outside.{Contents, SameContents, Puts, PutsPart, Changes}
 use Rattle.pf_top.specs.Selected.{IsSelected}
 use Rattle.pf_top.specs.Selections.{Select, Store, Came, Selects, Reaches, Fits, HasForm, judged, file_name, place, lift_text, lower_text}
 use Rattle.pf_top.specs.Steps.{Judged, Written, verdict_of}

@@ -1,5 +1,3 @@
-pub mod Counts
-pub mod Outside
 pub mod Least
 pub mod LeastKernels
 pub mod Reading

@@ -9,9 +9,9 @@ use Rattle.pf_top.specs.declared.verdict.FileWord.{FileWord}
 use Rattle.pf_top.specs.declared.verdict.FileWord.TheVariants.{Kernel, Lift, Lower}
 use Rattle.pf_top.specs.declared.verdict.Verdict.{Verdict}
 use Rattle.pf_top.specs.declared.verdict.Verdict.TheVariants.{Done, TargetNotBuilt, NotBuilt, Missing, ReadFailed, WriteFailed, Memory}
-use Rattle.pf_top.specs.Counts.{raised_by, Rose}
+use Rattle.pf_images.specs.Counts.{raised_by, Rose}
 use Rattle.pf_top.specs.LeastKernels.{IsLeastKernel, line_end}
-use Rattle.pf_top.specs.Outside.{Contents, SameContents, Puts, PutsPart, Changes}
+use Rattle.pf_images.specs.Outside.{Contents, SameContents, Puts, PutsPart, Changes}
 use Rattle.pf_top.specs.Selected.{IsSelected}
 
 -- the words behind `select`

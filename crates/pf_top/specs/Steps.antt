@@ -4,8 +4,8 @@ use Rattle.pf_top.specs.declared.command.Selection.{Selection}
 use Rattle.pf_top.specs.declared.verdict.FileWord.{FileWord}
 use Rattle.pf_top.specs.declared.verdict.Verdict.{Verdict}
 use Rattle.pf_top.specs.declared.verdict.Verdict.TheVariants.{Done, TargetNotBuilt, NotBuilt, Missing, ReadFailed, WriteFailed, Memory}
-use Rattle.pf_top.specs.Counts.{raised}
-use Rattle.pf_top.specs.Outside.{Contents, SameContents, Puts, PutsPart, Changes}
+use Rattle.pf_images.specs.Counts.{raised}
+use Rattle.pf_images.specs.Outside.{Contents, SameContents, Puts, PutsPart, Changes}
 use Rattle.pf_top.specs.Statuses.{Output}
 use Rattle.pf_top.specs.Selections.{Select, Store, HasForm, judged, FaultsAre}
 

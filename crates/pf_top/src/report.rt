@@ -1,13 +1,12 @@
 ghost use Rattle.std.specs.Prelude.{◌≡◌, IfOk};
-ghost use Rattle.pf_top.specs.Counts.{raised};
+ghost use Rattle.pf_images.specs.Counts.{raised};
 ghost use Rattle.pf_top.specs.Statuses.{due, named_line, memory_line, wanting, write_failed, usage, Told, Tells};
 ghost use Rattle.pf_top.specs.Selections.{file_name};
 ghost use Rattle.pf_top.specs.Steps.{the_words, seen_output};
 
 use crate::command::Selection;
-use crate::files::FilesFault;
-use crate::sink::Sink;
 use crate::verdict::{FileWord, Verdict};
+use pf_images::{FilesFault, Sink};
 use pf_ints::Memory;
 use std::alloc::Global;
 

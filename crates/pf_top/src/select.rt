@@ -6,10 +6,10 @@ ghost use Rattle.pf_top.specs.Selections.{limit, lift_text, lower_text, Came};
 ghost use Rattle.pf_top.specs.Steps.{the_words, seen, Judged, Written, verdict_of};
 
 use crate::command::Selection;
-use crate::files::{Files, FilesFault};
 use crate::least::{LeastKernel, read_least};
 use crate::selected::text_of;
 use crate::verdict::{FileWord, Verdict};
+use pf_images::{Files, FilesFault};
 use pf_ints::{Memory, Target};
 use std::alloc::Global;
 

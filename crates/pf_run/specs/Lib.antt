@@ -1,0 +1,7 @@
+pub mod Reach
+pub mod Sets
+pub mod Placement
+pub mod Answers
+pub mod Rows
+pub mod Evaluations
+pub mod Pixels
