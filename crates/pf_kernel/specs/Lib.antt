@@ -1,5 +1,6 @@
 pub mod Kernels
 pub mod Lines
+pub mod Fronts
 pub mod Texts
 pub mod Sizes
 pub mod Printable
