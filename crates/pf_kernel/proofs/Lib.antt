@@ -1,3 +1,4 @@
 pub mod Extending
 pub mod Printing
 pub mod Shapes
+pub mod FrontFaults
