@@ -5,6 +5,7 @@ mod fault;
 mod front;
 mod kernel;
 mod read;
+mod reading;
 mod size;
 mod write;
 
