@@ -2,3 +2,4 @@ pub mod Extending
 pub mod Printing
 pub mod Shapes
 pub mod FrontFaults
+pub mod Turns

@@ -1,6 +1,7 @@
 pub mod Kernels
 pub mod Lines
 pub mod Fronts
+pub mod Expressions
 pub mod Readings
 pub mod Texts
 pub mod Sizes

@@ -123,11 +123,13 @@ SaysOf b text ts (Over f d) = IsShape b (kinds ts) f × ((n : ℕ) × (equals_of
 abbrev pub Says : Begun → List ℕ → Said → Type 0
 Says b line said = (ts : List Token) × IsLexed 0 (uncommented line) ts × SaysOf b (uncommented line) ts said
 
--- the line may not stand there or says nothing at all, and this is the column of its first fault
-pub data IsLineSyntax (b : Begun) (line : List ℕ) : ℕ → Type 0 where
-  front : (ts : List Token) (n : ℕ) → IsLexed 0 (uncommented line) ts → IsFrontFault b (kinds ts) n → IsLineSyntax b line (place_of ts (told_at (kinds ts) n) + 1)
-  expression : (ts : List Token) (f : Front) (n place : ℕ) → IsLexed 0 (uncommented line) ts → IsShape b (kinds ts) f → equals_of f ≡ Some n →
-      IsSyntaxFault (drop (end_of ts n) (uncommented line)) place → IsLineSyntax b line (end_of ts n + place + 1)
+-- a line of these tokens may not stand there or isn't whole, and this is the column of its first fault
+pub data IsTokensSyntax (b : Begun) (text : List ℕ) (ts : List Token) : ℕ → Type 0 where
+  front : (n : ℕ) → IsFrontFault b (kinds ts) n → IsTokensSyntax b text ts (place_of ts (told_at (kinds ts) n) + 1)
+  expression : (f : Front) (n place : ℕ) → IsShape b (kinds ts) f → equals_of f ≡ Some n → IsSyntaxFault (drop (end_of ts n) text) place → IsTokensSyntax b text ts (end_of ts n + place + 1)
+
+abbrev pub IsLineSyntax : Begun → List ℕ → ℕ → Type 0
+IsLineSyntax b line column = (ts : List Token) × IsLexed 0 (uncommented line) ts × IsTokensSyntax b (uncommented line) ts column
 
 -- ---- the faults of what a line says, in the order in which they are judged
 
@@ -178,15 +180,16 @@ judged ty unknown typed taps defs far depth nodes =
     ∷ more_than 128 Depth (counted depth)
     ∷ more_than 512 Nodes (counted nodes) ∷ []
 
--- those of an expression behind these lines, with which there are so many definitions
-abbrev pub expression_faults : Begun → LaneType → ℕ → Draft → List (Option ReadFault)
-expression_faults b ty defs d =
-    judged ty (first_unknown (names_in b) d) (typing (term_with b d)) (length (names_with b d).taps) defs (first_far d) (depth_of (term_with b d)) (nodes_in b + node_count (term_with b d))
+-- those of an expression over these names, behind so many nodes, with which there are so many definitions
+abbrev pub expression_faults : Names → ℕ → LaneType → ℕ → Draft → List (Option ReadFault)
+expression_faults names nodes ty defs d =
+    let after = names_after names d in
+    judged ty (first_unknown names d) (typing (term_of after d)) (length after.taps) defs (first_far d) (depth_of (term_of after d)) (nodes + node_count (term_of after d))
 
 abbrev pub faults : Begun → Said → List (Option ReadFault)
 faults b (Bare (ImageFront i)) = taken b i.name ∷ more_than 8 Images (length b.images + 1) ∷ []
-faults b (Over (DefFront n ty) d) = taken b n ∷ expression_faults b ty (length b.defs + 1) d
-faults b (Over (OutFront ty) d) = expression_faults b ty (length b.defs) d
+faults b (Over (DefFront n ty) d) = taken b n ∷ expression_faults (names_in b) (nodes_in b) ty (length b.defs + 1) d
+faults b (Over (OutFront ty) d) = expression_faults (names_in b) (nodes_in b) ty (length b.defs) d
 faults b _ = []
 
 -- what is said with one more line

@@ -14,7 +14,8 @@ use Rattle.pf_terms.specs.Terms.{node_count}
 use Rattle.pf_kernel.specs.declared.front.Front.{Front}
 use Rattle.pf_kernel.specs.declared.reading.Reading.{Reading}
 use Rattle.pf_kernel.specs.Kernels.{names_behind, IsDecl, IsTermOf, AreDefinitions, AreInTurn, taps_in}
-use Rattle.pf_kernel.specs.Lines.{Begun, names_in, nodes_in, Said, Over, faults, with_said, IsRead, IsLineFault}
+use Rattle.pf_kernel.specs.Lines.{Begun, names_in, nodes_in, Said, Over, SaysOf, IsTokensSyntax, faults, with_said, IsRead, IsLineFault}
+use Rattle.pf_terms.specs.declared.token.Token.{Token}
 
 -- what the fields of a reading say
 abbrev pub begun_of : Reading → Begun
@@ -66,3 +67,10 @@ abbrev pub AnswersLine : Begun → List ℕ → Result Reading ReadFault → Typ
 AnswersLine b line (Ok r) = (said : Said) × IsRead b line said × (begun_of r ≡ with_said b said)
 AnswersLine b line (Err Memory) = Unit {0}
 AnswersLine b line (Err fault) = IsLineFault b line fault
+
+-- the answer to the tokens of a line
+abbrev pub AnswersTokens : Begun → List ℕ → List Token → Result Reading ReadFault → Type 0
+AnswersTokens b text ts (Ok r) = (said : Said) × SaysOf b text ts said × (first_some (faults b said) ≡ None) × (begun_of r ≡ with_said b said)
+AnswersTokens b text ts (Err (Syntax column)) = IsTokensSyntax b text ts column
+AnswersTokens b text ts (Err Memory) = Unit {0}
+AnswersTokens b text ts (Err fault) = (said : Said) × SaysOf b text ts said × (first_some (faults b said) ≡ Some fault)

@@ -1,9 +1,11 @@
 //! Kernels: their texts, and the size of their outputs.
 #![tactic(auto)]
 
+mod expression;
 mod fault;
 mod front;
 mod kernel;
+mod line;
 mod read;
 mod reading;
 mod size;

@@ -1,0 +1,104 @@
+ghost use Rattle.std.specs.Prelude.{◌≡◌, ◌+◌, ◌≤◌, ◌∷◌, [], ◌++◌, drop, length, true, false, IfOk, MatchResult, Some, None};
+ghost use Rattle.pf_ints.specs.Images.{IsPixelType};
+ghost use Rattle.pf_ints.specs.Words.{is_name};
+ghost use Rattle.pf_terms.specs.declared.draft.Draft.{Draft};
+ghost use Rattle.pf_terms.specs.declared.token.LineWord.TheVariants.{Kernel, Image, Def, Out};
+ghost use Rattle.pf_terms.specs.Drafts.{IsDraftText};
+ghost use Rattle.pf_terms.specs.Meanings.{first_some};
+ghost use Rattle.pf_terms.specs.Parsing.{kinds, place_of};
+ghost use Rattle.pf_terms.specs.Tokens.{IsLexed};
+ghost use Rattle.pf_kernel.specs.declared.front.Front.TheVariants.{Kernel as KernelFront, Image as ImageFront, Def as DefFront, Out as OutFront};
+ghost use Rattle.pf_kernel.specs.Fronts.{front_of};
+ghost use Rattle.pf_kernel.specs.Kernels.{IsDecl};
+ghost use Rattle.pf_kernel.specs.Lines.{Said, SaysOf, Bare, Over, IsShape, IsFrontFault, IsRead, may_stand, told_at, end_of, equals_of, uncommented, faults, with_said};
+ghost use Rattle.pf_kernel.specs.Readings.{begun_of, IsReading, Answers, AnswersText, AnswersTokens, AnswersLine, IsBegunOr};
+
+use crate::expression::{Measure, read_expression};
+use crate::front::{Front, front_by};
+use crate::reading::Reading;
+use pf_ints::{LaneType, Name};
+use pf_terms::{DefName, Definition, ImageDecl, ImageName, Kind, LimitKind, LineWord, ReadFault, Token, nodes, tokens};
+use std::alloc::Global;
+
+const MOST_IMAGES: usize = 8;
+
+/// What was read with one more line, or the line's first fault.
+pub fn read_line(alloc: Global, reading: Reading, line: &[u8]) -> Result<Reading, ReadFault>
+    requires { IsReading reading }
+    ensures found { AnswersLine (begun_of reading) line.now result }
+    ensures only { (said : Said) → IsRead (begun_of reading) line.now said → IsBegunOr (with_said (begun_of reading) said) result }
+    ensures kept { IfOk result IsReading }
+{
+    let text = uncommented(line);
+    let tokens = tokens(alloc, text)?;
+    read_tokens(alloc, reading, text, tokens.as_slice())
+}
+
+fn read_tokens(alloc: Global, reading: Reading, text: &[u8], tokens: &[Token]) -> Result<Reading, ReadFault>
+    requires good { IsReading reading }
+    requires lexed { IsLexed 0 text.now tokens.now }
+    ensures found { AnswersTokens (begun_of reading) text.now tokens.now result }
+    ensures only { (said : Said) → SaysOf (begun_of reading) text.now tokens.now said → first_some (faults (begun_of reading) said) ≡ None → IsBegunOr (with_said (begun_of reading) said) result }
+    ensures kept { IfOk result IsReading }
+{
+    Err(ReadFault::Memory)
+}
+
+fn uncommented(line: &[u8]) -> &[u8]
+    ensures { result.now ≡ uncommented line.now }
+{
+    match line.iter().position(|byte| *byte == b'#') {
+        Some(n) => &line[..n],
+        None => line,
+    }
+}
+
+fn front_of(reading: &Reading, tokens: &[Token]) -> Result<Front, usize>
+    ensures { result ≡ front_of (may_stand (begun_of reading.now)) (kinds tokens.now) }
+{
+    match tokens {
+        [token, rest @ ..] => match token.kind {
+            Kind::Line(word) if reading.may_stand(word) => front_by(word, rest),
+            _ => Err(0),
+        },
+        [] => Err(0),
+    }
+}
+
+// The number of the token at which a fault of token n is told.
+fn told_at(tokens: &[Token], n: usize) -> usize
+    ensures { result ≡ told_at (kinds tokens.now) n }
+{
+    match tokens {
+        [
+            Token { kind: Kind::Line(LineWord::Image), .. },
+            _,
+            _,
+            _,
+            Token { kind: Kind::Number(_), .. },
+            ..,
+        ] if n == 4 => 3,
+        _ => n,
+    }
+}
+
+fn place_of(tokens: &[Token], n: usize) -> usize
+    ensures { result ≡ place_of tokens.now n }
+{
+    match tokens.get(n) {
+        Some(token) => token.start,
+        None => match tokens.last() {
+            Some(token) => token.end,
+            None => 0,
+        },
+    }
+}
+
+fn end_of(tokens: &[Token], n: usize) -> usize
+    ensures { result ≡ end_of tokens.now n }
+{
+    match tokens.get(n) {
+        Some(token) => token.end,
+        None => 0,
+    }
+}
