@@ -1,4 +1,5 @@
-ghost use Rattle.std.specs.Prelude.{◌≡◌, ◌+◌, ◌≤◌, ◌∷◌, [], ◌++◌, drop, length, true, false, IfOk, MatchResult, Some, None};
+ghost use Rattle.std.specs.List.{position};
+ghost use Rattle.std.specs.Prelude.{◌≡◌, ◌<◌, ◌^◌, ◌==◌, IfSome, ◌+◌, ◌≤◌, ◌∷◌, [], ◌++◌, drop, length, true, false, IfOk, MatchResult, Some, None};
 ghost use Rattle.pf_ints.specs.Images.{IsPixelType};
 ghost use Rattle.pf_ints.specs.Words.{is_name};
 ghost use Rattle.pf_terms.specs.declared.draft.Draft.{Draft};
@@ -24,7 +25,8 @@ const MOST_IMAGES: usize = 8;
 
 /// What was read with one more line, or the line's first fault.
 pub fn read_line(alloc: Global, reading: Reading, line: &[u8]) -> Result<Reading, ReadFault>
-    requires { IsReading reading }
+    requires good { IsReading reading }
+    requires short { length line.now < 2 ^ 32 }
     ensures found { AnswersLine (begun_of reading) line.now result }
     ensures only { (said : Said) → IsRead (begun_of reading) line.now said → IsBegunOr (with_said (begun_of reading) said) result }
     ensures kept { IfOk result IsReading }
@@ -37,6 +39,27 @@ pub fn read_line(alloc: Global, reading: Reading, line: &[u8]) -> Result<Reading
 fn read_tokens(alloc: Global, reading: Reading, text: &[u8], tokens: &[Token]) -> Result<Reading, ReadFault>
     requires good { IsReading reading }
     requires lexed { IsLexed 0 text.now tokens.now }
+    requires short { length text.now < 2 ^ 32 }
+    ensures found { AnswersTokens (begun_of reading) text.now tokens.now result }
+    ensures only { (said : Said) → SaysOf (begun_of reading) text.now tokens.now said → first_some (faults (begun_of reading) said) ≡ None → IsBegunOr (with_said (begun_of reading) said) result }
+    ensures kept { IfOk result IsReading }
+{
+    match tokens {
+        [] => Ok(reading),
+        _ => match front_of(&reading, tokens) {
+            Ok(front) => read_front(alloc, reading, front, text, tokens),
+            Err(n) => Err(ReadFault::Syntax {
+                column: column_of(text, tokens, n),
+            }),
+        },
+    }
+}
+
+fn read_front(alloc: Global, reading: Reading, front: Front, text: &[u8], tokens: &[Token]) -> Result<Reading, ReadFault>
+    requires good { IsReading reading }
+    requires lexed { IsLexed 0 text.now tokens.now }
+    requires short { length text.now < 2 ^ 32 }
+    requires shape { IsShape (begun_of reading) (kinds tokens.now) front }
     ensures found { AnswersTokens (begun_of reading) text.now tokens.now result }
     ensures only { (said : Said) → SaysOf (begun_of reading) text.now tokens.now said → first_some (faults (begun_of reading) said) ≡ None → IsBegunOr (with_said (begun_of reading) said) result }
     ensures kept { IfOk result IsReading }
@@ -44,13 +67,30 @@ fn read_tokens(alloc: Global, reading: Reading, text: &[u8], tokens: &[Token]) -
     Err(ReadFault::Memory)
 }
 
+// The column at which a fault of token n is told.
+fn column_of(text: &[u8], tokens: &[Token], n: usize) -> u64
+    requires lexed { IsLexed 0 text.now tokens.now }
+    requires short { length text.now < 2 ^ 32 }
+    ensures { result ≡ place_of tokens.now (told_at (kinds tokens.now) n) + 1 }
+{
+    place_of(tokens, told_at(tokens, n)) as u64 + 1
+}
+
+#[tactic(auto, using(crate::proofs::Comments::up_to, crate::proofs::Comments::all_of_it))]
 fn uncommented(line: &[u8]) -> &[u8]
     ensures { result.now ≡ uncommented line.now }
 {
-    match line.iter().position(|byte| *byte == b'#') {
+    match comment_place(line) {
         Some(n) => &line[..n],
         None => line,
     }
+}
+
+fn comment_place(line: &[u8]) -> Option<usize>
+    ensures value { result ≡ position (λ c. c == 35) line.now }
+    ensures within { IfSome result (λ n. n < length line.now) }
+{
+    line.iter().position(|byte| *byte == b'#')
 }
 
 fn front_of(reading: &Reading, tokens: &[Token]) -> Result<Front, usize>

@@ -1,11 +1,16 @@
-ghost use Rattle.std.specs.Prelude.{◌≡◌};
+ghost use Rattle.std.specs.Prelude.{◌≡◌, ◌<◌, true, false, length, OnOk};
+ghost use Rattle.pf_ints.specs.Images.{IsPixelType};
+ghost use Rattle.pf_ints.specs.Words.{is_name};
+ghost use Rattle.pf_terms.specs.declared.token.LineWord.TheVariants.{Kernel, Image};
 ghost use Rattle.pf_terms.specs.Meanings.{is_image, is_def};
-ghost use Rattle.pf_kernel.specs.Lines.{nothing, may_stand, is_taken};
+ghost use Rattle.pf_kernel.specs.declared.front.Front.TheVariants.{Kernel as KernelFront, Image as ImageFront};
+ghost use Rattle.pf_kernel.specs.Kernels.{IsDecl};
+ghost use Rattle.pf_kernel.specs.Lines.{nothing, may_stand, is_taken, names_in, with_said, Bare};
 ghost use Rattle.pf_kernel.specs.Readings.{begun_of, IsReading};
 
 use pf_ints::{LaneType, Name, Sequence};
-use pf_terms::{DefNames, Definitions, ImageList, ImageNames, LineWord, Names, TapList, Term};
-use std::alloc::Global;
+use pf_terms::{DefNames, Definitions, ImageDecl, ImageList, ImageName, ImageNames, LineWord, Names, TapList, Term};
+use std::alloc::{AllocError, Global};
 
 /// What the first lines of a kernel's text say.
 #[derive(Debug, Drop)]
@@ -54,6 +59,39 @@ impl Reading {
         ensures { result ≡ is_taken self.now.names name.now }
     {
         is_image(&self.names.images, name) || is_def(&self.names.defs, name)
+    }
+
+    /// The same with the kernel's name.
+    pub fn called(self, name: Name) -> Reading
+        requires good { IsReading self }
+        requires may { may_stand (begun_of self) Kernel ≡ true }
+        requires named { is_name name ≡ true }
+        ensures value { begun_of result ≡ with_said (begun_of self) (Bare (KernelFront name)) }
+        ensures kept { IsReading result }
+    {
+        let mut reading = self;
+        reading.name = Some(name);
+        reading
+    }
+
+    /// Adds an image. After want of memory a part of it may have been added.
+    pub fn add_image(&mut self, image: ImageDecl) -> Result<(), AllocError>
+        requires good { IsReading self.old }
+        requires may { may_stand (begun_of self.old) Image ≡ true }
+        requires named { is_name image.name ≡ true }
+        requires pixels { IsPixelType image.ty }
+        requires range { IsDecl image }
+        requires free { is_taken (names_in (begun_of self.old)) image.name ≡ false }
+        requires few { length self.old.images < 8 }
+        ensures value { OnOk result (begun_of self.new ≡ with_said (begun_of self.old) (Bare (ImageFront image))) }
+        ensures kept { OnOk result (IsReading self.new) }
+    {
+        let name = ImageName {
+            name: image.name,
+            ty: image.ty,
+        };
+        self.images.push(image)?;
+        self.names.images.push(name)
     }
 }
 
