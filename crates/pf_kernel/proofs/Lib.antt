@@ -6,3 +6,5 @@ pub mod Turns
 pub mod Comments
 pub mod LineLaws
 pub mod Once
+pub mod Naming
+pub mod Steps
