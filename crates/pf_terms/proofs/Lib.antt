@@ -8,8 +8,11 @@ pub mod NodeRanges
 pub mod TermRanges
 pub mod Evaluating
 pub mod Lexing
-pub mod Viable
 pub mod Complete
 pub mod Sound
-pub mod Advancing
+pub mod Viable
 pub mod FirstFaults
+pub mod Signs
+pub mod Places
+pub mod OneLexing
+pub mod DraftTexts

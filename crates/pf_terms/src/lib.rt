@@ -1,6 +1,7 @@
 //! Terms over the lanes of images: operators with their types, weights and values, and the texts of terms.
 #![tactic(auto)]
 
+mod build;
 mod draft;
 mod fault;
 mod kernel;
@@ -9,16 +10,15 @@ mod limit;
 mod meaning;
 mod names;
 mod op;
-mod parse;
 mod print;
 mod read;
+mod reader;
 mod row;
 mod sizes;
 mod stack;
 mod symbol;
+mod table;
 mod term;
-#[cfg(test)]
-mod tests;
 mod token;
 mod types;
 mod values;
@@ -32,7 +32,6 @@ pub use limit::LimitKind;
 pub use meaning::{ReadFault, read_term};
 pub use names::{DefName, DefNames, ImageName, ImageNames, Names, Tap, TapList};
 pub use op::Op;
-pub use parse::{first_fault, syntax_fault};
 pub use print::{print_term, write_term, write_type};
 pub use read::read_draft;
 pub use row::{Amounts, Gives, Operands, Spelling};
