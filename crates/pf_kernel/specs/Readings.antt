@@ -1,5 +1,5 @@
 -- What holds of a kernel while it is read.
-use Rattle.std.specs.Prelude.{◌≡◌, ℕ, ◌+◌, ◌≤◌, true, List, [], ◌∷◌, ◌++◌, length, map, All, Option, Some, None, IsSome, MatchOption, Result, Ok, Err}
+use Rattle.std.specs.Prelude.{◌≡◌, ℕ, ◌+◌, ◌≤◌, Bool, true, false, List, [], ◌∷◌, ◌++◌, length, map, All, Option, Some, None, IsSome, MatchOption, Result, Ok, Err}
 use Rattle.std.specs.List.{flat_map}
 use Rattle.pf_ints.specs.declared.lane.LaneType.{LaneType}
 use Rattle.pf_ints.specs.Images.{IsPixelType}
@@ -74,3 +74,10 @@ AnswersTokens b text ts (Ok r) = (said : Said) × SaysOf b text ts said × (firs
 AnswersTokens b text ts (Err (Syntax column)) = IsTokensSyntax b text ts column
 AnswersTokens b text ts (Err Memory) = Unit {0}
 AnswersTokens b text ts (Err fault) = (said : Said) × SaysOf b text ts said × (first_some (faults b said) ≡ Some fault)
+
+-- what was read, unless its name is taken: syntax and want of memory are told before a name
+abbrev pub unless_taken : Bool → List ℕ → Result Term ReadFault → Result Term ReadFault
+unless_taken taken s (Err (Syntax column)) = Err (Syntax column)
+unless_taken taken s (Err Memory) = Err Memory
+unless_taken true s _ = Err (Name s)
+unless_taken false s r = r

@@ -1,5 +1,6 @@
 ghost use Rattle.std.specs.List.{position};
-ghost use Rattle.std.specs.Prelude.{◌≡◌, ◌<◌, ◌^◌, ◌==◌, IfSome, ◌+◌, ◌≤◌, ◌∷◌, [], ◌++◌, drop, length, true, false, IfOk, MatchResult, Some, None};
+ghost use Rattle.pf_terms.specs.Terms.{node_count};
+ghost use Rattle.std.specs.Prelude.{◌-◌, min, sum, map, ◌≡◌, ◌<◌, ◌^◌, ◌==◌, IfSome, ◌+◌, ◌≤◌, ◌∷◌, [], ◌++◌, drop, length, true, false, IfOk, MatchResult, Some, None};
 ghost use Rattle.pf_ints.specs.Images.{IsPixelType};
 ghost use Rattle.pf_ints.specs.Words.{is_name};
 ghost use Rattle.pf_terms.specs.declared.draft.Draft.{Draft};
@@ -12,13 +13,13 @@ ghost use Rattle.pf_kernel.specs.declared.front.Front.TheVariants.{Kernel as Ker
 ghost use Rattle.pf_kernel.specs.Fronts.{front_of};
 ghost use Rattle.pf_kernel.specs.Kernels.{IsDecl};
 ghost use Rattle.pf_kernel.specs.Lines.{Said, SaysOf, Bare, Over, IsShape, IsFrontFault, IsRead, may_stand, told_at, end_of, equals_of, uncommented, faults, with_said};
-ghost use Rattle.pf_kernel.specs.Readings.{begun_of, IsReading, Answers, AnswersText, AnswersTokens, AnswersLine, IsBegunOr};
+ghost use Rattle.pf_kernel.specs.Readings.{begun_of, IsReading, Answers, AnswersText, AnswersTokens, AnswersLine, IsBegunOr, unless_taken};
 
 use crate::expression::{Measure, read_expression};
 use crate::front::{Front, front_by};
 use crate::reading::Reading;
 use pf_ints::{LaneType, Name};
-use pf_terms::{DefName, Definition, ImageDecl, ImageName, Kind, LimitKind, LineWord, ReadFault, Token, nodes, tokens};
+use pf_terms::{Definition, ImageDecl, Kind, LimitKind, LineWord, ReadFault, Term, Token, nodes, tokens};
 use std::alloc::Global;
 
 const MOST_IMAGES: usize = 8;
@@ -140,5 +141,90 @@ fn end_of(tokens: &[Token], n: usize) -> usize
     match tokens.get(n) {
         Some(token) => token.end,
         None => 0,
+    }
+}
+
+fn read_image(reading: Reading, image: ImageDecl) -> Result<Reading, ReadFault>
+    requires good { IsReading reading }
+    requires may { may_stand (begun_of reading) Image ≡ true }
+    requires named { is_name image.name ≡ true }
+    requires pixels { IsPixelType image.ty }
+    requires range { IsDecl image }
+    ensures found { Answers (begun_of reading) (Bare (ImageFront image)) result }
+    ensures kept { IfOk result IsReading }
+{
+    if reading.is_taken(&image.name) {
+        return Err(ReadFault::Name { name: image.name });
+    }
+    if MOST_IMAGES <= reading.images.len() {
+        return Err(ReadFault::Limit {
+            what: LimitKind::Images,
+            count: reading.images.len() as i64 + 1,
+        });
+    }
+    let mut reading = reading;
+    reading.add_image(image)?;
+    Ok(reading)
+}
+
+fn read_def(alloc: Global, reading: Reading, name: Name, ty: LaneType, text: &[u8]) -> Result<Reading, ReadFault>
+    requires good { IsReading reading }
+    requires may { may_stand (begun_of reading) Def ≡ true }
+    requires named { is_name name ≡ true }
+    ensures found { AnswersText (begun_of reading) (DefFront name ty) text.now result }
+    ensures only { (d : Draft) → IsDraftText text.now d → first_some (faults (begun_of reading) (Over (DefFront name ty) d)) ≡ None → IsBegunOr (with_said (begun_of reading) (Over (DefFront name ty) d)) result }
+    ensures kept { IfOk result IsReading }
+{
+    let is_taken = reading.is_taken(&name);
+    let mut reading = reading;
+    let by = Measure {
+        ty,
+        defs: reading.defs.len() + 1,
+        nodes: nodes_in(reading.defs.as_slice()),
+    };
+    let read = read_expression(alloc, text, by, &mut reading.names);
+    let term = unless_taken(is_taken, name, read)?;
+    reading.add_def(name, ty, term)?;
+    Ok(reading)
+}
+
+fn read_out(alloc: Global, reading: Reading, ty: LaneType, text: &[u8]) -> Result<Reading, ReadFault>
+    requires good { IsReading reading }
+    requires may { may_stand (begun_of reading) Out ≡ true }
+    requires pixels { IsPixelType ty }
+    ensures found { AnswersText (begun_of reading) (OutFront ty) text.now result }
+    ensures only { (d : Draft) → IsDraftText text.now d → first_some (faults (begun_of reading) (Over (OutFront ty) d)) ≡ None → IsBegunOr (with_said (begun_of reading) (Over (OutFront ty) d)) result }
+    ensures kept { IfOk result IsReading }
+{
+    let mut reading = reading;
+    let by = Measure {
+        ty,
+        defs: reading.defs.len(),
+        nodes: nodes_in(reading.defs.as_slice()),
+    };
+    let term = read_expression(alloc, text, by, &mut reading.names)?;
+    reading.out = Some((ty, term));
+    Ok(reading)
+}
+
+// The nodes of the definitions' terms, or 2^64 - 1 where there are more.
+fn nodes_in(defs: &[Definition]) -> u64
+    ensures { result ≡ min (sum (map (λ d. node_count d.term) defs.now)) (2 ^ 64 - 1) }
+{
+    let mut count: u64 = 0;
+    for def in defs {
+        count = count.saturating_add(nodes(&def.term));
+    }
+    count
+}
+
+// What was read of a term, unless its definition's name is taken. Syntax is told before a name.
+fn unless_taken(is_taken: bool, name: Name, read: Result<Term, ReadFault>) -> Result<Term, ReadFault>
+    ensures { result ≡ unless_taken is_taken name read }
+{
+    match read {
+        Err(ReadFault::Syntax { .. } | ReadFault::Memory) => read,
+        _ if is_taken => Err(ReadFault::Name { name }),
+        _ => read,
     }
 }

@@ -1,4 +1,4 @@
-ghost use Rattle.std.specs.Prelude.{◌≡◌, ◌<◌, true, false, length, OnOk};
+ghost use Rattle.std.specs.Prelude.{◌≡◌, ◌<◌, ◌++◌, ◌∷◌, [], true, false, length, OnOk};
 ghost use Rattle.pf_ints.specs.Images.{IsPixelType};
 ghost use Rattle.pf_ints.specs.Words.{is_name};
 ghost use Rattle.pf_terms.specs.declared.token.LineWord.TheVariants.{Kernel, Image};
@@ -9,7 +9,7 @@ ghost use Rattle.pf_kernel.specs.Lines.{nothing, may_stand, is_taken, names_in, 
 ghost use Rattle.pf_kernel.specs.Readings.{begun_of, IsReading};
 
 use pf_ints::{LaneType, Name, Sequence};
-use pf_terms::{DefNames, Definitions, ImageDecl, ImageList, ImageName, ImageNames, LineWord, Names, TapList, Term};
+use pf_terms::{DefName, DefNames, Definition, Definitions, ImageDecl, ImageList, ImageName, ImageNames, LineWord, Names, TapList, Term};
 use std::alloc::{AllocError, Global};
 
 /// What the first lines of a kernel's text say.
@@ -92,6 +92,17 @@ impl Reading {
         };
         self.images.push(image)?;
         self.names.images.push(name)
+    }
+
+    /// Adds a definition. After want of memory a part of it may have been added.
+    pub fn add_def(&mut self, name: Name, ty: LaneType, term: Term) -> Result<(), AllocError>
+        ensures defs { OnOk result (self.new.defs ≡ self.old.defs ++ record { name = name; ty = ty; term = term } ∷ []) }
+        ensures names { OnOk result (self.new.names ≡ record self.old.names { defs = self.old.names.defs ++ record { name = name; ty = ty } ∷ [] }) }
+        ensures others { OnOk result ((self.new.name ≡ self.old.name) × (self.new.images ≡ self.old.images) × (self.new.out ≡ self.old.out)) }
+    {
+        let def_name = DefName { name, ty };
+        self.defs.push(Definition { name, ty, term })?;
+        self.names.defs.push(def_name)
     }
 }
 
