@@ -8,3 +8,5 @@ pub mod LineLaws
 pub mod Once
 pub mod Naming
 pub mod Steps
+pub mod Answering
+pub mod Growing

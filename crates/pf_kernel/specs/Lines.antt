@@ -181,7 +181,7 @@ judged ty unknown typed taps defs far depth nodes =
     ∷ more_than 512 Nodes (counted nodes) ∷ []
 
 -- those of an expression over these names, behind so many nodes, with which there are so many definitions
-abbrev pub expression_faults : Names → ℕ → LaneType → ℕ → Draft → List (Option ReadFault)
+unfoldable pub expression_faults : Names → ℕ → LaneType → ℕ → Draft → List (Option ReadFault)
 expression_faults names nodes ty defs d =
     let after = names_after names d in
     judged ty (first_unknown names d) (typing (term_of after d)) (length after.taps) defs (first_far d) (depth_of (term_of after d)) (nodes + node_count (term_of after d))

@@ -40,6 +40,7 @@ pub fn read_expression(alloc: Global, text: &[u8], by: Measure, names: &mut Name
     ensures only { (d : Draft) → IsDraftText text.now d → first_some (expression_faults names.old by.nodes by.ty by.defs d) ≡ None → IsTermOr (term_of (names_after names.old d) d) (names_after names.old d) result names.new }
     ensures kept { OnOk result (IsNames names.new) }
     ensures typed { IfOk result (λ t. IsTermOf names.new by.ty t) }
+    ensures room { OnOk result (by.defs ≤ 64) }
     ensures nodes { IfOk result (λ t. by.nodes + node_count t ≤ 512) }
 {
     Err(ReadFault::Memory)

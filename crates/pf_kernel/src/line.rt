@@ -183,9 +183,13 @@ fn read_def(alloc: Global, reading: Reading, name: Name, ty: LaneType, text: &[u
         nodes: nodes_in(reading.defs.as_slice()),
     };
     let read = read_expression(alloc, text, by, &mut reading.names);
-    let term = unless_taken(is_taken, name, read)?;
-    reading.add_def(name, ty, term)?;
-    Ok(reading)
+    match unless_taken(is_taken, name, read) {
+        Ok(term) => {
+            reading.add_def(name, ty, term)?;
+            Ok(reading)
+        }
+        Err(fault) => Err(fault),
+    }
 }
 
 fn read_out(alloc: Global, reading: Reading, ty: LaneType, text: &[u8]) -> Result<Reading, ReadFault>
@@ -202,9 +206,13 @@ fn read_out(alloc: Global, reading: Reading, ty: LaneType, text: &[u8]) -> Resul
         defs: reading.defs.len(),
         nodes: nodes_in(reading.defs.as_slice()),
     };
-    let term = read_expression(alloc, text, by, &mut reading.names)?;
-    reading.out = Some((ty, term));
-    Ok(reading)
+    match read_expression(alloc, text, by, &mut reading.names) {
+        Ok(term) => {
+            reading.out = Some((ty, term));
+            Ok(reading)
+        }
+        Err(fault) => Err(fault),
+    }
 }
 
 // The nodes of the definitions' terms, or 2^64 - 1 where there are more.
