@@ -10,3 +10,4 @@ pub mod Naming
 pub mod Steps
 pub mod Answering
 pub mod Growing
+pub mod FrontLaws

@@ -15,6 +15,7 @@ use Rattle.pf_terms.specs.Terms.{is_in}
 use Rattle.pf_kernel.specs.declared.front.Front.{Front}
 use Rattle.pf_kernel.specs.declared.front.Front.TheVariants.{Kernel as KernelFront, Image as ImageFront, Def as DefFront, Out as OutFront}
 use Rattle.pf_kernel.specs.Lines.{Begun, may_stand, IsShape, kernel, image, ranged, def, out, Begins, IsFrontFault, whole_range}
+use Rattle.pf_kernel.specs.Kernels.{IsDecl}
 use Rattle.pf_kernel.specs.Fronts.{is_pixel, is_pixel_by, is_range, front_of, front_by, kernel_front, image_front, typed_image, range_front, high_front, range_end, def_front, typed_def, def_end, out_front, out_end}
 
 ok_same : {A B : Type 0} {a b : A} → ◌≡◌ {A = Result A B} (Ok a) (Ok b) → a ≡ b
@@ -172,3 +173,16 @@ word_shape b Out ks f true may h = out_shape b ks f may h
 pub shaped : (b : Begun) (ks : List Kind) (f : Front) → front_of (may_stand b) ks ≡ Ok f → IsShape b ks f
 shaped b (Line w ∷ ks) f h = word_shape b w ks f (may_stand b w) refl h
 shaped b _ f h = absurd (cc)
+
+-- ---- the whole of a pixel's type is a range
+in_unsigned : (bits : Bits) → IsIn (record { signed = false; bits = bits }) (pos (unsigned_abs (greatest (record { signed = false; bits = bits }))))
+in_unsigned Eight = record { low = omega (arith, ints); high = omega (arith, ints) }
+in_unsigned Sixteen = record { low = omega (arith, ints); high = omega (arith, ints) }
+in_unsigned ThirtyTwo = record { low = omega (arith, ints); high = omega (arith, ints) }
+
+decl_by : (n : List ℕ) (signed : Bool) (bits : Bits) → signed ≡ false → IsDecl (whole_range n (record { signed = signed; bits = bits }))
+decl_by n true bits h = absurd (cc)
+decl_by n false bits h = record { ordered = omega arith; inside = in_unsigned bits }
+
+pub whole_decl : (n : List ℕ) (t : LaneType) → IsPixelType t → IsDecl (whole_range n t)
+whole_decl n t h = decl_by n t.signed t.bits h.unsigned

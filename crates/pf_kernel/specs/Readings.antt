@@ -1,5 +1,5 @@
 -- What holds of a kernel while it is read.
-use Rattle.std.specs.Prelude.{◌≡◌, ℕ, ◌+◌, ◌≤◌, Bool, true, false, List, [], ◌∷◌, ◌++◌, length, map, All, Option, Some, None, IsSome, MatchOption, Result, Ok, Err}
+use Rattle.std.specs.Prelude.{◌≡◌, ℕ, ◌+◌, ◌^◌, ◌<◌, ◌≤◌, Bool, true, false, List, [], ◌∷◌, ◌++◌, length, map, All, Option, Some, None, IsSome, MatchOption, Result, Ok, Err}
 use Rattle.std.specs.List.{flat_map}
 use Rattle.pf_ints.specs.declared.lane.LaneType.{LaneType}
 use Rattle.pf_ints.specs.Images.{IsPixelType}
@@ -12,9 +12,11 @@ use Rattle.pf_terms.specs.KernelNames.{IsNames}
 use Rattle.pf_terms.specs.Meanings.{first_some}
 use Rattle.pf_terms.specs.Terms.{node_count}
 use Rattle.pf_kernel.specs.declared.front.Front.{Front}
+use Rattle.pf_kernel.specs.declared.front.Front.TheVariants.{Kernel as KernelFront, Image as ImageFront, Def as DefFront, Out as OutFront}
 use Rattle.pf_kernel.specs.declared.reading.Reading.{Reading}
+use Rattle.pf_terms.specs.declared.token.LineWord.TheVariants.{Kernel as KernelWord, Image as ImageWord, Def as DefWord, Out as OutWord}
 use Rattle.pf_kernel.specs.Kernels.{names_behind, IsDecl, IsTermOf, AreDefinitions, AreInTurn, taps_in}
-use Rattle.pf_kernel.specs.Lines.{Begun, names_in, nodes_in, Said, Over, SaysOf, IsTokensSyntax, faults, with_said, IsRead, IsLineFault}
+use Rattle.pf_kernel.specs.Lines.{Begun, names_in, nodes_in, may_stand, Said, Over, SaysOf, IsTokensSyntax, faults, with_said, IsRead, IsLineFault}
 use Rattle.pf_terms.specs.declared.token.Token.{Token}
 
 -- what the fields of a reading say
@@ -81,3 +83,20 @@ unless_taken taken s (Err (Syntax column)) = Err (Syntax column)
 unless_taken taken s (Err Memory) = Err Memory
 unless_taken true s _ = Err (Name s)
 unless_taken false s r = r
+
+-- a column that can be told so many bytes further on
+abbrev pub IsNearColumn : ℕ → Result Reading ReadFault → Type 0
+IsNearColumn n (Err (Syntax column)) = n + column < 2 ^ 64
+IsNearColumn n _ = Unit {0}
+
+-- the answer, so many bytes further on
+abbrev pub moved : ℕ → Result Reading ReadFault → Result Reading ReadFault
+moved n (Err (Syntax column)) = Err (Syntax (column + n))
+moved n r = r
+
+-- what a line says in front may be added: the names are names, and images are as they must be
+abbrev pub MayAdd : Begun → Front → Type 0
+MayAdd b (KernelFront n) = (may_stand b KernelWord ≡ true) × (is_name n ≡ true)
+MayAdd b (ImageFront d) = (may_stand b ImageWord ≡ true) × (is_name d.name ≡ true) × IsPixelType d.ty × IsDecl d
+MayAdd b (DefFront n t) = (may_stand b DefWord ≡ true) × (is_name n ≡ true)
+MayAdd b (OutFront t) = (may_stand b OutWord ≡ true) × IsPixelType t

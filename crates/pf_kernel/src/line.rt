@@ -13,7 +13,7 @@ ghost use Rattle.pf_kernel.specs.declared.front.Front.TheVariants.{Kernel as Ker
 ghost use Rattle.pf_kernel.specs.Fronts.{front_of};
 ghost use Rattle.pf_kernel.specs.Kernels.{IsDecl};
 ghost use Rattle.pf_kernel.specs.Lines.{Said, SaysOf, Bare, Over, IsShape, IsFrontFault, IsRead, may_stand, told_at, end_of, equals_of, uncommented, faults, with_said};
-ghost use Rattle.pf_kernel.specs.Readings.{begun_of, IsReading, Answers, AnswersText, AnswersTokens, AnswersLine, IsBegunOr, unless_taken};
+ghost use Rattle.pf_kernel.specs.Readings.{begun_of, IsReading, Answers, AnswersText, AnswersTokens, AnswersLine, IsBegunOr, IsNearColumn, MayAdd, moved, unless_taken};
 
 use crate::expression::{Measure, read_expression};
 use crate::front::{Front, front_by};
@@ -61,11 +61,23 @@ fn read_front(alloc: Global, reading: Reading, front: Front, text: &[u8], tokens
     requires lexed { IsLexed 0 text.now tokens.now }
     requires short { length text.now < 2 ^ 32 }
     requires shape { IsShape (begun_of reading) (kinds tokens.now) front }
+    requires may { MayAdd (begun_of reading) front }
     ensures found { AnswersTokens (begun_of reading) text.now tokens.now result }
     ensures only { (said : Said) → SaysOf (begun_of reading) text.now tokens.now said → first_some (faults (begun_of reading) said) ≡ None → IsBegunOr (with_said (begun_of reading) said) result }
     ensures kept { IfOk result IsReading }
 {
-    Err(ReadFault::Memory)
+    match front {
+        Front::Kernel(name) => Ok(reading.called(name)),
+        Front::Image(image) => read_image(reading, image),
+        Front::Def(name, ty) => {
+            let read = read_def(alloc, reading, name, ty, expression_of(text, tokens, 3));
+            moved(read, end_of(tokens, 3))
+        }
+        Front::Out(ty) => {
+            let read = read_out(alloc, reading, ty, expression_of(text, tokens, 2));
+            moved(read, end_of(tokens, 2))
+        }
+    }
 }
 
 // The column at which a fault of token n is told.
@@ -142,6 +154,22 @@ fn end_of(tokens: &[Token], n: usize) -> usize
         Some(token) => token.end,
         None => 0,
     }
+}
+
+// What stands behind token n.
+fn expression_of<'a>(text: &'a [u8], tokens: &[Token], n: usize) -> &'a [u8]
+    requires { IsLexed 0 text.now tokens.now }
+    ensures { result.now ≡ drop (end_of tokens.now n) text.now }
+{
+    &text[expression_place(text, tokens, n)..]
+}
+
+fn expression_place(_text: &[u8], tokens: &[Token], n: usize) -> usize
+    requires { IsLexed 0 _text.now tokens.now }
+    ensures value { result ≡ end_of tokens.now n }
+    ensures within { result ≤ length _text.now }
+{
+    end_of(tokens, n)
 }
 
 fn read_image(reading: Reading, image: ImageDecl) -> Result<Reading, ReadFault>
@@ -234,5 +262,18 @@ fn unless_taken(is_taken: bool, name: Name, read: Result<Term, ReadFault>) -> Re
         Err(ReadFault::Syntax { .. } | ReadFault::Memory) => read,
         _ if is_taken => Err(ReadFault::Name { name }),
         _ => read,
+    }
+}
+
+// The answer to an expression that stands so far behind the line's beginning.
+fn moved(read: Result<Reading, ReadFault>, by: usize) -> Result<Reading, ReadFault>
+    requires { IsNearColumn by read }
+    ensures { result ≡ moved by read }
+{
+    match read {
+        Err(ReadFault::Syntax { column }) => Err(ReadFault::Syntax {
+            column: column + by as u64,
+        }),
+        other => other,
     }
 }
