@@ -1,5 +1,5 @@
 -- The answer to an expression of a line.
-use Rattle.std.specs.Prelude.{◌≡◌, ℕ, ◌+◌, ◌≤◌, List, Option, Some, None, Result, Ok, Err}
+use Rattle.std.specs.Prelude.{◌≡◌, ℕ, ℤ, ◌+◌, ◌≤◌, List, Option, Some, None, Result, Ok, Err}
 use Rattle.pf_ints.specs.declared.lane.LaneType.{LaneType}
 use Rattle.pf_terms.specs.declared.draft.Draft.{Draft}
 use Rattle.pf_terms.specs.declared.draft.Draft.TheOpen.{Draft-F}
@@ -16,7 +16,9 @@ use Rattle.pf_terms.specs.Operators.{row_of}
 use Rattle.pf_terms.specs.Terms.{result_type}
 use Rattle.pf_terms.specs.TermTexts.{no_image, no_def}
 use Rattle.std.specs.Prelude.{slice_index_or}
-use Rattle.pf_kernel.specs.Lines.{expression_faults}
+use Rattle.pf_kernel.specs.Lines.{expression_faults, mistyped, more_than, counted}
+use Rattle.pf_terms.specs.declared.limit.LimitKind.TheVariants.{Bytes, Amount as AmountLimit, Images, Taps, Definitions, Offset, Depth, Nodes}
+use Rattle.std.specs.Option.{option_or}
 
 abbrev pub type_step : Names → Draft-F LaneType → LaneType
 type_step names (Number n t) = t
@@ -43,7 +45,25 @@ Judges names nodes ty defs text (Err (Syntax column)) now = (place : ℕ) × IsS
 Judges names nodes ty defs text (Err Memory) now = Unit {0}
 Judges names nodes ty defs text (Err fault) now = IsFaulty names nodes ty defs text (Some fault)
 
--- what is told where a limit of taps or offsets was passed
+-- what is told of a term that was read
+unfoldable pub term_fault : LaneType → LaneType → ℕ → ℕ → ℕ → Option ReadFault
+term_fault ty got defs depth nodes = option_or (mistyped ty (Ok got)) (option_or (more_than 64 Definitions defs) (option_or (more_than 128 Depth (counted depth)) (more_than 512 Nodes (counted nodes))))
+
+abbrev pub defs_before : LimitKind → ℕ → Option ReadFault
+defs_before Offset defs = more_than 64 Definitions defs
+defs_before _ defs = None
+
+-- what is told of an expression that passes a limit of taps or offsets
+unfoldable pub limit_fault : LaneType → LaneType → ℕ → LimitKind → ℤ → Option ReadFault
+limit_fault ty got defs what count = option_or (mistyped ty (Ok got)) (option_or (defs_before what defs) (Some (Limit what count)))
+
+-- the answer by a term that was read
+abbrev pub JudgesTerm : Term → Option ReadFault → Result Term ReadFault → Type 0
+JudgesTerm term fault (Ok t) = (t ≡ term) × (fault ≡ None)
+JudgesTerm term fault (Err e) = fault ≡ Some e
+
+-- what is told of an expression that isn't read
 abbrev pub Tells : Names → ℕ → LaneType → ℕ → List ℕ → ReadFault → Type 0
+Tells names nodes ty defs text (Syntax column) = (place : ℕ) × IsSyntaxFault text place × (column ≡ place + 1)
 Tells names nodes ty defs text Memory = Unit {0}
 Tells names nodes ty defs text fault = IsFaulty names nodes ty defs text (Some fault)
