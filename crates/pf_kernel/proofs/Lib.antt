@@ -11,3 +11,4 @@ pub mod Steps
 pub mod Answering
 pub mod Growing
 pub mod FrontLaws
+pub mod Judging

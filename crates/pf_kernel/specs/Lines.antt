@@ -157,7 +157,7 @@ abbrev pub mistyped : LaneType → Result LaneType TermFault → Option ReadFaul
 mistyped ty (Ok u) = if_so (not (same_type ty u)) (Types ty u)
 mistyped ty (Err (TypesAt path want got)) = Some (Types want got)
 mistyped ty (Err (AmountAt path k)) = Some (Amount k)
-mistyped ty (Err NoMemory) = None
+mistyped ty (Err NoMemory) = Some Memory
 
 abbrev pub names_with : Begun → Draft → Names
 names_with b d = names_after (names_in b) d
