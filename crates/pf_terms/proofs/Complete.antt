@@ -1,7 +1,6 @@
 -- What is spelled is built.
 use Rattle.std.proofs.Common.{◌≡◌, refl, sym, ap, ◌∙◌, Bool, true, false, List, [], ◌∷◌, ◌++◌, ℕ, append_assoc, append-nil, ℤ, pos}
 use Rattle.std.specs.Prelude.{None, if◌then◌else◌, Option, Some, not, ◌&&◌}
-use Rattle.pf_ints.specs.declared.lane.LaneType.{LaneType}
 use Rattle.pf_terms.specs.declared.op.Op.{Op}
 use Rattle.pf_terms.specs.declared.op.Op.TheVariants.{Cast, Add, Sub, Mul, SelectGreater}
 use Rattle.pf_terms.specs.declared.op.Op.TheVariants.{ShiftLeft as ShiftLeftBy, ShiftRight as ShiftRightBy}
@@ -12,13 +11,13 @@ use Rattle.pf_terms.specs.declared.symbol.Symbol.TheVariants.{Atom, Factors, Sum
 use Rattle.pf_terms.specs.declared.symbol.CallShape.{CallShape}
 use Rattle.pf_terms.specs.declared.symbol.CallShape.TheVariants.{One, Two, OneAndAmount, TwoAndAmount, TypeAndOne}
 use Rattle.pf_terms.specs.declared.token.Kind.{Kind}
-use Rattle.pf_terms.specs.declared.token.Kind.TheVariants.{Name, TypeWord, Number, Typed, Word, Choose, Open, Close, OpenSquare, CloseSquare, Comma, Plus, Minus, Times, ShiftLeft, ShiftRight}
+use Rattle.pf_terms.specs.declared.token.Kind.TheVariants.{TypeWord, Number, Word, Open, Close, CloseSquare, Comma, Plus, Minus, Times, ShiftLeft, ShiftRight}
 use Rattle.pf_terms.specs.declared.build.Head.{Head}
 use Rattle.pf_terms.specs.declared.build.Head.TheVariants.{Named as NamedHead, Placed as PlacedHead, Node as NodeHead}
 use Rattle.pf_terms.specs.declared.build.Frame.{Frame}
 use Rattle.pf_terms.specs.declared.build.Build.{Build}
 use Rattle.pf_terms.specs.Grammar.{call_shape, Rank, Atoms, Products, Sums, Whole, IsInteger, plain, minus, IsComparison, greater, less, same, Spells, number, negated, named, placed, bracketed, cast, one, two, one_by, two_by, typed, chosen, alone, product, term, sum, difference, unshifted, left, right}
-use Rattle.pf_terms.specs.Parsing.{run, then_on, followed, step, built, finished, passed, taken, passes, may_be_none, goes_on, after, whole, call_symbols, node_of, made, joined, whole_frame}
+use Rattle.pf_terms.specs.Parsing.{run, then_on, followed, step, built, finished, passed, taken, passes, may_be_none, goes_on, after, whole, call_symbols, node_of, made, whole_frame}
 
 -- nothing is ready, or an expression is
 abbrev pub fresh : List Frame → Build

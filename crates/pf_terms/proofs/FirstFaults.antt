@@ -1,5 +1,5 @@
 -- The first token that doesn't fit is the first fault.
-use Rattle.std.proofs.Common.{◌≡◌, refl, sym, ap, ◌∙◌, subst, ℕ, ◌+◌, ◌≤◌, ◌<◌, Bool, true, false, List, [], ◌∷◌, ◌++◌, length, take, get_or, append_assoc, append-nil, arith, zero, suc, inl, inr, ltb-true, ltb-false, lt-ltb, ◌-◌, drop}
+use Rattle.std.proofs.Common.{◌≡◌, refl, sym, ap, ◌∙◌, subst, ℕ, ◌+◌, ◌≤◌, ◌<◌, Bool, true, false, List, [], ◌∷◌, ◌++◌, length, take, get_or, append_assoc, append-nil, arith, inl, inr, ltb-true, ltb-false, lt-ltb, ◌-◌, drop}
 use Rattle.std.specs.Prelude.{Option, Some, None, if◌then◌else◌, nat_lt, ◌⊎◌}
 use Rattle.std.proofs.lemmas.List.{take_more, take_all, take-append-drop}
 use Rattle.pf_terms.specs.declared.symbol.Symbol.{Symbol}
@@ -8,11 +8,11 @@ use Rattle.pf_terms.specs.declared.token.Kind.TheVariants.{Open, Close}
 use Rattle.pf_terms.specs.declared.draft.Draft.{Draft}
 use Rattle.pf_terms.specs.declared.build.Build.{Build}
 use Rattle.pf_terms.specs.Grammar.{Whole, Spells, IsSpelled, IsBegun}
-use Rattle.pf_terms.specs.Parsing.{step, built, run, then_on, finished, whole, kinds}
+use Rattle.pf_terms.specs.Parsing.{step, built, run, then_on, finished, whole}
 use Rattle.pf_terms.specs.Drafts.{bracket_limit, nested, IsShallow, IsFirstFault}
 use Rattle.pf_terms.proofs.Complete.{fresh, holding, spelled_built}
 use Rattle.pf_terms.proofs.Sound.{run_spelled}
-use Rattle.pf_terms.proofs.Viable.{Runs, completion, completes}
+use Rattle.pf_terms.proofs.Viable.{completion, completes}
 
 -- ---- brackets
 

@@ -16,3 +16,11 @@ pub mod Signs
 pub mod Places
 pub mod OneLexing
 pub mod DraftTexts
+pub mod Lookups
+pub mod DraftParts
+pub mod Built
+pub mod TapLists
+pub mod DraftForms
+pub mod TermUses
+pub mod TermNames
+pub mod Meant

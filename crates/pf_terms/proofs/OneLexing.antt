@@ -1,15 +1,13 @@
 -- A text has one list of tokens.
-use Rattle.std.proofs.Common.{◌≡◌, refl, sym, ap, ◌∙◌, subst, ℕ, ◌+◌, ◌-◌, ◌≤◌, ◌<◌, Bool, true, false, List, [], ◌∷◌, ◌++◌, length, take, drop, get_or, append-nil, arith, zero, suc, ℤ, pos, inl, inr, drop-cons, leb-true, length-append, leb-false, le-leb}
-use Rattle.std.specs.Prelude.{All, codes, decimal, nat_le, int_le, not, ◌&&◌, ◌||◌, ◌⊎◌, Option, Some, None, bytes_eq, if◌then◌else◌}
-use Rattle.std.specs.Fmt.{digits}
-use Rattle.std.proofs.lemmas.List.{get_or-take, take_all, length-take-le}
-use Rattle.pf_ints.specs.Lanes.{lane_width}
+use Rattle.std.proofs.Common.{◌≡◌, refl, sym, ap, ◌∙◌, subst, ℕ, ◌+◌, ◌≤◌, ◌<◌, Bool, true, false, List, [], ◌∷◌, ◌++◌, length, take, drop, get_or, append-nil, arith, zero, suc, ℤ, pos, inl, inr, drop-cons, leb-true, length-append, leb-false, le-leb}
+use Rattle.std.specs.Prelude.{All, codes, nat_le, int_le, not, ◌&&◌, ◌⊎◌, Option, Some, None, bytes_eq, if◌then◌else◌}
+use Rattle.std.proofs.lemmas.List.{get_or-take, length-take-le}
 use Rattle.pf_ints.specs.declared.lane.LaneType.{LaneType}
 use Rattle.pf_ints.specs.declared.lane.Bits.{Bits}
 use Rattle.pf_ints.specs.declared.lane.Bits.TheVariants.{Eight, Sixteen, ThirtyTwo}
 use Rattle.pf_ints.specs.Words.{is_letter, is_digit, is_name_byte, is_name, is_spelled, is_reserved}
 use Rattle.pf_terms.specs.declared.op.Op.{Op}
-use Rattle.pf_terms.specs.declared.op.Op.TheVariants.{Cast, Add, Sub, Mul, ShiftLeft as ShiftLeftBy, ShiftRight as ShiftRightBy, Min, Max, SelectGreater, SelectEqual, Abs, WideningAdd, WideningSub, WideningMul, ExtendingAdd, HalvingAdd, RoundingHalvingAdd, HalvingSub, SaturatingAdd, SaturatingSub, SaturatingCast, Absd, RoundingShr, MulShr, RoundingMulShr}
+use Rattle.pf_terms.specs.declared.op.Op.TheVariants.{Min, Max, Abs, WideningAdd, WideningSub, WideningMul, ExtendingAdd, HalvingAdd, RoundingHalvingAdd, HalvingSub, SaturatingAdd, SaturatingSub, SaturatingCast, Absd, RoundingShr, MulShr, RoundingMulShr}
 use Rattle.pf_terms.specs.declared.token.Kind.{Kind}
 use Rattle.pf_terms.specs.declared.token.Kind.TheVariants.{Name, TypeWord, Number, Typed, Long, Word, Choose, Line, Open, Close, OpenSquare, CloseSquare, Comma, Plus, Minus, Times, ShiftLeft, ShiftRight, Less, Greater, Same, Equals, Other}
 use Rattle.pf_terms.specs.declared.token.LineWord.{LineWord}
@@ -18,9 +16,9 @@ use Rattle.pf_terms.specs.declared.token.Token.{Token}
 use Rattle.pf_terms.specs.Terms.{typed_as}
 use Rattle.pf_terms.specs.TermTexts.{type_word, op_word}
 use Rattle.pf_terms.specs.Parsing.{is_unsigned}
-use Rattle.pf_terms.specs.Tokens.{is_blank, digits_behind, sign_text, line_word, IsNumber, IsLongNumber, IsCalledBy, IsWordOf, IsRun, IsNoRun, IsNoDigit, IsFrontRun, IsFrontSign, IsFrontByte, IsFront, IsSolid, IsLexed, ended, blank, token}
+use Rattle.pf_terms.specs.Tokens.{is_blank, digits_behind, sign_text, line_word, IsCalledBy, IsWordOf, IsRun, IsNoRun, IsNoDigit, IsFrontRun, IsFrontSign, IsFrontByte, IsFront, IsSolid, IsLexed, ended, blank, token}
 use Rattle.pf_terms.proofs.Lexing.{spelled_word, spelled_words, digits_front, no_digit_word}
-use Rattle.pf_terms.proofs.Typing.{and_left, and_right}
+use Rattle.pf_terms.proofs.Typing.{and_left}
 
 -- ---- words that stand for themselves
 abbrev words : List (List ℕ × Kind)

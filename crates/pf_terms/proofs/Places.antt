@@ -1,6 +1,6 @@
 -- What the reader keeps from token to token, and where a fault stands.
-use Rattle.std.proofs.Common.{◌≡◌, refl, sym, ap, ◌∙◌, subst, ℕ, ◌+◌, ◌-◌, ◌≤◌, ◌<◌, Bool, true, false, List, [], ◌∷◌, ◌++◌, length, take, drop, get_or, append_assoc, arith, zero, suc, pos, length-append}
-use Rattle.std.specs.Prelude.{Option, Some, None, if◌then◌else◌, ◌⊎◌}
+use Rattle.std.proofs.Common.{◌≡◌, refl, sym, ap, ◌∙◌, subst, ℕ, ◌+◌, ◌≤◌, ◌<◌, Bool, true, false, List, [], ◌∷◌, ◌++◌, length, take, drop, get_or, append_assoc, arith, zero, suc, pos, length-append}
+use Rattle.std.specs.Prelude.{Option, Some, None, if◌then◌else◌}
 use Rattle.std.proofs.lemmas.List.{take-append-drop, get_or_default, drop_more, length-take-le, length-map}
 use Rattle.std.proofs.Math.Seq.{take-append_seam}
 use Rattle.pf_ints.specs.declared.lane.LaneType.{LaneType}
@@ -15,9 +15,9 @@ use Rattle.pf_terms.specs.declared.draft.Draft.{Draft}
 use Rattle.pf_terms.specs.declared.build.Build.{Build}
 use Rattle.pf_terms.specs.declared.reader.Reader.{Reader}
 use Rattle.pf_terms.specs.Terms.{is_in, typed_as}
-use Rattle.pf_terms.specs.Grammar.{IsBegun, IsSpelled, Whole, Spells}
+use Rattle.pf_terms.specs.Grammar.{IsSpelled, Whole, Spells}
 use Rattle.pf_terms.specs.Parsing.{step, taker, after, built, run, then_on, finished, whole, kinds, place_of}
-use Rattle.pf_terms.specs.Drafts.{nested, IsShallow, IsFirstFault, small_number, IsNegative, IsFaultPlace, behind, first}
+use Rattle.pf_terms.specs.Drafts.{small_number, IsNegative, IsFaultPlace, behind, first}
 use Rattle.pf_terms.specs.Reading.{minus_of, is_own, Takes, draft_of, fault_place, IsDraftOf, IsFaultOf}
 use Rattle.pf_terms.proofs.Complete.{fresh, holding, spelled_built}
 use Rattle.pf_terms.proofs.Sound.{run_spelled}
@@ -112,8 +112,8 @@ negative_with ks n x k small like fits comes h below at =
       own = (
         completion v.0,
         run_spelled ((take h.m ks ++ small ∷ []) ++ completion v.0) (fresh []) r.0
-        (ap (λ l. run l whole (fresh [])) (append_assoc (take h.m ks) (small ∷ []) (completion v.0)) ∙ h.stands.onward (small ∷ completion v.0)
-        ∙ ap (then_on (λ u. run (completion v.0) u (built h.symbols small h.build))) v.1 ∙ r.1),
+            (ap (λ l. run l whole (fresh [])) (append_assoc (take h.m ks) (small ∷ []) (completion v.0)) ∙ h.stands.onward (small ∷ completion v.0)
+            ∙ ap (then_on (λ u. run (completion v.0) u (built h.symbols small h.build))) v.1 ∙ r.1),
       );
     }
 

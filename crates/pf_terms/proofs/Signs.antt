@@ -1,14 +1,12 @@
 -- Whether a minus is a number's own.
-use Rattle.std.proofs.Common.{◌≡◌, refl, sym, ap, ◌∙◌, subst, ℕ, ◌+◌, ◌≤◌, ◌<◌, Bool, true, false, List, [], ◌∷◌, ◌++◌, length, take, get_or, append_assoc, arith, zero, suc, pos, drop}
+use Rattle.std.proofs.Common.{◌≡◌, refl, sym, ap, ◌∙◌, subst, Bool, true, false, List, [], ◌∷◌, ◌++◌}
 use Rattle.std.specs.Prelude.{Option, Some, None, if◌then◌else◌, not, ◌&&◌, ◌||◌}
-use Rattle.pf_ints.specs.declared.lane.LaneType.{LaneType}
-use Rattle.pf_terms.specs.declared.op.Op.{Op}
 use Rattle.pf_terms.specs.declared.symbol.Symbol.{Symbol}
 use Rattle.pf_terms.specs.declared.symbol.Symbol.TheVariants.{Atom, Factors, Summands, Shifts, Offsets, Column, Row, NegatedColumn, NegatedRow, Digits, Negated, TypeName, Comparison, Open as OpenSymbol, Close as CloseSymbol, CloseSquare as CloseSquareSymbol, Comma as CommaSymbol, End}
 use Rattle.pf_terms.specs.declared.symbol.CallShape.{CallShape}
 use Rattle.pf_terms.specs.declared.symbol.CallShape.TheVariants.{One, Two, OneAndAmount, TwoAndAmount, TypeAndOne, NoCall}
 use Rattle.pf_terms.specs.declared.token.Kind.{Kind}
-use Rattle.pf_terms.specs.declared.token.Kind.TheVariants.{Name, TypeWord, Number, Typed, Word, Choose, Open, Close, OpenSquare, CloseSquare, Comma, Plus, Minus, Times, ShiftLeft, ShiftRight, Less, Greater, Same}
+use Rattle.pf_terms.specs.declared.token.Kind.TheVariants.{Name, TypeWord, Number, Typed, Word, Choose, Open, OpenSquare, Plus, Minus, Times, ShiftLeft, ShiftRight}
 use Rattle.pf_terms.specs.Grammar.{call_shape}
 use Rattle.pf_terms.proofs.Complete.{passes_by}
 use Rattle.pf_terms.proofs.Viable.{is_plain, plain_stops}

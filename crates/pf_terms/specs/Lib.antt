@@ -12,3 +12,4 @@ pub mod Drafts
 pub mod KernelNames
 pub mod Meanings
 pub mod Reading
+pub mod Building

@@ -1,6 +1,5 @@
 -- An expression from the left: what is to come after each token, and what is built so far.
-use Rattle.std.specs.Prelude.{if◌then◌else◌, neg_ℤ, pos, ℕ, ℤ, Bool, true, false, ◌&&◌, ◌==◌, not, List, [], ◌∷◌, ◌++◌, Option, Some, None, length, map, slice_get, nat_lt, int_le, ◌-◌, ◌+◌, ◌≡◌}
-use Rattle.pf_ints.specs.declared.lane.LaneType.{LaneType}
+use Rattle.std.specs.Prelude.{if◌then◌else◌, neg_ℤ, pos, ℕ, Bool, true, false, ◌&&◌, not, List, [], ◌∷◌, ◌++◌, Option, Some, None, length, map, slice_get, int_le, ◌-◌, ◌≡◌}
 use Rattle.pf_terms.specs.declared.op.Op.{Op}
 use Rattle.pf_terms.specs.declared.op.Op.TheVariants.{Cast, Add, Sub, Mul, SelectGreater, SelectEqual}
 use Rattle.pf_terms.specs.declared.op.Op.TheVariants.{ShiftLeft as ShiftLeftBy, ShiftRight as ShiftRightBy}

@@ -205,14 +205,43 @@ fn told(symbol: Symbol, kind: Kind, head: Head) -> Head
     match (symbol, kind, head) {
         (Symbol::Offsets, _, Head::Named(name)) => Head::Placed(name, 0, 0),
         (Symbol::Column, Kind::Number(n), Head::Placed(name, _, dy)) => Head::Placed(name, n, dy),
-        (Symbol::NegatedColumn, Kind::Number(n), Head::Placed(name, _, dy)) => Head::Placed(name, -n, dy),
+        (Symbol::NegatedColumn, Kind::Number(n), Head::Placed(name, _, dy)) => Head::Placed(
+            name, -n, dy,
+        ),
         (Symbol::Row, Kind::Number(n), Head::Placed(name, dx, _)) => Head::Placed(name, dx, n),
-        (Symbol::NegatedRow, Kind::Number(n), Head::Placed(name, dx, _)) => Head::Placed(name, dx, -n),
-        (Symbol::Digits, Kind::Number(n), Head::Node { op, less, ty, .. }) => Head::Node { op, less, ty, k: n },
-        (Symbol::TypeName, Kind::TypeWord(ty), Head::Node { op, less, k, .. }) => Head::Node { op, less, ty: Some(ty), k },
-        (Symbol::Comparison, Kind::Greater, Head::Node { ty, k, .. }) => Head::Node { op: Op::SelectGreater, less: false, ty, k },
-        (Symbol::Comparison, Kind::Less, Head::Node { ty, k, .. }) => Head::Node { op: Op::SelectGreater, less: true, ty, k },
-        (Symbol::Comparison, Kind::Same, Head::Node { ty, k, .. }) => Head::Node { op: Op::SelectEqual, less: false, ty, k },
+        (Symbol::NegatedRow, Kind::Number(n), Head::Placed(name, dx, _)) => Head::Placed(
+            name, dx, -n,
+        ),
+        (Symbol::Digits, Kind::Number(n), Head::Node { op, less, ty, .. }) => Head::Node {
+            op,
+            less,
+            ty,
+            k: n,
+        },
+        (Symbol::TypeName, Kind::TypeWord(ty), Head::Node { op, less, k, .. }) => Head::Node {
+            op,
+            less,
+            ty: Some(ty),
+            k,
+        },
+        (Symbol::Comparison, Kind::Greater, Head::Node { ty, k, .. }) => Head::Node {
+            op: Op::SelectGreater,
+            less: false,
+            ty,
+            k,
+        },
+        (Symbol::Comparison, Kind::Less, Head::Node { ty, k, .. }) => Head::Node {
+            op: Op::SelectGreater,
+            less: true,
+            ty,
+            k,
+        },
+        (Symbol::Comparison, Kind::Same, Head::Node { ty, k, .. }) => Head::Node {
+            op: Op::SelectEqual,
+            less: false,
+            ty,
+            k,
+        },
         _ => head,
     }
 }

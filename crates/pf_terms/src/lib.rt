@@ -7,18 +7,25 @@ mod fault;
 mod kernel;
 mod lexer;
 mod limit;
+mod lookup;
 mod meaning;
 mod names;
 mod op;
 mod print;
 mod read;
+#[cfg(test)]
+mod read_tests;
 mod reader;
+mod resolve;
 mod row;
 mod sizes;
+mod spots;
 mod stack;
 mod symbol;
 mod table;
 mod term;
+#[cfg(test)]
+mod tests;
 mod token;
 mod types;
 mod values;

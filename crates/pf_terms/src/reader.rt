@@ -35,7 +35,12 @@ impl Reader {
         ensures minus { IfOk result (λ r. r.minus ≡ None) }
     {
         let mut symbols = Stack::new(alloc);
-        symbols.push_all(&[Symbol::Atom, Symbol::Factors, Symbol::Summands, Symbol::Shifts])?;
+        symbols.push_all(&[
+            Symbol::Atom,
+            Symbol::Factors,
+            Symbol::Summands,
+            Symbol::Shifts,
+        ])?;
         Ok(Reader {
             symbols,
             build: Build::new(alloc),
@@ -95,7 +100,11 @@ fn nested(depth: usize, kind: &Kind) -> Option<usize>
     ensures { result ≡ nested depth kind.now }
 {
     match *kind {
-        Kind::Open => if depth < BRACKET_LIMIT { Some(depth + 1) } else { None },
+        Kind::Open => if depth < BRACKET_LIMIT {
+            Some(depth + 1)
+        } else {
+            None
+        },
         Kind::Close => Some(depth.saturating_sub(1)),
         _ => Some(depth),
     }

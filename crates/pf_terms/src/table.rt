@@ -52,13 +52,24 @@ pub fn after(symbol: Symbol, kind: &Kind) -> Option<&'static [Symbol]>
         (Symbol::Offsets, Kind::OpenSquare) => Some(&OFFSETS),
         (Symbol::Column, Kind::Minus) => Some(&[Symbol::NegatedColumn]),
         (Symbol::Row, Kind::Minus) => Some(&[Symbol::NegatedRow]),
-        _ => if is_met(symbol, *kind) { Some(&[]) } else { None },
+        _ => if is_met(symbol, *kind) {
+            Some(&[])
+        } else {
+            None
+        },
     }
 }
 
 const SUMMAND: [Symbol; 4] = [Symbol::Atom, Symbol::Factors, Symbol::End, Symbol::Summands];
+
 const SHIFT: [Symbol; 3] = [Symbol::Digits, Symbol::End, Symbol::Shifts];
-const OFFSETS: [Symbol; 4] = [Symbol::Column, Symbol::Comma, Symbol::Row, Symbol::CloseSquare];
+
+const OFFSETS: [Symbol; 4] = [
+    Symbol::Column,
+    Symbol::Comma,
+    Symbol::Row,
+    Symbol::CloseSquare,
+];
 
 // Whether a symbol that stands for one token is met by it.
 fn is_met(symbol: Symbol, kind: Kind) -> bool
@@ -93,7 +104,11 @@ fn after_atom(kind: Kind) -> Option<&'static [Symbol]>
     ensures { MatchOption result (after_atom kind ≡ None) (λ new. after_atom kind ≡ Some new.now) }
 {
     match kind {
-        Kind::Typed(n, ty) => if is_in(ty, n as i128) { Some(&[]) } else { None },
+        Kind::Typed(n, ty) => if is_in(ty, n as i128) {
+            Some(&[])
+        } else {
+            None
+        },
         Kind::Minus => Some(&[Symbol::Negated]),
         Kind::Name(_) => Some(&[Symbol::Offsets, Symbol::End]),
         Kind::TypeWord(_) => Some(&ONE),
