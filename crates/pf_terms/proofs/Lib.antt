@@ -24,3 +24,10 @@ pub mod DraftForms
 pub mod TermUses
 pub mod TermNames
 pub mod Meant
+pub mod ReadBackTexts
+pub mod ReadBackWords
+pub mod ReadBackNodes
+pub mod ReadBackLeaves
+pub mod ReadBackTerms
+pub mod ReadBackMeanings
+pub mod NoNames

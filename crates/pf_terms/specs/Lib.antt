@@ -13,3 +13,4 @@ pub mod KernelNames
 pub mod Meanings
 pub mod Reading
 pub mod Building
+pub mod ReadBack

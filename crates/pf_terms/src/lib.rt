@@ -28,6 +28,8 @@ mod term;
 mod tests;
 mod token;
 mod types;
+#[cfg(test)]
+mod value_tests;
 mod values;
 mod weights;
 

@@ -4,8 +4,8 @@ ghost use Rattle.pf_terms.specs.declared.term.Term.{Term};
 ghost use Rattle.pf_terms.specs.Building.{is_formed_draft, IsFaultOrMemory};
 ghost use Rattle.pf_terms.specs.KernelNames.{IsNames};
 ghost use Rattle.pf_terms.specs.Meanings.{IsTermText, IsTermOr, IsReadFault, Means, names_after};
-ghost use Rattle.pf_terms.specs.Terms.{IsWellTyped};
-ghost use Rattle.pf_terms.specs.TermTexts.{is_named};
+ghost use Rattle.pf_terms.specs.Terms.{IsWellTyped, depth_of};
+ghost use Rattle.pf_terms.specs.TermTexts.{is_named, term_text};
 
 use crate::draft::{Draft, DraftFault};
 use crate::limit::LimitKind;
@@ -70,6 +70,8 @@ pub fn read_term(alloc: Global, text: &[u8], names: &mut Names) -> Result<Term, 
     ensures read { IfOk result (λ t. IsTermText names.old text.now t names.new) }
     // What a text means is read, unless memory runs out.
     ensures only { (t : Term) (after : Names) → IsTermText names.old text.now t after → IsTermOr t after result names.new }
+    // What was printed of a term is read as the term, and no name is new.
+    ensures back { (t : Term) → IsWellTyped t → is_named names.old t ≡ true → depth_of t ≤ 1024 → text.now ≡ term_text names.old t → IsTermOr t names.old result names.new }
     // The first fault of another text is told.
     ensures fault { IfErr result (IsReadFault names.old text.now) }
     ensures kept { OnErr result (names.new ≡ names.old) }
