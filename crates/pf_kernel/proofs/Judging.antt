@@ -224,7 +224,7 @@ module _ (names : Names) (nodes : ℕ) (ty : LaneType) (defs : ℕ) (d : Draft) 
   pub means_so : first_told ≡ None → Means names d term (names_after names d)
   means_so none =
       let f = faultless ty (first_unknown names d) (typing term) (length (names_after names d).taps) defs (first_far d) (depth_of term) (nodes + node_count term) (sym parts ∙ none) in
-      record { known = f.known; typed = f.type_found ∙ ap (λ u. Ok u) (typing_stated term f.ty f.type_found); few = f.few; near = f.near; term = refl; made = refl }
+      record { known = f.known; typed = f.type_found ∙ ap (λ u. Ok u) (sym (typing_stated term f.ty f.type_found)); few = f.few; near = f.near; term = refl; made = refl }
 
 -- ---- what isn't told
 term_syntax : (v a b c : Bool) (w g : LaneType) (k l m : LimitKind) (x y z : ℤ) (column : ℕ) → option_or (if_so v (Types w g)) (option_or (if_so a (Limit k x)) (option_or (if_so b (Limit l y)) (if_so c (Limit m z)))) ≡ Some (Syntax column) → ⊥
@@ -301,7 +301,7 @@ module _ (names : Names) (nodes : ℕ) (ty : LaneType) (defs : ℕ) (text : List
       let whole = text_so d spelled none in
       let same = only (term_of (names_after names d) d) (names_after names d) whole in
       let clean : term_fault ty (stated_type t) defs (depth_of t) (nodes + node_count t) ≡ None =
-      ap (λ (x : Term). term_fault ty (stated_type x) defs (depth_of x) (nodes + node_count x)) same.0 ∙ sym (read_first names nodes ty defs d (term_of (names_after names d) d) (names_after names d) whole.means) ∙ none in
+      ap (λ (x : Term). term_fault ty (stated_type x) defs (depth_of x) (nodes + node_count x)) same.0 ∙ sym (read_first names nodes ty defs d (term_of (names_after names d) d) (names_after names d) (means_so names nodes ty defs d none)) ∙ none in
       or_memory (term_of (names_after names d) d) t now (names_after names d) r _ j clean same.0 same.1
 
   only_memory : (x : Term) (after now : Names) (fault : ReadFault) → IsTermOr x after (Err fault) now → fault ≡ Memory
@@ -315,7 +315,7 @@ module _ (names : Names) (nodes : ℕ) (ty : LaneType) (defs : ℕ) (text : List
   pub refused_only : (fault e : ReadFault) (now last : Names) → ((x : Term) (after : Names) → IsTermText names text x after → IsTermOr x after (Err fault) now) → (fault ≡ Memory → e ≡ Memory) →
       (d : Draft) → IsDraftText text d → first_some (expression_faults names nodes ty defs d) ≡ None → IsTermOr (term_of (names_after names d) d) (names_after names d) (Err e) last
   refused_only fault e now last only memory d spelled none =
-      let same = only_memory _ _ now fault (only (term_of (names_after names d) d) (names_after names d) (text_so d spelled none)) in
+      let same = only_memory (term_of (names_after names d) d) (names_after names d) now fault (only (term_of (names_after names d) d) (names_after names d) (text_so d spelled none)) in
       subst (λ (f : ReadFault). IsTermOr (term_of (names_after names d) d) (names_after names d) (Err f) last) (sym (memory same)) tt
 
 -- ---- a term of which nothing is told

@@ -12,3 +12,4 @@ pub mod Answering
 pub mod Growing
 pub mod FrontLaws
 pub mod Judging
+pub mod ReadLaws

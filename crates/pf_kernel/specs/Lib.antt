@@ -4,5 +4,6 @@ pub mod Fronts
 pub mod Expressions
 pub mod Readings
 pub mod Texts
+pub mod Reads
 pub mod Sizes
 pub mod Printable

@@ -9,6 +9,8 @@ mod line;
 mod read;
 mod reading;
 mod size;
+#[cfg(test)]
+mod tests;
 mod write;
 
 pub use fault::KernelFault;

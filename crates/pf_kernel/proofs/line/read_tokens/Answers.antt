@@ -1,6 +1,11 @@
 use Rattle.std.proofs.Common.{arith}
 use Rattle.pf_kernel.proofs.LineLaws.{empty_says, stuck_says, front_syntax, front_shape}
+use Rattle.pf_kernel.specs.Readings.{begun_of}
+use Rattle.pf_kernel.proofs.FrontLaws.{shape_may}
 use Rattle.pf_kernel.proofs.line.read_tokens.Goals as goal
+
+pub read_front-requires-clause-may : goal.read_front-requires-clause-may
+read_front-requires-clause-may c = shape_may (begun_of c.args.reading) c.args.text.now c.args.tokens.now c.in-Ok.front c.requires.lexed (front_shape (begun_of c.args.reading) c.args.tokens.now c.in-Ok.front c.in-Ok.ensures)
 
 pub read_front-requires-clause-shape : goal.read_front-requires-clause-shape
 read_front-requires-clause-shape c = front_shape _ c.args.tokens.now c.in-Ok.front c.in-Ok.ensures
