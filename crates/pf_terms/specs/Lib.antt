@@ -9,6 +9,8 @@ pub mod Grammar
 pub mod Parsing
 pub mod Limits
 pub mod Drafts
+pub mod Reading
 pub mod KernelNames
 pub mod Meanings
+pub mod Building
 pub mod ReadBack
