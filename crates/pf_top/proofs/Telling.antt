@@ -6,7 +6,7 @@ use Rattle.pf_top.specs.declared.files.FilesFault.TheVariants.{Missing as Missin
 use Rattle.pf_top.specs.Counts.{raised, raised_by, Rose}
 use Rattle.pf_top.specs.Outside.{Changes, Appends, AppendsPart, Adds, HasCause}
 use Rattle.pf_top.specs.Statuses.{due, named_line, memory_line, wanting, write_failed, Output, Told}
-use Rattle.pf_top.proofs.Selecting.{changes_then, changes_weaker}
+use Rattle.pf_top.proofs.Courses.{changes_then, changes_weaker}
 
 -- nothing was appended in so many calls
 pub record Quiet (count : ℕ) (before after : Output) : Type 0 where

@@ -1,4 +1,5 @@
 pub mod Counts
+pub mod Courses
 pub mod Outside
 pub mod Least
 pub mod LeastKernels

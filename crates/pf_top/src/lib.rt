@@ -3,6 +3,7 @@
 
 mod command;
 mod files;
+mod judging;
 mod least;
 mod least_program;
 mod mem_files;

@@ -1,8 +1,9 @@
 ghost use Rattle.std.specs.Prelude.{◌≡◌, map, string_bytes};
 ghost use Rattle.pf_top.specs.declared.verdict.Verdict.{Verdict};
+ghost use Rattle.pf_top.specs.Courses.{seen};
 ghost use Rattle.pf_top.specs.Selections.{Select, IsSelect, Came};
-ghost use Rattle.pf_top.specs.Statuses.{usage, Told, Tells};
-ghost use Rattle.pf_top.specs.Steps.{seen, seen_output};
+ghost use Rattle.pf_top.specs.Statuses.{usage, select_due, Told, Tells};
+ghost use Rattle.pf_top.specs.Steps.{seen_output};
 
 use crate::command::selection_of;
 use crate::files::Files;
@@ -30,7 +31,7 @@ pub fn pitchfork<F: Files, S: Sink>(
     // files, and told it.
     ensures selects { (s : Select) → IsSelect (map string_bytes words.now.items) s
         → (v : Verdict) × Came s (seen F.held F.faults F.calls files.old) v (seen F.held F.faults F.calls files.new)
-        × Tells s v (seen_output S.written S.faults S.calls out.old) result
+        × Tells (select_due s v) (seen_output S.written S.faults S.calls out.old) result
         (seen_output S.written S.faults S.calls out.new) }
 {
     let Some(words) = selection_of(words.as_slice()) else {
