@@ -2,3 +2,5 @@ pub mod Words
 pub mod Pgm
 pub mod Reading
 pub mod Faults
+pub mod Counts
+pub mod Outside

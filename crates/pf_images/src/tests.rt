@@ -121,3 +121,19 @@ fn images_are_read_and_written(rt: HostRuntime) -> Result<(), Fail> {
     }
     Ok(())
 }
+
+#[test]
+fn real_files_hold_what_was_written(rt: HostRuntime) -> Result<(), Fail> {
+    let alloc = rt.alloc();
+    let mut files = RealFiles::new(&rt);
+    files.write(alloc, "a", b"twelve bytes")?;
+    assert_eq!(rt; files.read(alloc, "a", 6)?.as_slice(), b"twelve".as_slice());
+    assert_eq!(rt;
+        files.read(alloc, "a", 99)?.as_slice(),
+        b"twelve bytes".as_slice()
+    );
+    assert!(rt; files.read(alloc, "b", 99).is_err());
+    let mut out = RealSink::new(&rt);
+    out.put(alloc, b"a line\n")?;
+    Ok(())
+}

@@ -2,8 +2,8 @@
 use Rattle.std.proofs.Common.{◌≡◌, ℕ, zero, suc, ◌+◌, ◌≤◌, ◌⊎◌, take, List, Option, Some, None, Result, Ok, Err, ◌∙◌, refl, sym, ap, subst, arith}
 use Rattle.std.specs.Prelude.{IsSomeAnd, IfNone}
 use Rattle.pf_top.specs.declared.judging.Stop.{Stop}
-use Rattle.pf_top.specs.Counts.{raised, raised_by, Rose}
-use Rattle.pf_top.specs.Outside.{Contents, SameContents, Puts, PutsPart, Changes}
+use Rattle.pf_images.specs.Counts.{raised, raised_by, Rose}
+use Rattle.pf_images.specs.Outside.{Contents, SameContents, Puts, PutsPart, Changes}
 use Rattle.pf_top.specs.Courses.{Store, Course, Well, Lacking, Failing, Wanting, FaultsAre, CallsAre, Went, later, Begins, Judged}
 
 -- two changes one after the other

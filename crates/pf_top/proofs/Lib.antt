@@ -1,4 +1,3 @@
-pub mod Stores
 pub mod Readings
 pub mod Offsets
 pub mod LeastLaws

@@ -2,7 +2,7 @@
 use Rattle.std.proofs.Common.{◌≡◌, ◌≢◌, ◌↔◌, ℕ, suc, ◌+◌, ◌≤◌, take, List, Option, Some, None, Result, Ok, Err, ◌∙◌, refl, sym, ap, subst, arith}
 use Rattle.std.specs.Prelude.{IsSomeAnd, ⊤}
 use Rattle.pf_ints.specs.declared.target.Target.TheVariants.{Neon}
-use Rattle.pf_top.specs.declared.files.FilesFault.TheVariants.{Missing as MissingFault, Failed as FailedFault, Memory as MemoryFault}
+use Rattle.pf_images.specs.declared.files.FilesFault.TheVariants.{Missing as MissingFault, Failed as FailedFault, Memory as MemoryFault}
 use Rattle.pf_top.specs.declared.judging.Stop.{Stop}
 use Rattle.pf_top.specs.declared.judging.Stop.TheVariants.{Unread, Refused}
 use Rattle.pf_top.specs.declared.judging.Unwritten.{Unwritten}
@@ -13,7 +13,7 @@ use Rattle.pf_top.specs.declared.verdict.FileWord.TheVariants.{Kernel, Lift, Low
 use Rattle.pf_top.specs.declared.verdict.Verdict.{Verdict}
 use Rattle.pf_top.specs.declared.verdict.Verdict.TheVariants.{Done, TargetNotBuilt, NotBuilt, Missing, ReadFailed, WriteFailed, Memory}
 use Rattle.pf_top.specs.LeastKernels.{IsLeastKernel}
-use Rattle.pf_top.specs.Outside.{Contents, SameContents, Puts, PutsPart}
+use Rattle.pf_images.specs.Outside.{Contents, SameContents, Puts, PutsPart}
 use Rattle.pf_top.specs.Courses.{Store, Course, Well, Lacking, Failing, Wanting, Went, Begins, Judged, Written, later}
 use Rattle.pf_top.specs.Selected.{IsSelected}
 use Rattle.pf_top.specs.Selections.{Select, Came, Selects, Reaches, Fits, Leads, HasForm, OfJudged, file_name, place, limit, course}

@@ -1,10 +1,10 @@
 -- What is put where memory is wanting for a line.
 use Rattle.std.proofs.Common.{◌≡◌, ◌≢◌, ℕ, zero, suc, ◌≤◌, ◌⊎◌, inl, inr, List, [], ◌++◌, take, Option, Some, None, Result, Ok, Err, ◌∙◌, refl, sym, ap, subst, append-nil, arith}
 use Rattle.std.specs.Prelude.{⊤, codes}
-use Rattle.pf_top.specs.declared.files.FilesFault.{FilesFault}
-use Rattle.pf_top.specs.declared.files.FilesFault.TheVariants.{Missing as MissingFault, Failed as FailedFault, Memory as MemoryFault}
-use Rattle.pf_top.specs.Counts.{raised, raised_by, Rose}
-use Rattle.pf_top.specs.Outside.{Changes, Appends, AppendsPart, Adds, HasCause}
+use Rattle.pf_images.specs.declared.files.FilesFault.{FilesFault}
+use Rattle.pf_images.specs.declared.files.FilesFault.TheVariants.{Missing as MissingFault, Failed as FailedFault, Memory as MemoryFault}
+use Rattle.pf_images.specs.Counts.{raised, raised_by, Rose}
+use Rattle.pf_images.specs.Outside.{Changes, Appends, AppendsPart, Adds, HasCause}
 use Rattle.pf_top.specs.Statuses.{due, named_line, memory_line, wanting, write_failed, Output, Told}
 use Rattle.pf_top.proofs.Courses.{changes_then, changes_weaker}
 

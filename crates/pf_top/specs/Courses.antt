@@ -1,13 +1,13 @@
 -- What calls of a store come to, whatever they are made for.
 use Rattle.std.specs.Prelude.{◌≡◌, ℕ, ◌+◌, ◌≤◌, List, take, Option, None, IsSomeAnd, IfNone, Result, Ok, Err}
-use Rattle.pf_top.specs.declared.files.FilesFault.{FilesFault}
-use Rattle.pf_top.specs.declared.files.FilesFault.TheVariants.{Missing, Failed, Memory}
+use Rattle.pf_images.specs.declared.files.FilesFault.{FilesFault}
+use Rattle.pf_images.specs.declared.files.FilesFault.TheVariants.{Missing, Failed, Memory}
 use Rattle.pf_top.specs.declared.judging.Stop.{Stop}
 use Rattle.pf_top.specs.declared.judging.Stop.TheVariants.{Unread, Refused}
 use Rattle.pf_top.specs.declared.judging.Unwritten.{Unwritten}
 use Rattle.pf_top.specs.declared.judging.Unwritten.TheVariants.{Failed as NotWritten, Memory as NoMemory}
-use Rattle.pf_top.specs.Counts.{raised_by, Rose}
-use Rattle.pf_top.specs.Outside.{Contents, SameContents, Puts, PutsPart, Changes}
+use Rattle.pf_images.specs.Counts.{raised_by, Rose}
+use Rattle.pf_images.specs.Outside.{Contents, SameContents, Puts, PutsPart, Changes}
 
 -- what is seen of a store at a moment
 pub record Store : Type 0 where

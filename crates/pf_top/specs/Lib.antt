@@ -1,6 +1,4 @@
-pub mod Counts
 pub mod Courses
-pub mod Outside
 pub mod Least
 pub mod LeastKernels
 pub mod Reading

@@ -10,7 +10,7 @@ use Rattle.pf_top.specs.declared.verdict.FileWord.TheVariants.{Kernel, Lift, Low
 use Rattle.pf_top.specs.declared.verdict.Verdict.{Verdict}
 use Rattle.pf_top.specs.declared.verdict.Verdict.TheVariants.{Done, TargetNotBuilt, NotBuilt, Missing, ReadFailed, WriteFailed, Memory}
 use Rattle.pf_top.specs.LeastKernels.{IsLeastKernel, line_end}
-use Rattle.pf_top.specs.Outside.{Contents, SameContents, Puts, PutsPart}
+use Rattle.pf_images.specs.Outside.{Contents, SameContents, Puts, PutsPart}
 use Rattle.pf_top.specs.Courses.{Store, Course, Well, Lacking, Failing, Wanting, Went, Begins}
 use Rattle.pf_top.specs.Selected.{IsSelected}
 

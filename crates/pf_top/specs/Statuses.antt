@@ -3,9 +3,9 @@ use Rattle.std.specs.Prelude.{◌≡◌, ℕ, List, [], ◌++◌, codes, Option,
 use Rattle.pf_ints.specs.Targets.{target_word}
 use Rattle.pf_top.specs.declared.verdict.Verdict.{Verdict}
 use Rattle.pf_top.specs.declared.verdict.Verdict.TheVariants.{Done, TargetNotBuilt, NotBuilt, Missing, ReadFailed, WriteFailed, Memory}
-use Rattle.pf_top.specs.Counts.{raised, Rose}
+use Rattle.pf_images.specs.Counts.{raised, Rose}
 use Rattle.pf_top.specs.LeastKernels.{line_end}
-use Rattle.pf_top.specs.Outside.{Changes, Appends, AppendsPart}
+use Rattle.pf_images.specs.Outside.{Changes, Appends, AppendsPart}
 use Rattle.pf_top.specs.Courses.{RaisedUpTo}
 use Rattle.pf_top.specs.Selections.{Select, file_name}
 

@@ -1,7 +1,7 @@
 -- The code's values as the definitions see them, and what the steps of `select` come to.
 use Rattle.std.specs.Prelude.{ℕ, List, Option, Result, Ok, Err, ⊤, decimal, ◌++◌, [], ◌∷◌}
 use Rattle.pf_top.specs.declared.command.Selection.{Selection}
-use Rattle.pf_top.specs.declared.files.FilesFault.TheVariants.{Missing as MissingFault, Failed as FailedFault, Memory as MemoryFault}
+use Rattle.pf_images.specs.declared.files.FilesFault.TheVariants.{Missing as MissingFault, Failed as FailedFault, Memory as MemoryFault}
 use Rattle.pf_top.specs.declared.judging.Stop.{Stop}
 use Rattle.pf_top.specs.declared.judging.Stop.TheVariants.{Unread, Refused}
 use Rattle.pf_top.specs.declared.judging.Unwritten.{Unwritten}

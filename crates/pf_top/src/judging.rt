@@ -3,7 +3,7 @@
 ghost use Rattle.std.specs.Prelude.{◌≡◌};
 ghost use Rattle.pf_top.specs.Courses.{seen, Read, Written};
 
-use crate::files::{Files, FilesFault};
+use pf_images::{Files, FilesFault};
 use std::alloc::{AllocError, Global};
 
 /// Why a file was not found good.
@@ -26,7 +26,7 @@ impl<R> From<FilesFault> for Stop<R> {
 }
 
 impl<R> From<AllocError> for Stop<R> {
-    ghost use Rattle.pf_top.specs.declared.files.FilesFault.TheVariants.{Memory};
+    ghost use Rattle.pf_images.specs.declared.files.FilesFault.TheVariants.{Memory};
     ghost use Rattle.pf_top.specs.declared.judging.Stop.TheVariants.{Unread};
 
     ghost from_gives = { λ _ stop. stop ≡ Unread Memory };

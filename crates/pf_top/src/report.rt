@@ -1,12 +1,11 @@
 ghost use Rattle.std.specs.Prelude.{◌≡◌, ◌++◌, IfOk, OnOk};
-ghost use Rattle.pf_top.specs.Counts.{raised};
+ghost use Rattle.pf_images.specs.Counts.{raised};
 ghost use Rattle.pf_top.specs.Statuses.{due, named_line, memory_line, wanting, write_failed, usage, select_due, Told, Tells};
 ghost use Rattle.pf_top.specs.Selections.{file_name};
 ghost use Rattle.pf_top.specs.Steps.{the_words, seen_output, piece_text, line_of};
 
 use crate::command::Selection;
-use crate::files::FilesFault;
-use crate::sink::Sink;
+use pf_images::{FilesFault, Sink};
 use crate::verdict::{FileWord, Verdict};
 use pf_ints::Memory;
 use pf_isa::push_number;

@@ -6,7 +6,7 @@ ghost use Rattle.pf_top.specs.Selections.{limit, lift_text, lower_text, HasForm,
 ghost use Rattle.pf_top.specs.Steps.{the_words, at, verdict_of};
 
 use crate::command::Selection;
-use crate::files::{Files, FilesFault};
+use pf_images::{Files, FilesFault};
 use crate::judging::{Stop, read_front, write_file};
 use crate::least::{LeastKernel, read_least};
 use crate::selected::text_of;

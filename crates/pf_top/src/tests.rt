@@ -1,4 +1,5 @@
-use crate::{Files, MemFiles, MemSink, RealFiles, RealSink, Sink, pitchfork};
+use crate::pitchfork;
+use pf_images::{MemFiles, MemSink};
 use pf_ints::Sequence;
 use std::alloc::Global;
 use std::process::Abort;
@@ -195,21 +196,5 @@ fn words_of_no_form(rt: HostRuntime) -> Result<(), Fail> {
         out.written.as_slice(),
         b"usage: pitchfork select|check|run|eval|explain|demo\n".as_slice()
     );
-    Ok(())
-}
-
-#[test]
-fn real_files_hold_what_was_written(rt: HostRuntime) -> Result<(), Fail> {
-    let alloc = rt.alloc();
-    let mut files = RealFiles::new(&rt);
-    files.write(alloc, "a", b"twelve bytes")?;
-    assert_eq!(rt; files.read(alloc, "a", 6)?.as_slice(), b"twelve".as_slice());
-    assert_eq!(rt;
-        files.read(alloc, "a", 99)?.as_slice(),
-        b"twelve bytes".as_slice()
-    );
-    assert!(rt; files.read(alloc, "b", 99).is_err());
-    let mut out = RealSink::new(&rt);
-    out.put(alloc, b"a line\n")?;
     Ok(())
 }

@@ -6,10 +6,9 @@ ghost use Rattle.pf_top.specs.Statuses.{usage, select_due, Told, Tells};
 ghost use Rattle.pf_top.specs.Steps.{seen_output};
 
 use crate::command::selection_of;
-use crate::files::Files;
 use crate::report::{tell_usage, tell_verdict};
 use crate::select::select;
-use crate::sink::Sink;
+use pf_images::{Files, Sink};
 use std::alloc::Global;
 
 /// Does what the words ask for over the store of files, puts its lines to the output, and answers

@@ -1,7 +1,8 @@
 //! The program: the machine's words, files and output for the commands of `pf_top`.
 #![tactic(auto)]
 
-use pf_top::{RealFiles, RealSink, pitchfork, tell_want};
+use pf_images::{RealFiles, RealSink};
+use pf_top::{pitchfork, tell_want};
 use std::io::ErrorKind;
 use std::process::ExitCode;
 use std::rt::Env;

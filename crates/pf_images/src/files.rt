@@ -1,6 +1,6 @@
 ghost use Rattle.std.specs.Prelude.{◌≡◌, ◌≢◌, ℕ, ◌≤◌, List, Option, IfOk, IsErrOf, Err};
-ghost use Rattle.pf_top.specs.Counts.{raised};
-ghost use Rattle.pf_top.specs.Outside.{Contents, SameContents, Changes, IsFront, Lacks, HasCause, Writes};
+ghost use Rattle.pf_images.specs.Counts.{raised};
+ghost use Rattle.pf_images.specs.Outside.{Contents, SameContents, Changes, IsFront, Lacks, HasCause, Writes};
 
 use std::alloc::{AllocError, AllocFailed, Global};
 use thiserror::Error;
@@ -17,7 +17,7 @@ pub enum FilesFault {
 }
 
 impl From<AllocError> for FilesFault {
-    ghost use Rattle.pf_top.specs.declared.files.FilesFault.TheVariants.{Memory};
+    ghost use Rattle.pf_images.specs.declared.files.FilesFault.TheVariants.{Memory};
 
     ghost from_gives = { λ _ fault. fault ≡ Memory };
 
@@ -27,7 +27,7 @@ impl From<AllocError> for FilesFault {
 }
 
 impl<T: Drop> From<AllocFailed<T>> for FilesFault {
-    ghost use Rattle.pf_top.specs.declared.files.FilesFault.TheVariants.{Memory};
+    ghost use Rattle.pf_images.specs.declared.files.FilesFault.TheVariants.{Memory};
 
     ghost from_gives = { λ _ fault. fault ≡ Memory };
 

@@ -1,7 +1,7 @@
 ghost use Rattle.std.specs.Prelude.{◌≡◌, ◌≢◌, ◌≤◌, pos, [], take, IfOk, OnErr, IsErrOf, IsTrue, ◌↔◌, Contains, Err, Some};
 ghost use Rattle.std.specs.BTreeMap.{get_by_text, IsEmpty, IsUnchanged};
-ghost use Rattle.pf_top.specs.Counts.{raised};
-ghost use Rattle.pf_top.specs.Outside.{SameContents, Changes, IsFront, Lacks, HasCause, Writes, faults_after};
+ghost use Rattle.pf_images.specs.Counts.{raised};
+ghost use Rattle.pf_images.specs.Outside.{SameContents, Changes, IsFront, Lacks, HasCause, Writes, faults_after};
 
 use crate::files::{Files, FilesFault};
 use pf_ints::{ByteList, NumberList, Sequence};

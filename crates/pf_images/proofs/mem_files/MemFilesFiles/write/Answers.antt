@@ -1,8 +1,8 @@
 use Rattle.std.proofs.Common.{◌≡◌, string_bytes}
 use Rattle.std.proofs.lemmas.Map.Text.{btree_map_updates_text}
 use Rattle.std.proofs.lemmas.Result.{IfOk-at_ok}
-use Rattle.pf_top.proofs.Stores.{puts_from_set}
-use Rattle.pf_top.proofs.mem_files.MemFilesFiles.write.Goals as goal
+use Rattle.pf_images.proofs.Stores.{puts_from_set}
+use Rattle.pf_images.proofs.mem_files.MemFilesFiles.write.Goals as goal
 
 pub returns-clause-written : goal.returns-clause-written
 returns-clause-written c =

@@ -1,8 +1,8 @@
 -- What is known of the files and of the output outside the program.
 use Rattle.std.specs.Prelude.{◌≡◌, ◌≢◌, ℕ, ◌≤◌, List, [], ◌++◌, take, Option, Some, None, IsSomeAnd, IfSome, Result, Ok, Err, ◌⊎◌}
-use Rattle.pf_top.specs.declared.files.FilesFault.{FilesFault}
-use Rattle.pf_top.specs.declared.files.FilesFault.TheVariants.{Missing, Failed, Memory}
-use Rattle.pf_top.specs.Counts.{Rose, raised}
+use Rattle.pf_images.specs.declared.files.FilesFault.{FilesFault}
+use Rattle.pf_images.specs.declared.files.FilesFault.TheVariants.{Missing, Failed, Memory}
+use Rattle.pf_images.specs.Counts.{Rose, raised}
 
 -- what each name holds, or None where there is no such file
 abbrev pub Contents : Type 0
