@@ -1,10 +1,13 @@
 -- How calls of a store follow one another.
 use Rattle.std.proofs.Common.{◌≡◌, ℕ, zero, suc, ◌+◌, ◌≤◌, ◌⊎◌, take, List, Option, Some, None, Result, Ok, Err, ◌∙◌, refl, sym, ap, subst, arith}
 use Rattle.std.specs.Prelude.{IsSomeAnd, IfNone}
+use Rattle.pf_images.specs.declared.files.FilesFault.TheVariants.{Missing, Failed, Memory}
 use Rattle.pf_top.specs.declared.judging.Stop.{Stop}
 use Rattle.pf_images.specs.Counts.{raised, raised_by, Rose}
 use Rattle.pf_images.specs.Outside.{Contents, SameContents, Puts, PutsPart, Changes}
-use Rattle.pf_top.specs.Courses.{Store, Course, Well, Lacking, Failing, Wanting, FaultsAre, CallsAre, Went, later, Begins, Judged}
+use Rattle.pf_top.specs.declared.judging.Stop.TheVariants.{Unread, Refused}
+use Rattle.pf_top.specs.Courses.{Store, Course, Well, Lacking, Failing, Wanting, FaultsAre, CallsAre, Went, later, Begins, Judges, Judged}
+use Rattle.pf_top.specs.Steps.{Finds}
 
 -- two changes one after the other
 pub changes_then : {T : Type 0} (P Q R : T → T → Type 0) → ((m n o : T) → P m n → Q n o → R m o) → (a b c : Option T) → Changes P a b → Changes Q b c → Changes R a c
@@ -67,6 +70,14 @@ went_then P Q R k course b c d f first next = record {
   calls = calls_later course k b.calls c.calls d.calls first.calls next.calls;
 }
 
+-- what is known of a file is known of it before an earlier one was read
+pub judges_before : {A R : Type 0} (P : A → List ℕ → Type 0) (E : R → List ℕ → Type 0) (name : List ℕ) (most : ℕ) (r : Result A (Stop R)) (m n : Contents) → SameContents m n → Judges P E name most r n → Judges P E name most r m
+judges_before P E name most (Ok x) m n same fact = begins_before name most (P x) m n same fact
+judges_before P E name most (Err (Unread Missing)) m n same fact = sym (same name) ∙ fact
+judges_before P E name most (Err (Unread Failed)) m n same fact = fact
+judges_before P E name most (Err (Unread Memory)) m n same fact = fact
+judges_before P E name most (Err (Refused e)) m n same fact = begins_before name most (E e) m n same fact
+
 -- so many files were read, and the contents are such as Q says
 abbrev pub After : (Contents → Type 0) → ℕ → Store → Store → Type 0
 After Q count before after = Went (λ old new. Q old × SameContents old new) (Well count) before after
@@ -85,3 +96,29 @@ after_then Q R S k course b c d f first next = went_then _ _ _ k course b c d (�
 -- one more file was read and judged good
 pub after_judged : {A R : Type 0} (P : A → List ℕ → Type 0) (E : R → List ℕ → Type 0) (Q S : Contents → Type 0) (name : List ℕ) (most k : ℕ) (b c d : Store) (x : A) → ((m : Contents) → Q m → Begins name most (P x) m → S m) → After Q k b c → Judged P E name most c (Ok x) d → After S (1 + k) b d
 after_judged P E Q S name most k b c d x f first next = after_then Q (Begins name most (P x)) S k (Well 1) b c d (λ m n same q fact. f m q (begins_before name most (P x) m n same fact)) first next
+
+weaker_begins : (name : List ℕ) (most : ℕ) (P Q : List ℕ → Type 0) (files : Contents) → ((front : List ℕ) → P front → Q front) → Begins name most P files → Begins name most Q files
+weaker_begins name most P Q files f = weaker (files name)
+  where
+    weaker : (held : Option (List ℕ)) → IsSomeAnd held (λ all. P (take most all)) → IsSomeAnd held (λ all. Q (take most all))
+    weaker None p = p
+    weaker (Some all) p = f (take most all) p
+
+-- a file was read, and its bytes were judged
+pub judged_found : {A R : Type 0} (P : A → List ℕ → Type 0) (E : R → List ℕ → Type 0) (name : List ℕ) (most : ℕ) (b c : Store) (bytes : List ℕ) (r : Result A (Stop R))
+    → Went (λ old new. Begins name most (λ front. bytes ≡ front) old × SameContents old new) (Well 1) b c → Finds P E r bytes → Judged P E name most b r c
+judged_found P E name most b c bytes (Ok x) read found = record {
+  contents = changes_weaker _ _ (λ m n p. (weaker_begins name most (λ front. bytes ≡ front) (P x) m (λ front e. subst (P x) e found) p.0, p.1)) b.held c.held read.contents;
+  faults = read.faults;
+  calls = read.calls;
+}
+judged_found P E name most b c bytes (Err (Refused e)) read found = record {
+  contents = changes_weaker _ _ (λ m n p. (weaker_begins name most (λ front. bytes ≡ front) (E e) m (λ front is. subst (E e) is found) p.0, p.1)) b.held c.held read.contents;
+  faults = read.faults;
+  calls = read.calls;
+}
+judged_found P E name most b c bytes (Err (Unread fault)) read found = subst (λ f. Judged P E name most b (Err (Unread f)) c) (sym found) (record {
+  contents = changes_weaker _ _ (λ m n p. (tt, p.1)) b.held c.held read.contents;
+  faults = read.faults;
+  calls = (1, omega arith, read.calls);
+})

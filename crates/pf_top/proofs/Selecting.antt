@@ -41,7 +41,7 @@ module _ {A : Type 0} (P : A → List ℕ → Type 0) (s : Select) (w : FileWord
   stop : (e : Stop ⊤) → Judged P Refuses (file_name s w) (limit w + 1) c (Err e) d → Came s b (stopped w e) d
   stop (Refused _) step =
       came s b d (NotBuilt w) (Well (1 + k)) neon (λ e. cc) (ap Well counted)
-      (went_then _ _ _ k (Well 1) b c d (λ m n o p q. (reach m p.0, begins_before _ _ _ m n p.1 q.0, same_then m n o p.1 q.1)) good step)
+      (went_then _ _ _ k (Well 1) b c d (λ m n o p q. (reach m p.0, begins_before (file_name s w) (limit w + 1) (λ bytes. HasForm w bytes → ⊥) m n p.1 q.0, same_then m n o p.1 q.1)) good step)
   stop (Unread MissingFault) step =
       came s b d (Missing w) (Lacking (1 + k)) neon (λ e. cc) (ap Lacking counted)
       (went_then _ _ _ k (Lacking 1) b c d (λ m n o p q. (reach m p.0, sym (p.1 (file_name s w)) ∙ q.0, same_then m n o p.1 q.1)) good step)
@@ -58,7 +58,7 @@ module _ {A : Type 0} (P : A → List ℕ → Type 0) (s : Select) (w : FileWord
   stops (Err e) v is step = let same : stopped w e ≡ v = cc in subst (λ v. Came s b v d) same (stop e step)
 
 -- what was judged good
-pub judged_good : {A R : Type 0} (P : A → List ℕ → Type 0) (E : ⊤ → List ℕ → Type 0) (w : FileWord) (name : List ℕ) (most : ℕ) (b c : Store) (r : Result A (Stop ⊤)) (x : A) → at w r ≡ Ok x → Judged P E name most b r c → Judged P E name most b (Ok x) c
+pub judged_good : {A : Type 0} (P : A → List ℕ → Type 0) (E : ⊤ → List ℕ → Type 0) (w : FileWord) (name : List ℕ) (most : ℕ) (b c : Store) (r : Result A (Stop ⊤)) (x : A) → at w r ≡ Ok x → Judged P E name most b r c → Judged P E name most b (Ok x) c
 judged_good P E w name most b c (Ok y) x is step = let same : y ≡ x = cc in subst (λ y. Judged P E name most b (Ok y) c) same step
 judged_good P E w name most b c (Err e) x is step = absurd (cc)
 
@@ -72,13 +72,13 @@ HasLift s k files = HasKernel s k files × Fits s files Lift
 abbrev pub HasAll : Select → LeastKernel → Contents → Type 0
 HasAll s k files = HasLift s k files × Fits s files Lower
 
-abbrev KernelSays : LeastKernel → List ℕ → Type 0
+abbrev pub KernelSays : LeastKernel → List ℕ → Type 0
 KernelSays k bytes = IsLeastKernel bytes k
 
-abbrev RuleSays : FileWord → ⊤ → List ℕ → Type 0
+abbrev pub RuleSays : FileWord → ⊤ → List ℕ → Type 0
 RuleSays w _ bytes = HasForm w bytes
 
-abbrev RefusedForm : FileWord → ⊤ → List ℕ → Type 0
+abbrev pub RefusedForm : FileWord → ⊤ → List ℕ → Type 0
 RefusedForm w _ bytes = HasForm w bytes → ⊥
 
 reach_lift : (s : Select) (k : LeastKernel) (m : Contents) → HasKernel s k m → Fits s m Kernel

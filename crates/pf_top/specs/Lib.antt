@@ -1,4 +1,5 @@
 pub mod Courses
+pub mod ImageFiles
 pub mod Least
 pub mod LeastKernels
 pub mod Reading

@@ -1,5 +1,5 @@
 -- The statuses of the program and the lines that it puts.
-use Rattle.std.specs.Prelude.{◌≡◌, ℕ, List, [], ◌++◌, codes, Option, Some, None, ◌⊎◌}
+use Rattle.std.specs.Prelude.{◌≡◌, ℕ, List, [], ◌∷◌, ◌++◌, codes, Option, Some, None, ◌⊎◌}
 use Rattle.pf_ints.specs.Targets.{target_word}
 use Rattle.pf_top.specs.declared.verdict.Verdict.{Verdict}
 use Rattle.pf_top.specs.declared.verdict.Verdict.TheVariants.{Done, TargetNotBuilt, NotBuilt, Missing, ReadFailed, WriteFailed, Memory}
@@ -23,13 +23,14 @@ memory_line = codes "out of memory" ++ line_end
 abbrev pub due : ℕ → List ℕ → Due
 due status line = record { status = status; line = line; poor_status = 13; poor_line = memory_line }
 
--- a line that ends with a name
-abbrev pub named_line : List ℕ → List ℕ → List ℕ
-named_line head name = head ++ (name ++ line_end)
+-- a line of some texts
+abbrev pub line_of : List (List ℕ) → List ℕ
+line_of [] = line_end
+line_of (text ∷ more) = text ++ line_of more
 
 -- what is due where the words are of no form
 unfoldable pub usage : Due
-usage = due 2 (codes "usage: pitchfork select|check|run|eval|explain|demo" ++ line_end)
+usage = due 2 (line_of (codes "usage: pitchfork select|check|run|eval|explain|demo" ∷ []))
 
 -- what is due where memory is wanting
 unfoldable pub wanting : Due
@@ -37,7 +38,7 @@ wanting = record { status = 13; line = memory_line; poor_status = 13; poor_line 
 
 -- what is due where the write of the text failed: 4, also where memory is wanting for its line
 unfoldable pub write_failed : List ℕ → Due
-write_failed name = record { status = 4; line = named_line (codes "write failed: ") name; poor_status = 4; poor_line = [] }
+write_failed name = record { status = 4; line = line_of (codes "write failed: " ∷ name ∷ []); poor_status = 4; poor_line = [] }
 
 -- what is seen of an output at a moment
 pub record Output : Type 0 where
@@ -78,9 +79,9 @@ Tells (Some d) before answer after = Told d before answer after
 -- what is due at each verdict of `select`
 abbrev pub select_due : Select → Verdict → Option Due
 select_due s Done = None
-select_due s TargetNotBuilt = Some (due 8 (named_line (codes "not built: ") (target_word s.target)))
-select_due s (NotBuilt w) = Some (due 8 (named_line (codes "not built: ") (file_name s w)))
-select_due s (Missing w) = Some (due 3 (named_line (codes "no file: ") (file_name s w)))
-select_due s (ReadFailed w) = Some (due 3 (named_line (codes "read failed: ") (file_name s w)))
+select_due s TargetNotBuilt = Some (due 8 (line_of (codes "not built: " ∷ target_word s.target ∷ [])))
+select_due s (NotBuilt w) = Some (due 8 (line_of (codes "not built: " ∷ file_name s w ∷ [])))
+select_due s (Missing w) = Some (due 3 (line_of (codes "no file: " ∷ file_name s w ∷ [])))
+select_due s (ReadFailed w) = Some (due 3 (line_of (codes "read failed: " ∷ file_name s w ∷ [])))
 select_due s WriteFailed = Some (write_failed s.out)
 select_due s Memory = Some wanting

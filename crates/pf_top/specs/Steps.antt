@@ -1,5 +1,5 @@
 -- The code's values as the definitions see them, and what the steps of `select` come to.
-use Rattle.std.specs.Prelude.{ℕ, List, Option, Result, Ok, Err, ⊤, decimal, ◌++◌, [], ◌∷◌}
+use Rattle.std.specs.Prelude.{◌≡◌, ℕ, List, Option, Result, Ok, Err, ⊤, decimal}
 use Rattle.pf_top.specs.declared.command.Selection.{Selection}
 use Rattle.pf_images.specs.declared.files.FilesFault.TheVariants.{Missing as MissingFault, Failed as FailedFault, Memory as MemoryFault}
 use Rattle.pf_top.specs.declared.judging.Stop.{Stop}
@@ -11,13 +11,18 @@ use Rattle.pf_top.specs.declared.report.Piece.TheVariants.{Word, Number}
 use Rattle.pf_top.specs.declared.verdict.FileWord.{FileWord}
 use Rattle.pf_top.specs.declared.verdict.Verdict.{Verdict}
 use Rattle.pf_top.specs.declared.verdict.Verdict.TheVariants.{Done, NotBuilt, Missing, ReadFailed, WriteFailed, Memory}
-use Rattle.pf_top.specs.LeastKernels.{line_end}
 use Rattle.pf_top.specs.Statuses.{Output}
 use Rattle.pf_top.specs.Selections.{Select}
 
 -- the words that were lent
 abbrev pub the_words : Selection → Select
 the_words s = record { target = s.target; kernel = s.kernel.now; lift = s.lift.now; lower = s.lower.now; out = s.out.now }
+
+-- what judging some bytes comes to: an answer says P of them, a refusal E, and else memory was wanting
+abbrev pub Finds : {A R : Type 0} → (A → List ℕ → Type 0) → (R → List ℕ → Type 0) → Result A (Stop R) → List ℕ → Type 0
+Finds P E (Ok x) bytes = P x bytes
+Finds P E (Err (Unread fault)) bytes = fault ≡ MemoryFault
+Finds P E (Err (Refused e)) bytes = E e bytes
 
 -- the verdict where the judging of a file stopped
 abbrev pub stopped : FileWord → Stop ⊤ → Verdict
@@ -44,11 +49,7 @@ verdict_of (Err v) = v
 abbrev pub seen_output : {T : Type 0} → (T → Option (List ℕ)) → (T → ℕ) → (T → ℕ) → T → Output
 seen_output written faults calls output = record { written = written output; faults = faults output; calls = calls output }
 
--- a piece of a line, and the line of some pieces
+-- a piece of a line
 abbrev pub piece_text : Piece → List ℕ
 piece_text (Word word) = word.now
 piece_text (Number n) = decimal n
-
-abbrev pub line_of : List Piece → List ℕ
-line_of [] = line_end
-line_of (p ∷ ps) = piece_text p ++ line_of ps

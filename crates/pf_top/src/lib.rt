@@ -2,6 +2,7 @@
 #![tactic(auto)]
 
 mod command;
+mod image_files;
 mod judging;
 mod least;
 mod least_program;

@@ -1,8 +1,8 @@
-ghost use Rattle.std.specs.Prelude.{◌≡◌, ◌++◌, IfOk, OnOk};
+ghost use Rattle.std.specs.Prelude.{◌≡◌, [], ◌∷◌, ◌++◌, map, IfOk, OnOk};
 ghost use Rattle.pf_images.specs.Counts.{raised};
-ghost use Rattle.pf_top.specs.Statuses.{due, named_line, memory_line, wanting, write_failed, usage, select_due, Told, Tells};
+ghost use Rattle.pf_top.specs.Statuses.{due, line_of, memory_line, wanting, write_failed, usage, select_due, Told, Tells};
 ghost use Rattle.pf_top.specs.Selections.{file_name};
-ghost use Rattle.pf_top.specs.Steps.{the_words, seen_output, piece_text, line_of};
+ghost use Rattle.pf_top.specs.Steps.{the_words, seen_output, piece_text};
 
 use crate::command::Selection;
 use pf_images::{FilesFault, Sink};
@@ -29,7 +29,7 @@ fn push_piece(line: &mut Vec<u8>, piece: Piece<'_>) -> Result<(), Memory>
 
 /// The line of the pieces.
 fn line_of(alloc: Global, pieces: &[Piece<'_>]) -> Result<Vec<u8>, Memory>
-    ensures { IfOk result (λ line. line.items ≡ line_of pieces.now) }
+    ensures { IfOk result (λ line. line.items ≡ line_of (map piece_text pieces.now)) }
 {
     let mut line = Vec::new(alloc);
     'pieces: for piece in pieces {
@@ -53,8 +53,8 @@ pub fn tell_want<S: Sink>(alloc: Global, out: &mut S) -> u8
 }
 
 /// Puts the line, and answers the status, 4 where the output failed, or 13 where memory is wanting.
-fn tell<S: Sink>(alloc: Global, out: &mut S, status: u8, pieces: &[Piece<'_>]) -> u8
-    ensures { Told (due status (line_of pieces.now)) (seen_output S.written S.faults S.calls out.old)
+pub fn tell<S: Sink>(alloc: Global, out: &mut S, status: u8, pieces: &[Piece<'_>]) -> u8
+    ensures { Told (due status (line_of (map piece_text pieces.now))) (seen_output S.written S.faults S.calls out.old)
         result (seen_output S.written S.faults S.calls out.new) }
 {
     let Ok(line) = line_of(alloc, pieces) else {
@@ -70,7 +70,7 @@ fn tell<S: Sink>(alloc: Global, out: &mut S, status: u8, pieces: &[Piece<'_>]) -
 
 /// Puts that the write of the text failed, and answers 4 in every case.
 #[tactic(auto, unfolding(crate::specs::Statuses::write_failed))]
-fn tell_write_failed<S: Sink>(alloc: Global, out: &mut S, name: &[u8]) -> u8
+pub fn tell_write_failed<S: Sink>(alloc: Global, out: &mut S, name: &[u8]) -> u8
     ensures { Told (write_failed name.now) (seen_output S.written S.faults S.calls out.old) result
         (seen_output S.written S.faults S.calls out.new) }
 {
@@ -102,8 +102,8 @@ fn file_name<'a>(words: &Selection<'a>, word: FileWord) -> &'a [u8]
 }
 
 /// Puts the line of the words, and answers the status.
-fn tell_named<S: Sink>(alloc: Global, out: &mut S, status: u8, head: &[u8], name: &[u8]) -> u8
-    ensures { Told (due status (named_line head.now name.now))
+pub fn tell_named<S: Sink>(alloc: Global, out: &mut S, status: u8, head: &[u8], name: &[u8]) -> u8
+    ensures { Told (due status (line_of (head.now ∷ name.now ∷ [])))
         (seen_output S.written S.faults S.calls out.old) result
         (seen_output S.written S.faults S.calls out.new) }
 {
