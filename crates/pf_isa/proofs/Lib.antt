@@ -7,7 +7,9 @@ pub mod MemoryLaws
 pub mod StepLaws
 pub mod RowLaws
 pub mod TextLaws
+pub mod LineLaws
 pub mod TermLaws
+mod WrittenHeads
 pub mod WrittenLaws
 pub mod MachineLaws
 pub mod RunLaws

@@ -67,7 +67,7 @@ stripped_inner : (l : List ℕ) → is_inner l ≡ true → strip_carriage_retur
 stripped_inner l h = rw (last_inner l h) refl
 
 -- a text has a first part
-first_part : (p : ℕ → Bool) (xs : List ℕ) → (y : List ℕ) × (more : List (List ℕ)) × (slice_split p xs ≡ y ∷ more)
+pub first_part : (p : ℕ → Bool) (xs : List ℕ) → (y : List ℕ) × (more : List (List ℕ)) × (slice_split p xs ≡ y ∷ more)
 first_part p [] = ([], [], refl)
 first_part p (x ∷ xs) =
     let rest = first_part p xs in
@@ -92,7 +92,7 @@ lines-printed (l ∷ ls) h =
 -- ---- names, digits and instructions are inside a line
 
 -- a byte that may stand in a name is none that may not
-apart_from : (c k : ℕ) → is_name_byte c ≡ true → is_name_byte k ≡ false → (c == k) ≡ false
+pub apart_from : (c k : ℕ) → is_name_byte c ≡ true → is_name_byte k ≡ false → (c == k) ≡ false
 apart_from c k h n = ⊎_elim (λ (e : c ≡ k). absurd (let same : true ≡ false = sym h ∙ ap is_name_byte e ∙ n in cc)) (λ (ne : c ≡ k → ⊥). ne_eqb c k ne) (cases_eq c k)
 
 -- what stands in a label's line: it is read as it is
@@ -147,7 +147,7 @@ unfolding digits
 decimal_digits n = digits_before 64 n [] refl
 
 -- a digit may stand in a name
-digit_name_byte : (c : ℕ) → is_digit c ≡ true → is_name_byte c ≡ true
+pub digit_name_byte : (c : ℕ) → is_digit c ≡ true → is_name_byte c ≡ true
 digit_name_byte c h = elim (is_letter c) as (λ b. (b || is_digit c || c == 95) ≡ true) [ true ↦ refl | false ↦ rw h refl ]
 
 pub inner_decimal : (n : ℕ) → is_inner (decimal n) ≡ true

@@ -20,12 +20,13 @@ use Rattle.pf_isa.specs.declared.program.Head.{Head}
 use Rattle.pf_isa.specs.declared.code.Line.{Line}
 use Rattle.pf_isa.specs.declared.code.Line.TheVariants.{Vector, Control as Controls}
 use Rattle.pf_isa.specs.declared.code.Label.{Label}
-use Rattle.pf_isa.specs.Lines.{tight, IsLine, IsPlain, IsInstruction}
+use Rattle.pf_isa.specs.Lines.{tight, IsPlain, IsInstruction}
 use Rattle.pf_isa.specs.Tables.{Table, IsTable}
 use Rattle.pf_isa.specs.Heads.{IsHead, IsDecl, AreLiftedNames, image_name, def_name, names_of, with_def}
 use Rattle.pf_isa.specs.Programs.{Text, IsProgram, IsInstructionOf, IsLabel}
 use Rattle.pf_isa.specs.Texts.{Named, Does, printed, line_text, label_text, label_lines, labels_at, labels_behind, named, code_lines, labels_of, said_from, uncommented, Says, IsOpOf, IsText, head_lines, target_line, image_line, range_text, tap_line, offsets_text, typed_term_text, lifted_lines, cost_line}
 use Rattle.pf_isa.proofs.TextLaws.{inner, is_inner, solid, all-append, all-weaker, inner_name, lines-printed, code_of-said_from, Ascend, ascend_at, labels_of-named, is_solid_name, tight-solid, uncommented-no_slash, solid_no_slash, no_slash}
+use Rattle.pf_isa.proofs.WrittenHeads.{head_is_read}
 use Rattle.pf_isa.proofs.TermLaws.{IsInner, Inner, literal, inner_append, decimal_inner, signed_inner, inner_type, inner_term, InnerNames}
 
 -- ---- lists of lines
@@ -42,10 +43,6 @@ zip_append R [] c [] d h k = k
 zip_append R (x ∷ a) c (y ∷ b) d h k = (h.0, zip_append R a c b d h.1 k)
 zip_append R [] c (y ∷ b) d h k = absurd h
 zip_append R (x ∷ a) c [] d h k = absurd h
-
-lines_themselves : (ls : List (List ℕ)) → AllZip IsLine ls ls
-lines_themselves [] = tt
-lines_themselves (l ∷ ls) = (refl, lines_themselves ls)
 
 -- ---- the head
 name_inner : (name : List ℕ) → is_name name ≡ true → IsInner name
@@ -222,7 +219,7 @@ written_is_text t is_op laws p text is ops program =
       back = code_lines t 0 p.code p.labels;
       said = said_from 0 p.code p.labels;
       parts = ap lines is ∙ lines-printed (head_lines t.target p.head ++ code_lines t 0 p.code p.labels) (each_inner (head_lines t.target p.head ++ code_lines t 0 p.code p.labels) whole);
-      head = lines_themselves (head_lines t.target p.head);
+      head = head_is_read t.target p.head program.head;
       body = code_says t 0 p.code p.labels instructions names;
       code = sym (code_of-said_from 0 p.code p.labels);
       labels = sym (labels_said 0 p.code p.labels (rw none ascend));

