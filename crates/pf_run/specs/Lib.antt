@@ -1,0 +1,4 @@
+pub mod Reach
+pub mod Sets
+pub mod Placement
+pub mod Answers
