@@ -4,6 +4,7 @@ pub mod LeastLaws
 pub mod Selecting
 pub mod SixWords
 pub mod Courses
+pub mod TextSizes
 pub mod ImageLists
 pub mod Telling
 pub mod SameWords

@@ -7,8 +7,13 @@ mod judging;
 mod least;
 mod least_program;
 mod report;
+mod run;
+mod run_report;
+mod run_verdict;
+mod run_words;
 mod select;
 mod selected;
+mod text_file;
 mod top;
 mod verdict;
 

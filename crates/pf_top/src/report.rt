@@ -1,21 +1,31 @@
 ghost use Rattle.std.specs.Prelude.{◌≡◌, [], ◌∷◌, ◌++◌, map, IfOk, OnOk};
+ghost use Rattle.std.specs.Fmt.{signed_decimal};
 ghost use Rattle.pf_images.specs.Counts.{raised};
 ghost use Rattle.pf_top.specs.Statuses.{due, line_of, memory_line, wanting, write_failed, usage, select_due, Told, Tells};
 ghost use Rattle.pf_top.specs.Selections.{file_name};
 ghost use Rattle.pf_top.specs.Steps.{the_words, seen_output, piece_text};
 
 use crate::command::Selection;
+use itoa::Buffer;
 use pf_images::{FilesFault, Sink};
 use crate::verdict::{FileWord, Verdict};
 use pf_ints::Memory;
 use pf_isa::push_number;
 use std::alloc::Global;
 
-/// A piece of a line: a word, or a number in decimal digits.
+/// A piece of a line: a word, or a number in decimal digits, behind `-` where it is negative.
 #[derive(Clone, Copy)]
 pub enum Piece<'a> {
     Word(&'a [u8]),
     Number(u64),
+    Whole(i128),
+}
+
+fn push_whole(line: &mut Vec<u8>, n: i128) -> Result<(), Memory>
+    ensures { OnOk result (line.new.items ≡ line.old.items ++ signed_decimal n) }
+{
+    let mut buffer = Buffer::new();
+    line.extend_from_slice(buffer.format(n).as_bytes())
 }
 
 fn push_piece(line: &mut Vec<u8>, piece: Piece<'_>) -> Result<(), Memory>
@@ -24,6 +34,7 @@ fn push_piece(line: &mut Vec<u8>, piece: Piece<'_>) -> Result<(), Memory>
     match piece {
         Piece::Word(word) => line.extend_from_slice(word),
         Piece::Number(n) => push_number(line, n),
+        Piece::Whole(n) => push_whole(line, n),
     }
 }
 
