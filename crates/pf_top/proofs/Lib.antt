@@ -4,7 +4,10 @@ pub mod LeastLaws
 pub mod Selecting
 pub mod SixWords
 pub mod Courses
+pub mod RunLists
 pub mod TextSizes
+pub mod Running
+pub mod Tellable
 pub mod ImageLists
 pub mod Telling
 pub mod SameWords

@@ -1,12 +1,17 @@
--- A text has at least as many bytes as its program has instructions.
-use Rattle.std.proofs.Common.{◌≡◌, ℕ, suc, ◌+◌, ◌≤◌, List, [], ◌∷◌, ◌++◌, length, Bool, true, false, cond, ◌==◌, refl, sym, ap, ◌∙◌, arith, length-append}
+-- The sizes of a text and of its program, and the one target of a text.
+use Rattle.std.proofs.Common.{◌≡◌, ℕ, suc, ◌+◌, ◌≤◌, List, [], ◌∷◌, ◌++◌, length, Bool, true, false, cond, ◌==◌, ◌<◌, get_or, refl, sym, ap, ◌∙◌, arith, length-append}
 use Rattle.std.specs.List.{AllZip, slice_split, onto_first}
 use Rattle.std.specs.Str.Lines.{lines, lines_of_parts, strip_carriage_return}
 use Rattle.std.proofs.lemmas.Slice.Zip.{AllZip-long}
+use Rattle.pf_ints.specs.declared.target.Target.{Target}
+use Rattle.pf_ints.specs.declared.target.Target.TheVariants.{Neon, Avx2, Hvx}
 use Rattle.pf_isa.specs.declared.code.Line.{Line}
+use Rattle.pf_isa.specs.Lines.{tight}
 use Rattle.pf_isa.specs.Programs.{Text}
 use Rattle.pf_isa.specs.Tables.{Table}
-use Rattle.pf_isa.specs.Texts.{Said, Nothing, Named, Does, Says, code_of, IsText}
+use Rattle.pf_isa.specs.Texts.{Said, Nothing, Named, Does, Says, code_of, IsText, target_line}
+use Rattle.pf_isa.specs.TextFaults.{IsFor}
+use Rattle.pf_top.specs.Running.{text_limit}
 
 one_at_most : (b : Bool) (line : List ℕ) → length (cond b [] (line ∷ [])) ≤ 1
 one_at_most true line = omega arith
@@ -39,3 +44,24 @@ few_instructions t is_op bytes p is =
     let all : length (lines bytes) ≡ length is.front + length is.back = ap (λ (l : List (List ℕ)). length l) is.parts ∙ length-append is.front is.back in
     let few = few_lines bytes in
     omega (arith, said, back, all, few)
+
+pub limit_low : (n m : ℕ) → n ≤ m → m ≤ text_limit → n < 2147483648
+unfolding text_limit
+limit_low n m few most = omega (arith, few, most)
+
+-- two targets' lines are two lines
+same_line : (t u : Target) → tight (target_line t) ≡ tight (target_line u) → t ≡ u
+unfolding tight
+same_line Neon Neon e = refl
+same_line Neon Avx2 e = absurd (let first : 110 ≡ 97 = ap (λ l. get_or l 8 0) e in omega arith)
+same_line Neon Hvx e = absurd (let first : 110 ≡ 104 = ap (λ l. get_or l 8 0) e in omega arith)
+same_line Avx2 Neon e = absurd (let first : 97 ≡ 110 = ap (λ l. get_or l 8 0) e in omega arith)
+same_line Avx2 Avx2 e = refl
+same_line Avx2 Hvx e = absurd (let first : 97 ≡ 104 = ap (λ l. get_or l 8 0) e in omega arith)
+same_line Hvx Neon e = absurd (let first : 104 ≡ 110 = ap (λ l. get_or l 8 0) e in omega arith)
+same_line Hvx Avx2 e = absurd (let first : 104 ≡ 97 = ap (λ l. get_or l 8 0) e in omega arith)
+same_line Hvx Hvx e = refl
+
+pub one_target : (ls : List (List ℕ)) (t u : Target) → IsFor t ls → IsFor u ls → t ≡ u
+one_target [] t u p q = absurd p
+one_target (line ∷ ls) t u p q = same_line t u (sym p ∙ q)

@@ -73,9 +73,13 @@ IsTellable (Set (SetCount want got)) = ⊥
 IsTellable (Set (SetKind image)) = ⊥
 IsTellable _ = Unit {0}
 
--- what running a program on images comes to: the file of what it leaves, or why it was not run to its end, or want of memory
+-- why a program is not run to its end on images, or want of memory
+abbrev pub StopsAt : Text Neon Form → List Picture → RunVerdict → Type 0
+StopsAt p pictures (NotRun e) = Ran table p pictures (Err (fault_of e))
+StopsAt p pictures Memory = Unit {0}
+StopsAt p pictures _ = ⊥
+
+-- what running a program on images comes to: the file of what it leaves, or such a stop
 abbrev pub Outputs : {A : Type 0} → (A → List ℕ) → Text Neon Form → List Picture → Result A RunVerdict → Type 0
 Outputs bytes p pictures (Ok text) = (o : Picture) × Ran table p pictures (Ok o) × (bytes text ≡ pgm_text o)
-Outputs bytes p pictures (Err (NotRun e)) = Ran table p pictures (Err (fault_of e))
-Outputs bytes p pictures (Err Memory) = Unit {0}
-Outputs bytes p pictures (Err _) = ⊥
+Outputs bytes p pictures (Err v) = StopsAt p pictures v

@@ -1,6 +1,6 @@
 //! The files of images.
 
-ghost use Rattle.std.specs.Prelude.{◌≡◌, ◌+◌, ◌<◌, ◌≤◌, length, All, IfOk, OnErr, map, zip, string_bytes};
+ghost use Rattle.std.specs.Prelude.{◌≡◌, ◌+◌, ◌<◌, ◌≤◌, length, All, IfOk, IfErr, map, zip, string_bytes};
 ghost use Rattle.std.specs.List.{AllZip};
 ghost use Rattle.pf_ints.specs.Images.{IsPixelType};
 ghost use Rattle.pf_images.specs.Outside.{SameContents};
@@ -84,6 +84,7 @@ pub fn read_images<F: Files>(
     ensures read { Went (λ old new. HoldImages (zip (map string_bytes names.now) decls.now) result old × SameContents old new)
         (images_course result)
         (seen F.held F.faults F.calls files.old) (seen F.held F.faults F.calls files.new) }
+    ensures within { IfErr result (λ s. s.image < length names.now) }
     ensures types { IfOk result (λ images. AllZip (λ d p. p.ty ≡ d.ty) decls.now images) }
 {
     let mut images = Sequence::new(alloc);

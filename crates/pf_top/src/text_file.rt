@@ -1,6 +1,9 @@
 //! The file of a text.
 
-ghost use Rattle.std.specs.Prelude.{◌≡◌, ◌+◌, ◌^◌, ◌<◌, length, IfOk};
+ghost use Rattle.std.specs.Prelude.{◌≡◌, ◌≢◌, ◌+◌, ◌^◌, ◌<◌, length, IfOk, MatchOption};
+ghost use Rattle.std.specs.Str.Lines.{lines};
+ghost use Rattle.pf_ints.specs.declared.target.Target.{Target};
+ghost use Rattle.pf_isa.specs.TextFaults.{IsFor};
 ghost use Rattle.pf_top.specs.Courses.{seen, Judged};
 ghost use Rattle.pf_top.specs.Running.{text_limit, IsTextFile, RefusesText};
 ghost use Rattle.pf_top.specs.Steps.{Finds};
@@ -32,6 +35,19 @@ fn text_limit() -> u64
     2_147_483_647
 }
 
+/// The target that the first line of a text names, where it is another than neon.
+#[tactic(auto, using(crate::proofs::TextSizes::one_target))]
+fn other_target(text: &[u8]) -> Option<Target>
+    ensures { MatchOption result ((t : Target) → IsFor t (lines text.now) → t ≡ Target.Neon)
+        (λ t. IsFor t (lines text.now) × (t ≢ Target.Neon)) }
+{
+    let target = target_of(text)?;
+    if target == Target::Neon {
+        return None;
+    }
+    Some(target)
+}
+
 /// The program that the text is of.
 fn program_of(alloc: Global, text: &[u8]) -> Result<Program<Neon>, Stop<TextRefusal>>
     ensures found { Finds IsTextFile RefusesText result text.now }
@@ -40,7 +56,7 @@ fn program_of(alloc: Global, text: &[u8]) -> Result<Program<Neon>, Stop<TextRefu
     if text.len() as u64 > text_limit() {
         return Err(Stop::Refused(TextRefusal::TooLong));
     }
-    if let Some(target @ (Target::Avx2 | Target::Hvx)) = target_of(text) {
+    if let Some(target) = other_target(text) {
         return Err(Stop::Refused(TextRefusal::NotBuilt(target)));
     }
     match read_text::<Neon>(alloc, text) {
