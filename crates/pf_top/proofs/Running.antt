@@ -28,6 +28,7 @@ use Rattle.pf_top.specs.Courses.{Store, Course, Well, Lacking, Failing, Wanting,
 use Rattle.pf_top.specs.ImageFiles.{HoldsImage, HoldImages, IsImageFile, RefusesImage, image_limit, images_course}
 use Rattle.pf_top.specs.Running.{Run, Holds, HoldsText, IsTextFile, RefusesText, IsAmong, RunLeads, RanTo, files_read, run_course, run_file_name, text_limit, fault_of}
 use Rattle.pf_top.specs.RunSteps.{image_stopped, run_unwritten, StopsAt}
+use Rattle.pf_top.proofs.Tellable.{image_among}
 use Rattle.pf_top.proofs.Courses.{After, after_none, after_then, after_judged, begins_before, changes_weaker, went_then, same_then, puts_then, puts_part_then}
 
 pub ran : (r : Run) (b d : Store) (v : RunVerdict) (c : Course) → IsAmong r v → c ≡ run_course r v → Went (RunLeads r v) c b d → RanTo r b v d
@@ -119,7 +120,7 @@ module _ (r : Run) (p : Text Neon Form) (b c : Store) (one : Judged IsTextFile R
 
     pub not_run : (v : RunVerdict) → StopsAt p pictures v → RanTo r b v d
     not_run (NotRun e) outputs =
-        ran r b d (NotRun e) (Well (files_read r)) tt refl
+        ran r b d (NotRun e) (Well (files_read r)) (image_among table p r pictures e long outputs) refl
         (record { contents = changes_weaker _ _ (λ m n q. ((p, pictures, q.0, outputs), q.1)) b.held d.held has_all.contents; faults = has_all.faults; calls = has_all.calls })
     not_run Memory outputs =
         ran r b d Memory (Wanting (files_read r + 1)) tt refl

@@ -1,5 +1,5 @@
--- The faults that a run may have on as many images as declared, of their types.
-use Rattle.std.proofs.Common.{◌≡◌, ℕ, ◌+◌, List, [], ◌∷◌, length, Result, Ok, Err, ◌⊎◌, inl, inr, sym}
+-- The faults that a run may have on as many images as declared, of their types, and the images that they name.
+use Rattle.std.proofs.Common.{◌≡◌, ℕ, ℤ, ◌+◌, ◌<◌, arith, List, [], ◌∷◌, length, Result, Ok, Err, ◌⊎◌, inl, inr, sym}
 use Rattle.std.specs.List.{AllZip}
 use Rattle.pf_ints.specs.Images.{Picture}
 use Rattle.pf_terms.specs.declared.kernel.ImageDecl.{ImageDecl}
@@ -10,6 +10,9 @@ use Rattle.pf_run.specs.declared.fault.RunFault.TheVariants.{Set, Outside, Spent
 use Rattle.pf_run.specs.declared.fault.SetFault.TheVariants.{Count, Kind, Size, Pixel, NoOutput}
 use Rattle.pf_run.specs.Answers.{Ran}
 use Rattle.pf_run.specs.Sets.{IsFirstFault}
+use Rattle.pf_top.specs.declared.run_verdict.NotRun.{NotRun}
+use Rattle.pf_top.specs.declared.run_verdict.NotRun.TheVariants.{Size as NotRunSize, Pixel as NotRunPixel, NoOutput as NotRunNoOutput, Outside as NotRunOutside, Spent as NotRunSpent}
+use Rattle.pf_top.specs.Running.{Run, fault_of, IsImageAmong}
 use Rattle.pf_top.specs.RunSteps.{IsTellable}
 
 -- no image is of another type
@@ -29,3 +32,23 @@ tellable t p pictures (Set NoOutput) count types ran = tt
 tellable t p pictures (Outside at address long) count types ran = tt
 tellable t p pictures (Spent steps) count types ran = tt
 tellable t p pictures Memory count types ran = tt
+
+-- the image that a fault names is one of them
+size_within : (width height number : ℕ) (decls : List ImageDecl) (pictures : List Picture) (image w h : ℕ) → IsFirstFault width height number decls pictures (Size image w h) → image < number + length pictures
+size_within width height number [] pictures image w h fault = absurd fault
+size_within width height number (d ∷ ds) [] image w h fault = absurd fault
+size_within width height number (d ∷ ds) (p ∷ ps) image w h (inl here) = let same : image ≡ number = here.0 in omega (arith, same)
+size_within width height number (d ∷ ds) (p ∷ ps) image w h (inr next) = let low = size_within width height (number + 1) ds ps image w h next.1 in omega (arith, low)
+
+pixel_within : (width height number : ℕ) (decls : List ImageDecl) (pictures : List Picture) (image x y : ℕ) (n : ℤ) → IsFirstFault width height number decls pictures (Pixel image x y n) → image < number + length pictures
+pixel_within width height number [] pictures image x y n fault = absurd fault
+pixel_within width height number (d ∷ ds) [] image x y n fault = absurd fault
+pixel_within width height number (d ∷ ds) (p ∷ ps) image x y n (inl here) = let same : image ≡ number = here.0 in omega (arith, same)
+pixel_within width height number (d ∷ ds) (p ∷ ps) image x y n (inr next) = let low = pixel_within width height (number + 1) ds ps image x y n next.1 in omega (arith, low)
+
+pub image_among : {I O : Type 0} (t : Table O) (p : Text I O) (r : Run) (pictures : List Picture) (e : NotRun) → length pictures ≡ length r.images → Ran t p pictures (Err (fault_of e)) → IsImageAmong r e
+image_among t p r pictures (NotRunSize image w h) long ran = let low = size_within _ _ 0 p.head.images pictures image w h ran.1.1 in omega (arith, low, long)
+image_among t p r pictures (NotRunPixel image x y n) long ran = let low = pixel_within _ _ 0 p.head.images pictures image x y n ran.1.1 in omega (arith, low, long)
+image_among t p r pictures NotRunNoOutput long ran = tt
+image_among t p r pictures (NotRunOutside at address count) long ran = tt
+image_among t p r pictures (NotRunSpent steps) long ran = tt

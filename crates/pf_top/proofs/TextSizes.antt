@@ -1,15 +1,15 @@
 -- The sizes of a text and of its program, and the one target of a text.
-use Rattle.std.proofs.Common.{◌≡◌, ℕ, suc, ◌+◌, ◌≤◌, List, [], ◌∷◌, ◌++◌, length, Bool, true, false, cond, ◌==◌, ◌<◌, get_or, refl, sym, ap, ◌∙◌, arith, length-append}
+use Rattle.std.proofs.Common.{◌≡◌, ◌≢◌, ℕ, suc, ◌+◌, ◌≤◌, List, [], ◌∷◌, ◌++◌, length, Bool, true, false, cond, ◌==◌, ◌<◌, get_or, refl, sym, ap, ◌∙◌, arith, length-append}
 use Rattle.std.specs.List.{AllZip, slice_split, onto_first}
 use Rattle.std.specs.Str.Lines.{lines, lines_of_parts, strip_carriage_return}
 use Rattle.std.proofs.lemmas.Slice.Zip.{AllZip-long}
 use Rattle.pf_ints.specs.declared.target.Target.{Target}
 use Rattle.pf_ints.specs.declared.target.Target.TheVariants.{Neon, Avx2, Hvx}
 use Rattle.pf_isa.specs.declared.code.Line.{Line}
-use Rattle.pf_isa.specs.Lines.{tight}
+use Rattle.pf_isa.specs.Lines.{tight, IsLine}
 use Rattle.pf_isa.specs.Programs.{Text}
 use Rattle.pf_isa.specs.Tables.{Table}
-use Rattle.pf_isa.specs.Texts.{Said, Nothing, Named, Does, Says, code_of, IsText, target_line}
+use Rattle.pf_isa.specs.Texts.{Said, Nothing, Named, Does, Says, code_of, IsText, target_line, declaration_lines}
 use Rattle.pf_isa.specs.TextFaults.{IsFor}
 use Rattle.pf_top.specs.Running.{text_limit}
 
@@ -65,3 +65,14 @@ same_line Hvx Hvx e = refl
 pub one_target : (ls : List (List ℕ)) (t u : Target) → IsFor t ls → IsFor u ls → t ≡ u
 one_target [] t u p q = absurd p
 one_target (line ∷ ls) t u p q = same_line t u (sym p ∙ q)
+
+-- a text is for the target of its table
+pub text_for : {I O : Type 0} (t : Table O) (is_op : O → Type 0) (bytes : List ℕ) (p : Text I O) → IsText t is_op bytes p → IsFor t.target (lines bytes)
+text_for t is_op bytes p is = begins is.head.declarations is.head.parts is.head.declared
+  where
+    begins : (ds : List (List ℕ)) → is.front ≡ ds ++ (is.head.terms ++ is.head.last ∷ []) → AllZip IsLine ds (declaration_lines t.target p.head) → IsFor t.target (lines bytes)
+    begins [] parts declared = absurd declared
+    begins (first ∷ more) parts declared = rw (is.parts, parts) declared.0
+
+pub other_text : {I O : Type 0} (t : Table O) (is_op : O → Type 0) (bytes : List ℕ) (target : Target) → IsFor target (lines bytes) → target ≢ t.target → (p : Text I O) → IsText t is_op bytes p → ⊥
+other_text t is_op bytes target named other p is = other (one_target (lines bytes) target t.target named (text_for t is_op bytes p is))

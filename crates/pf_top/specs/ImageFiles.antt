@@ -20,10 +20,10 @@ image_limit = 33619968
 abbrev pub IsImageFile : LaneType → Picture → List ℕ → Type 0
 IsImageFile ty picture bytes = (length bytes ≤ image_limit) × IsPgm bytes ty picture
 
--- the bytes are none: they pass the limit, or have this first fault
+-- why they are none: they pass the limit, or are a file of no image and have this first fault
 abbrev pub RefusesImage : LaneType → ImageRefusal → List ℕ → Type 0
 RefusesImage ty TooLong bytes = image_limit < length bytes
-RefusesImage ty (At at kind) bytes = (length bytes ≤ image_limit) × IsFaultAt ty bytes at kind
+RefusesImage ty (At at kind) bytes = (length bytes ≤ image_limit) × ((picture : Picture) → IsPgm bytes ty picture → ⊥) × IsFaultAt ty bytes at kind
 
 -- the file of this name holds the image, of the declared type
 abbrev pub HoldsImage : Contents → List ℕ × ImageDecl → Picture → Type 0

@@ -53,11 +53,15 @@ text_limit = 2 ^ 31 - 1
 abbrev pub IsTextFile : Text Neon Form → List ℕ → Type 0
 IsTextFile p bytes = (length bytes ≤ text_limit) × IsText table IsForm bytes p
 
--- the bytes are none: they pass the limit, or their first line names another target, or they have this first fault
+-- the bytes are a text of no program for neon
+abbrev pub IsNoText : List ℕ → Type 0
+IsNoText bytes = (p : Text Neon Form) → IsText table IsForm bytes p → ⊥
+
+-- why: they pass the limit, or their first line names another target, or they have this first fault
 abbrev pub RefusesText : TextRefusal → List ℕ → Type 0
 RefusesText TooLong bytes = text_limit < length bytes
-RefusesText (NotBuilt target) bytes = (length bytes ≤ text_limit) × IsFor target (lines bytes) × (target ≢ OnNeon)
-RefusesText (At line kind) bytes = (length bytes ≤ text_limit) × ((target : Target) → IsFor target (lines bytes) → target ≡ OnNeon) × IsTextFault Neon table IsForm bytes line kind
+RefusesText (NotBuilt target) bytes = (length bytes ≤ text_limit) × IsNoText bytes × IsFor target (lines bytes) × (target ≢ OnNeon)
+RefusesText (At line kind) bytes = (length bytes ≤ text_limit) × IsNoText bytes × ((target : Target) → IsFor target (lines bytes) → target ≡ OnNeon) × IsTextFault Neon table IsForm bytes line kind
 
 -- ---- what the files hold
 
@@ -127,10 +131,16 @@ run_course r WriteFailed = Failing (files_read r + 1)
 run_course r Memory = Wanting (files_read r + 1)
 
 -- the file that a verdict names is one that is read
+abbrev pub IsImageAmong : Run → NotRun → Type 0
+IsImageAmong r (Size n width height) = n < length r.images
+IsImageAmong r (Pixel n x y value) = n < length r.images
+IsImageAmong r _ = Unit {0}
+
 abbrev pub IsAmong : Run → RunVerdict → Type 0
 IsAmong r (Missing w) = run_place w ≤ files_read r
 IsAmong r (ReadFailed w) = run_place w ≤ files_read r
 IsAmong r (ImageRefused n e) = n < length r.images
+IsAmong r (Prevented e) = IsImageAmong r e
 IsAmong r _ = Unit {0}
 
 -- the call came to this verdict

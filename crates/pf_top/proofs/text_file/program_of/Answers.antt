@@ -1,9 +1,24 @@
-use Rattle.std.proofs.Common.{◌≡◌, ◌≤◌, length, rules, arith}
+use Rattle.std.proofs.Common.{◌≡◌, ◌≤◌, length, rules}
+use Rattle.pf_neon.specs.Forms.{IsForm}
+use Rattle.pf_neon.specs.Neon.{table}
 use Rattle.pf_top.specs.Running.{text_limit}
-use Rattle.pf_top.proofs.TextSizes.{few_instructions, limit_low}
+use Rattle.pf_top.proofs.TextSizes.{few_instructions, limit_low, other_text}
 use Rattle.pf_top.proofs.text_file.program_of.Goals as goal
 
 pub returns-in-Ok-clause-size : goal.returns-in-Ok-clause-size
 returns-in-Ok-clause-size c =
     let most : length c.args.text.now ≤ text_limit = search rules in
     limit_low _ (length c.args.text.now) (few_instructions _ _ c.args.text.now c.in-Ok.program c.in-Ok.ensures.found) most
+
+pub returns-in-Some-clause-found : goal.returns-in-Some-clause-found
+returns-in-Some-clause-found c =
+    let most : length c.args.text.now ≤ text_limit = search rules in
+    let other = c.in-Some.ensures in
+    (most, other_text table IsForm c.args.text.now c.in-Some.target other.0 other.1, other.0, other.1)
+
+pub returns-in-Err-At-clause-found : goal.returns-in-Err-At-clause-found
+returns-in-Err-At-clause-found c =
+    let most : length c.args.text.now ≤ text_limit = search rules in
+    let only = rw c.in-Err-At.field-0-is at c.in-Err-At.ensures.only in
+    let fault = rw c.in-Err-At.field-0-is at c.in-Err-At.ensures.fault in
+    (most, only, c.in_default.ensures, fault)
