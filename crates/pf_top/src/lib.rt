@@ -22,4 +22,6 @@ pub use report::tell_want;
 pub use top::pitchfork;
 
 #[cfg(test)]
+mod run_tests;
+#[cfg(test)]
 mod tests;
