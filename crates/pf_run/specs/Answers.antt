@@ -3,10 +3,12 @@ use Rattle.std.specs.Prelude.{◌≡◌, ℕ, List, length, Result, Ok, Err}
 use Rattle.pf_ints.specs.Images.{Picture}
 use Rattle.pf_isa.specs.Tables.{Table}
 use Rattle.pf_isa.specs.Programs.{Text}
+use Rattle.pf_isa.specs.Texts.{IsText}
+use Rattle.pf_isa.specs.TextFaults.{IsTextFault}
 use Rattle.pf_isa.specs.Steps.{State, End, Stopped, Spent}
 use Rattle.pf_isa.specs.Runs.{RunEnd, Failed, Runs, Leaves, IsPlaced, columns, rows, row_budget}
 use Rattle.pf_run.specs.declared.fault.RunFault.{RunFault}
-use Rattle.pf_run.specs.declared.fault.RunFault.TheVariants.{Set, Outside, Spent as Overspent, Memory}
+use Rattle.pf_run.specs.declared.fault.RunFault.TheVariants.{Text as TextAt, Set, Outside, Spent as Overspent, Memory}
 use Rattle.pf_run.specs.Placement.{run_places, blank_scratch, blank_output}
 use Rattle.pf_run.specs.Sets.{KeepsAll, KeepsNone, IsSetFault}
 
@@ -30,9 +32,17 @@ pub record IsOutput {I O : Type 0} (t : Table O) (p : Text I O) (pictures : List
 abbrev pub Fails : {I O : Type 0} → Table O → Text I O → List Picture → (State → End) → Type 0
 Fails t p pictures end = (row : ℕ) × (s : State) × (run_end t p pictures ≡ Failed row (end s))
 
+-- the image, or why there is none: the images, or the first row that doesn't return
 abbrev pub Ran : {I O : Type 0} → Table O → Text I O → List Picture → Result Picture RunFault → Type 0
 Ran t p pictures (Ok o) = IsReady p pictures × IsOutput t p pictures o
+Ran t p pictures (Err (TextAt line kind)) = ⊥
 Ran t p pictures (Err (Set fault)) = KeepsNone p.head.images p.head.taps pictures × IsSetFault p.head.images p.head.taps pictures fault
 Ran t p pictures (Err (Outside at address count)) = IsReady p pictures × Fails t p pictures (Stopped at address count)
 Ran t p pictures (Err (Overspent steps)) = IsReady p pictures × Fails t p pictures Spent × (steps ≡ row_budget (length p.code) (length p.head.taps) (columns p.head pictures))
 Ran t p pictures (Err Memory) = Unit {0}
+
+-- what a run of a text answers: what the program that it means does, or where it means none its first fault
+abbrev pub RanText : (I : Type 0) {O : Type 0} → Table O → (O → Type 0) → List ℕ → List Picture → Result Picture RunFault → Type 0
+RanText I t is_op text pictures (Err (TextAt line kind)) = IsTextFault I t is_op text line kind
+RanText I t is_op text pictures (Err Memory) = Unit {0}
+RanText I {O} t is_op text pictures result = (p : Text I O) × IsText t is_op text p × Ran t p pictures result

@@ -2,3 +2,5 @@ pub mod Reach
 pub mod Sets
 pub mod Placement
 pub mod Answers
+pub mod Rows
+pub mod Evaluations

@@ -2,7 +2,9 @@
 use Rattle.std.specs.Prelude.{ℕ, ◌+◌, ◌*◌, ◌/◌, List, [], ◌∷◌, map, replicate}
 use Rattle.pf_ints.specs.Images.{Picture}
 use Rattle.pf_isa.specs.declared.program.Head.{Head}
-use Rattle.pf_isa.specs.Runs.{Places, pixel_bytes, table_size, output_size}
+use Rattle.pf_isa.specs.declared.memory.Region.{Region}
+use Rattle.pf_isa.specs.Runs.{Places, pixel_bytes, table_size, output_size, memory}
+use Rattle.pf_run.specs.declared.places.Starts.{Starts}
 
 -- where a region starts behind one with this end: at the least multiple of 4096 that is at least 4096 past it
 abbrev pub start_behind : ℕ → ℕ
@@ -39,3 +41,11 @@ blank_scratch h = replicate h.scratch 0
 
 abbrev pub blank_output : Head → List Picture → List ℕ
 blank_output h pictures = replicate (output_size h pictures) 0
+
+-- the memory in which a run begins
+abbrev pub blank_memory : Head → List Picture → Places → List Region
+blank_memory h pictures at = memory pictures at (replicate (table_size h) 0) (blank_scratch h) (blank_output h pictures)
+
+-- the places that a list of starts tells
+abbrev pub places_of : Starts → Places
+places_of s = record { table = 65536; scratch = s.scratch; images = s.images.items; output = s.output }

@@ -1,8 +1,8 @@
 //! Why images are no input of a kernel, and why a run gives no image.
 
 ghost use Rattle.std.specs.Prelude.{◌≡◌};
-ghost use Rattle.pf_run.specs.declared.fault.RunFault.TheVariants.{Memory};
 
+use pf_isa::TextKind;
 use std::alloc::{AllocError, AllocFailed};
 
 /// What is wrong with a set of images. Images are counted from 0.
@@ -38,6 +38,8 @@ pub enum SetFault {
 /// Why a run gives no image.
 #[derive(Clone, Copy, Debug, PartialEq, Eq)]
 pub enum RunFault {
+    /// What is wrong with the text, and in which line, counted from 1.
+    Text { line: u64, kind: TextKind },
     /// The images aren't such as the program asks for.
     Set(SetFault),
     /// The instruction of this number, counted from 1, loads or stores so many bytes at the
@@ -50,6 +52,8 @@ pub enum RunFault {
 }
 
 impl From<AllocError> for RunFault {
+    ghost use Rattle.pf_run.specs.declared.fault.RunFault.TheVariants.{Memory};
+
     ghost from_gives = { λ _ e. e ≡ Memory };
 
     fn from(_want: AllocError) -> RunFault {
@@ -58,9 +62,40 @@ impl From<AllocError> for RunFault {
 }
 
 impl<T: Drop> From<AllocFailed<T>> for RunFault {
+    ghost use Rattle.pf_run.specs.declared.fault.RunFault.TheVariants.{Memory};
+
     ghost from_gives = { λ _ e. e ≡ Memory };
 
     fn from(_want: AllocFailed<T>) -> RunFault {
         RunFault::Memory
+    }
+}
+
+/// Why an evaluation gives no image.
+#[derive(Clone, Copy, Debug, PartialEq, Eq)]
+pub enum EvalFault {
+    /// The images aren't such as the kernel asks for.
+    Set(SetFault),
+    /// Memory ran out.
+    Memory,
+}
+
+impl From<AllocError> for EvalFault {
+    ghost use Rattle.pf_run.specs.declared.fault.EvalFault.TheVariants.{Memory};
+
+    ghost from_gives = { λ _ e. e ≡ Memory };
+
+    fn from(_want: AllocError) -> EvalFault {
+        EvalFault::Memory
+    }
+}
+
+impl<T: Drop> From<AllocFailed<T>> for EvalFault {
+    ghost use Rattle.pf_run.specs.declared.fault.EvalFault.TheVariants.{Memory};
+
+    ghost from_gives = { λ _ e. e ≡ Memory };
+
+    fn from(_want: AllocFailed<T>) -> EvalFault {
+        EvalFault::Memory
     }
 }

@@ -1,12 +1,93 @@
 //! Runs of programs on images.
 
-ghost use Rattle.std.specs.Prelude.{◌<◌, ◌^◌, length};
+ghost use Rattle.std.specs.Prelude.{◌≡◌, ◌+◌, ◌*◌, ◌<◌, ◌≤◌, ◌^◌, length, slice_index_or, IfOk};
+ghost use Rattle.pf_ints.specs.Images.{IsPixelType};
+ghost use Rattle.pf_isa.specs.Memory.{nowhere};
+ghost use Rattle.pf_isa.specs.Runs.{pixel_bytes, pixels_in_memory};
 ghost use Rattle.pf_run.specs.Answers.{Ran};
+ghost use Rattle.pf_run.specs.Placement.{blank_memory, run_places};
+ghost use Rattle.pf_run.specs.Rows.{HasOutputAt, IsPlan, IsPlanOf};
+ghost use Rattle.pf_run.specs.Sets.{KeepsAll};
 
 use crate::fault::RunFault;
-use pf_ints::{Image, ImageSet};
-use pf_isa::{Isa, Program};
+use crate::output::image_in_memory;
+use crate::places::{pixel_bytes, run_regions};
+use crate::plan::{Plan, plan_of};
+use crate::rows::run_rows;
+use crate::set::judge_set;
+use pf_ints::{Image, ImageSet, Memory};
+use pf_isa::{Isa, Machine, Program};
 use std::alloc::Global;
+
+/// The bytes of the output.
+fn output_size(plan: &Plan) -> usize
+    requires columns { plan.now.columns ≤ 8192 }
+    requires rows { plan.now.rows ≤ 8192 }
+    ensures { result ≡ pixel_bytes plan.now.out_ty * (plan.now.columns * plan.now.rows) }
+{
+    let pixels = u64::from(plan.columns) * u64::from(plan.rows);
+    (pixel_bytes(plan.out_ty) * pixels) as usize
+}
+
+/// The image in the output, which is region n.
+fn output_image<I: Isa>(
+    alloc: Global,
+    machine: &Machine<I>,
+    plan: &Plan,
+    n: u32,
+) -> Result<Image, Memory>
+    requires { HasOutputAt machine.now.state.regions plan.now n }
+    ensures ty { IfOk result (λ o. o.ty ≡ plan.now.out_ty) }
+    ensures width { IfOk result (λ o. o.width ≡ plan.now.columns) }
+    ensures height { IfOk result (λ o. o.height ≡ plan.now.rows) }
+    ensures pixels { IfOk result (λ o. pixels_in_memory plan.now.out_ty o.pixels ≡ (slice_index_or machine.now.state.regions n nowhere).bytes) }
+{
+    let Some(region) = machine.region(n) else {
+        unreachable!()
+    };
+    let bytes = region.bytes.as_slice();
+    image_in_memory(alloc, bytes, plan.columns, plan.rows, plan.out_ty)
+}
+
+/// The machine of the program over the memory in which its run begins.
+fn machine_of<I: Isa>(
+    alloc: Global,
+    program: Program<I>,
+    plan: &Plan,
+    images: &[Image],
+) -> Result<Machine<I>, Memory>
+    requires keeps { KeepsAll program.head.images program.head.taps images.now }
+    requires plan { IsPlan images.now plan.now }
+    requires program { IsPlanOf program.head (length program.code) images.now plan.now }
+    ensures text { IfOk result (λ m. m.text ≡ program) }
+    ensures regions { IfOk result (λ m. m.state.regions ≡ blank_memory program.head images.now (run_places program.head images.now)) }
+{
+    let regions = run_regions(
+        alloc,
+        program.head(),
+        images,
+        &plan.starts,
+        output_size(plan),
+    )?;
+    Machine::new(alloc, program, regions)
+}
+
+/// Runs the program on images that are such as it asks for.
+fn run_kept<I: Isa>(alloc: Global, program: Program<I>, images: &[Image]) -> Result<Image, RunFault>
+    requires keeps { KeepsAll program.head.images program.head.taps images.now }
+    requires few { length images.now ≤ 8 }
+    requires short { length program.code < 2 ^ 31 }
+    ensures { Ran I.table program images.now result }
+{
+    let instructions = program.code().len() as u64;
+    let plan = plan_of(alloc, program.head(), instructions, images)?;
+    let mut machine = machine_of(alloc, program, &plan, images)?;
+    if let Err(fault) = run_rows(alloc, &mut machine, &plan, images) {
+        return Err(fault);
+    }
+    let image = output_image(alloc, &machine, &plan, images.len() as u32 + 2)?;
+    Ok(image)
+}
 
 /// Runs the program on the images, row by row, and gives the output.
 ///
@@ -15,14 +96,16 @@ use std::alloc::Global;
 /// the one before. Scratch and output start as zeros. A row has a budget of
 /// `(I+1)*(n+8) + 4096*(T+2)` steps, for I instructions, n pixels of a row and T taps.
 pub fn run_program<I: Isa>(
-    _alloc: Global,
+    alloc: Global,
     program: Program<I>,
     images: &ImageSet,
 ) -> Result<Image, RunFault>
     requires { length program.code < 2 ^ 31 }
     ensures { Ran I.table program images.now result }
 {
-    let _program = program;
-    let _images = images;
-    Err(RunFault::Memory)
+    let head = program.head();
+    if let Some(fault) = judge_set(head.images.as_slice(), head.taps.as_slice(), images) {
+        return Err(RunFault::Set(fault));
+    }
+    run_kept(alloc, program, images.as_slice())
 }

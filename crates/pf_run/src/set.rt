@@ -80,7 +80,7 @@ fn judge_each(
 }
 
 /// The size of the first image, or 0 by 0 where there is none.
-fn size_of(set: &[Image]) -> (u32, u32)
+pub fn size_of(set: &[Image]) -> (u32, u32)
     ensures width { result.0 ≡ width_of set.now }
     ensures height { result.1 ≡ height_of set.now }
 {

@@ -1,0 +1,5 @@
+pub mod Kernels
+pub mod Lines
+pub mod Texts
+pub mod Sizes
+pub mod Printable

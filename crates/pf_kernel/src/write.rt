@@ -1,0 +1,89 @@
+ghost use Rattle.std.specs.Prelude.{◌≡◌, ◌++◌, ◌∷◌, [], IfOk, OnOk, map, drop, All, true, codes, decimal};
+ghost use Rattle.std.specs.List.{flat_map};
+ghost use Rattle.pf_terms.specs.declared.names.Names.{Names};
+ghost use Rattle.pf_terms.specs.Terms.{is_well_formed};
+ghost use Rattle.pf_terms.specs.TermTexts.{type_word, term_text, is_named};
+ghost use Rattle.pf_kernel.specs.Texts.{kernel_text, image_text, def_text, typed_text, ended};
+ghost use Rattle.pf_kernel.specs.Printable.{IsPrintable};
+
+use crate::kernel::Kernel;
+use itoa::Buffer;
+use pf_ints::LaneType;
+use pf_terms::{Definition, ImageDecl, Names, Term, write_term, write_type};
+use std::alloc::{AllocError, Global};
+
+/// The text of a kernel: each image with its range, each operation between operands in round
+/// brackets, and each line ended by LF.
+pub fn write_kernel(alloc: Global, kernel: &Kernel) -> Result<Vec<u8>, AllocError>
+    ensures { IfOk result (λ text. text.items ≡ kernel_text kernel.now) }
+{
+    let mut text = Vec::new(alloc);
+    text.extend_from_slice(b"kernel ")?;
+    text.extend_from_slice(kernel.name().as_slice())?;
+    text.extend_from_slice(b"\n")?;
+    write_images(&mut text, kernel.images().as_slice())?;
+    write_defs(&mut text, kernel.defs().as_slice(), kernel.names())?;
+    text.extend_from_slice(b"out ")?;
+    write_typed(&mut text, kernel.out_ty(), kernel.out(), kernel.names())?;
+    Ok(text)
+}
+
+fn write_images(text: &mut Vec<u8>, images: &[ImageDecl]) -> Result<(), AllocError>
+    ensures { OnOk result (text.new.items ≡ text.old.items ++ flat_map (λ d. ended (image_text d)) images.now) }
+{
+    for image in images {
+        write_image(text, image)?;
+    }
+    Ok(())
+}
+
+fn write_image(text: &mut Vec<u8>, image: &ImageDecl) -> Result<(), AllocError>
+    ensures { OnOk result (text.new.items ≡ text.old.items ++ ended (image_text image.now)) }
+{
+    text.extend_from_slice(b"image ")?;
+    text.extend_from_slice(image.name.as_slice())?;
+    text.extend_from_slice(b" ")?;
+    write_type(text, image.ty)?;
+    text.extend_from_slice(b" ")?;
+    write_number(text, image.lo)?;
+    text.extend_from_slice(b" ")?;
+    write_number(text, image.hi)?;
+    text.extend_from_slice(b"\n")
+}
+
+fn write_number(text: &mut Vec<u8>, n: u32) -> Result<(), AllocError>
+    ensures { OnOk result (text.new.items ≡ text.old.items ++ decimal n) }
+{
+    let mut buffer = Buffer::new();
+    text.extend_from_slice(buffer.format(n).as_bytes())
+}
+
+fn write_defs(text: &mut Vec<u8>, defs: &[Definition], names: &Names) -> Result<(), AllocError>
+    requires { All (λ d. IsPrintable names.now d.term) defs.now }
+    ensures { OnOk result (text.new.items ≡ text.old.items ++ flat_map (λ d. ended (def_text names.now d)) defs.now) }
+{
+    for def in defs {
+        write_def(text, def, names)?;
+    }
+    Ok(())
+}
+
+fn write_def(text: &mut Vec<u8>, def: &Definition, names: &Names) -> Result<(), AllocError>
+    requires { IsPrintable names.now def.now.term }
+    ensures { OnOk result (text.new.items ≡ text.old.items ++ ended (def_text names.now def.now)) }
+{
+    text.extend_from_slice(b"def ")?;
+    text.extend_from_slice(def.name.as_slice())?;
+    text.extend_from_slice(b" ")?;
+    write_typed(text, def.ty, &def.term, names)
+}
+
+fn write_typed(text: &mut Vec<u8>, ty: LaneType, term: &Term, names: &Names) -> Result<(), AllocError>
+    requires { IsPrintable names.now term.now }
+    ensures { OnOk result (text.new.items ≡ text.old.items ++ ended (typed_text names.now ty term.now)) }
+{
+    write_type(text, ty)?;
+    text.extend_from_slice(b" = ")?;
+    write_term(text, term, names)?;
+    text.extend_from_slice(b"\n")
+}

@@ -1,0 +1,214 @@
+-- The regions of a run are placed as a program's regions are to be.
+use Rattle.std.proofs.Common.{◌≡◌, ℕ, zero, suc, ◌+◌, ◌*◌, ◌/◌, ◌%◌, ◌^◌, ◌<◌, ◌≤◌, List, [], ◌∷◌, ◌++◌, length, map, All, true, false, inl, inr, refl, sym, ap, subst, ◌∙◌, arith, append-nil}
+use Rattle.std.specs.Prelude.{ℤ, pos, ◌-ℤ◌, ◌≤ℤ◌, zip, replicate, unsigned_abs}
+use Rattle.std.specs.List.{AllPairs}
+use Rattle.std.proofs.lemmas.Int.{ints, int_min_is, int_max_is}
+use Rattle.std.proofs.lemmas.Nat.{mul-le}
+use Rattle.std.proofs.lemmas.List.{length-replicate, length-map}
+use Rattle.std.proofs.lemmas.List.Elements.{All-nil, All-cons, All-head, All-tail, All-weaker}
+use Rattle.std.proofs.lemmas.List.Kept.{AllPairs-cons}
+use Rattle.pf_ints.specs.Images.{Picture, IsPicture, IsPixelType}
+use Rattle.pf_ints.specs.Lanes.{bit_count}
+use Rattle.pf_ints.specs.declared.lane.LaneType.{LaneType}
+use Rattle.pf_ints.specs.declared.lane.Bits.{Bits}
+use Rattle.pf_ints.specs.declared.lane.Bits.TheVariants.{Eight, Sixteen, ThirtyTwo}
+use Rattle.pf_terms.specs.declared.names.Tap.{Tap}
+use Rattle.pf_terms.specs.declared.kernel.ImageDecl.{ImageDecl}
+use Rattle.pf_terms.specs.Kernels.{Keeps, lowest, highest, left_reach, right_reach, up_reach, down_reach, width_of, height_of, out_width, out_height}
+use Rattle.pf_isa.specs.declared.program.Head.{Head}
+use Rattle.pf_isa.specs.declared.memory.Region.{Region}
+use Rattle.pf_isa.specs.Memory.{Apart}
+use Rattle.pf_isa.specs.Heads.{IsHead}
+use Rattle.pf_isa.specs.Runs.{Places, IsPlaced, IsAligned, pixel_bytes, pixels_in_memory, region, image_regions, memory, columns, rows, table_size, output_size}
+use Rattle.pf_isa.proofs.ByteLaws.{length-packed}
+use Rattle.pf_run.specs.declared.reach.Axis.{Axis}
+use Rattle.pf_run.specs.Reach.{offset_along, least_offset, greatest_offset, extent}
+use Rattle.pf_run.specs.Placement.{start_behind, image_size, starts_from, start_after, run_places, blank_scratch, blank_output}
+
+-- the regions lie one behind the other, from an address on and up to another
+abbrev Between : ℕ → ℕ → List Region → Type 0
+Between low top [] = low ≤ top
+Between low top (r ∷ rs) = (low ≤ r.start) × Between (r.start + length r.bytes) top rs
+
+above : (low top : ℕ) (rs : List Region) → Between low top rs → low ≤ top
+above low top [] between = between
+above low top (r ∷ rs) between = let rest = above (r.start + length r.bytes) top rs between.1 in let first = between.0 in omega arith
+
+starts_above : (low top : ℕ) (rs : List Region) → Between low top rs → All (λ r. low ≤ r.start) rs
+starts_above low top [] between = All-nil (λ r. low ≤ r.start)
+starts_above low top (r ∷ rs) between =
+    let first = between.0 in
+    All-cons (λ r. low ≤ r.start) r rs first
+    (All-weaker (λ q. r.start + length r.bytes ≤ q.start) (λ q. low ≤ q.start) (λ q far. omega arith) rs (starts_above (r.start + length r.bytes) top rs between.1))
+
+apart : (low top : ℕ) (rs : List Region) → Between low top rs → AllPairs Apart rs
+apart low top [] between = λ i j d lt within. absurd (omega arith)
+apart low top (r ∷ rs) between =
+    AllPairs-cons Apart r rs
+    (All-weaker (λ q. r.start + length r.bytes ≤ q.start) (Apart r) (λ q far. inl far) rs (starts_above (r.start + length r.bytes) top rs between.1))
+    (apart (r.start + length r.bytes) top rs between.1)
+
+ends_below : (low top : ℕ) (rs : List Region) → Between low top rs → All (λ r. r.start + length r.bytes ≤ top) rs
+ends_below low top [] between = All-nil (λ r. r.start + length r.bytes ≤ top)
+ends_below low top (r ∷ rs) between =
+    All-cons (λ r. r.start + length r.bytes ≤ top) r rs (above (r.start + length r.bytes) top rs between.1) (ends_below (r.start + length r.bytes) top rs between.1)
+
+-- the next start
+pub behind_above : (end : ℕ) → end ≤ start_behind end
+behind_above end = omega arith
+
+pub behind_below : (end : ℕ) → start_behind end ≤ end + 8191
+behind_below end = omega arith
+
+-- the bytes of an image
+length-pixels : (p : Picture) → IsPicture p → length (pixels_in_memory p.ty p.pixels) ≡ image_size p
+length-pixels p is = length-packed (pixel_bytes p.ty) p.pixels ∙ ap (λ n. pixel_bytes p.ty * n) is.count
+
+at_most_two : (b : Bits) → bit_count b ≤ 16 → bit_count b / 8 ≤ 2
+at_most_two Eight low = omega arith
+at_most_two Sixteen low = omega arith
+at_most_two ThirtyTwo low = absurd (omega arith)
+
+pub pixel_at_most_two : (ty : LaneType) → IsPixelType ty → pixel_bytes ty ≤ 2
+pixel_at_most_two ty is = at_most_two ty.bits is.narrow
+
+image_small : (p : Picture) → IsPicture p → image_size p ≤ 2 * 16777216
+image_small p is = mul-le (pixel_bytes p.ty) (p.width * p.height) 2 16777216 (pixel_at_most_two p.ty is.ty) is.most
+
+images_between : (low start top : ℕ) (ps : List Picture) (out : Region) → low ≤ start → All IsPicture ps → out.start ≡ start_after start (map image_size ps) → out.start + length out.bytes ≤ top
+    → Between low top (image_regions (starts_from start (map image_size ps)) ps ++ out ∷ [])
+images_between low start top [] out behind are here ends = (omega arith, ends)
+images_between low start top (p ∷ ps) out behind are here ends =
+    let size : length (pixels_in_memory p.ty p.pixels) ≡ image_size p = length-pixels p (All-head IsPicture p ps are) in
+    let next : start + image_size p ≤ start_behind (start + image_size p) = behind_above (start + image_size p) in
+    (behind, images_between (start + length (pixels_in_memory p.ty p.pixels)) (start_behind (start + image_size p)) top ps out (rw size next) (All-tail IsPicture p ps are) here ends)
+
+pub after_below : (start : ℕ) (ps : List Picture) → All IsPicture ps → start_after start (map image_size ps) ≤ start + 33562623 * length ps
+after_below start [] are = omega arith
+after_below start (p ∷ ps) are =
+    let small = image_small p (All-head IsPicture p ps are) in
+    let next : start_behind (start + image_size p) ≤ start + image_size p + 8191 = behind_below (start + image_size p) in
+    let rest = after_below (start_behind (start + image_size p)) ps (All-tail IsPicture p ps are) in
+    omega arith
+
+pub length-starts : (start : ℕ) (ps : List Picture) → length (starts_from start (map image_size ps)) ≡ length ps
+length-starts start [] = refl
+length-starts start (p ∷ ps) = ap suc (length-starts (start_behind (start + image_size p)) ps)
+
+-- the size of the output
+lowest_low : (ns : List ℤ) → lowest ns ≤ℤ pos 0
+lowest_low [] = omega (arith, ints)
+lowest_low (n ∷ ns) =
+    let rest = lowest_low ns in
+    omega (arith, ints, int_min_is n (lowest ns))
+
+highest_high : (ns : List ℤ) → pos 0 ≤ℤ highest ns
+highest_high [] = omega (arith, ints)
+highest_high (n ∷ ns) =
+    let rest = highest_high ns in
+    omega (arith, ints, int_max_is n (highest ns))
+
+within_size : (low high : ℤ) (size : ℕ) → low ≤ℤ pos 0 → pos 0 ≤ℤ high → pos 1 ≤ℤ (pos size -ℤ (high -ℤ low)) → unsigned_abs (pos size -ℤ (high -ℤ low)) ≤ size
+within_size low high size below above some = omega (arith, ints)
+
+pub extent_within : (axis : Axis) (taps : List Tap) (size : ℕ) → pos 1 ≤ℤ extent axis taps size → unsigned_abs (extent axis taps size) ≤ size
+extent_within axis taps size some = within_size (least_offset axis taps) (greatest_offset axis taps) size (lowest_low (map (offset_along axis) taps)) (highest_high (map (offset_along axis) taps)) some
+
+module _ (taps : List Tap) (pictures : List Picture) where
+  pub columns_within : pos 1 ≤ℤ out_width taps pictures → unsigned_abs (out_width taps pictures) ≤ width_of pictures
+  columns_within some = within_size (left_reach taps) (right_reach taps) (width_of pictures) (lowest_low (map (λ t. t.dx) taps)) (highest_high (map (λ t. t.dx) taps)) some
+
+  pub rows_within : pos 1 ≤ℤ out_height taps pictures → unsigned_abs (out_height taps pictures) ≤ height_of pictures
+  rows_within some = within_size (up_reach taps) (down_reach taps) (height_of pictures) (lowest_low (map (λ t. t.dy) taps)) (highest_high (map (λ t. t.dy) taps)) some
+
+after_above : (start : ℕ) (ps : List Picture) → start ≤ start_after start (map image_size ps)
+after_above start [] = omega arith
+after_above start (p ∷ ps) =
+    let next : start + image_size p ≤ start_behind (start + image_size p) = behind_above (start + image_size p) in
+    let rest = after_above (start_behind (start + image_size p)) ps in
+    omega arith
+
+starts_below : (start top : ℕ) (ps : List Picture) → start_after start (map image_size ps) < top → All (λ a. a < top) (starts_from start (map image_size ps))
+starts_below start top [] below = All-nil (λ a. a < top)
+starts_below start top (p ∷ ps) below =
+    let next : start + image_size p ≤ start_behind (start + image_size p) = behind_above (start + image_size p) in
+    let rest = after_above (start_behind (start + image_size p)) ps in
+    let here : start < top = omega arith in
+    All-cons (λ a. a < top) start (starts_from (start_behind (start + image_size p)) (map image_size ps)) here (starts_below (start_behind (start + image_size p)) top ps below)
+
+-- no images have no regions
+pub no_regions : (starts : List ℕ) (ps : List Picture) (rs : List Region) → length ps ≡ 0 → rs ≡ rs ++ image_regions starts ps
+no_regions [] ps rs none = sym (append-nil rs)
+no_regions (start ∷ starts) [] rs none = sym (append-nil rs)
+no_regions (start ∷ starts) (p ∷ ps) rs none = absurd (omega arith)
+
+-- aligned starts
+divides : (b : Bits) (n : ℕ) → n % 4096 ≡ 0 → n % (bit_count b / 8) ≡ 0
+divides Eight n whole = omega arith
+divides Sixteen n whole = omega arith
+divides ThirtyTwo n whole = omega arith
+
+whole_behind : (end : ℕ) → start_behind end % 4096 ≡ 0
+whole_behind end = omega arith
+
+images_aligned : (start : ℕ) (ps : List Picture) → start % 4096 ≡ 0 → All (λ p. IsAligned p.1.ty p.0) (zip (starts_from start (map image_size ps)) ps)
+images_aligned start [] whole = All-nil (λ p. IsAligned p.1.ty p.0)
+images_aligned start (p ∷ ps) whole =
+    All-cons (λ p. IsAligned p.1.ty p.0) (start, p) (zip (starts_from (start_behind (start + image_size p)) (map image_size ps)) ps) (divides p.ty.bits start whole)
+    (images_aligned (start_behind (start + image_size p)) ps (whole_behind (start + image_size p)))
+
+after_aligned : (start : ℕ) (ps : List Picture) → start % 4096 ≡ 0 → start_after start (map image_size ps) % 4096 ≡ 0
+after_aligned start [] whole = whole
+after_aligned start (p ∷ ps) whole = after_aligned (start_behind (start + image_size p)) ps (whole_behind (start + image_size p))
+
+-- the whole
+module _ (h : Head) (is : IsHead h) (pictures : List Picture) (are : All IsPicture pictures) (few : length pictures ≤ 8) (small : columns h pictures * rows h pictures ≤ 16777216) where
+  pub output_small : output_size h pictures ≤ 2 * 16777216
+  output_small = mul-le (pixel_bytes h.out_ty) (columns h pictures * rows h pictures) 2 16777216 (pixel_at_most_two h.out_ty is.out_ty) small
+
+  abbrev second : ℕ
+  second = start_behind (65536 + table_size h)
+
+  abbrev third : ℕ
+  third = start_behind (second + h.scratch)
+
+  abbrev begun : List Region
+  begun = memory pictures (run_places h pictures) (replicate (table_size h) 0) (blank_scratch h) (blank_output h pictures)
+
+  pub output_end : start_after third (map image_size pictures) + length (blank_output h pictures) ≤ 2147483647
+  output_end =
+      let after : start_after third (map image_size pictures) ≤ third + 33562623 * length pictures = after_below third pictures are in
+      let output : length (blank_output h pictures) ≡ output_size h pictures = length-replicate (output_size h pictures) 0 in
+      let some_taps = is.few_taps in
+      let some_scratch = is.scratch in
+      let high_second : second ≤ 65536 + table_size h + 8191 = behind_below (65536 + table_size h) in
+      let high_third : third ≤ second + h.scratch + 8191 = behind_below (second + h.scratch) in
+      let most = output_small in
+      rw output (omega arith)
+
+  between : Between 65536 2147483647 begun
+  between =
+      let out = region (start_after third (map image_size pictures)) (blank_output h pictures) true in
+      let table : length (replicate {A = ℕ} (table_size h) 0) ≡ table_size h = length-replicate (table_size h) 0 in
+      let scratch : length (blank_scratch h) ≡ h.scratch = length-replicate h.scratch 0 in
+      let low_second : 65536 + table_size h ≤ second = behind_above (65536 + table_size h) in
+      let low_third : second + h.scratch ≤ third = behind_above (second + h.scratch) in
+      (omega arith, (rw table low_second, images_between (second + length (blank_scratch h)) third 2147483647 pictures out (rw scratch low_third) are refl output_end))
+
+  pub output_low : (run_places h pictures).output < 2 ^ 31
+  output_low = let end = output_end in omega arith
+
+  pub images_low : All (λ start. start < 2 ^ 31) (run_places h pictures).images
+  images_low = starts_below third (2 ^ 31) pictures output_low
+
+  pub placed : IsPlaced h pictures (run_places h pictures) (blank_scratch h) (blank_output h pictures)
+  placed = record {
+    image_count = length-starts third pictures;
+    scratch_size = length-replicate h.scratch 0;
+    output_bytes = length-replicate (output_size h pictures) 0;
+    apart = apart 65536 2147483647 begun between;
+    low = All-weaker (λ r. r.start + length r.bytes ≤ 2147483647) (λ r. r.start + length r.bytes < 2 ^ 31) (λ r below. omega arith) begun (ends_below 65536 2147483647 begun between);
+    aligned = images_aligned third pictures (whole_behind (second + h.scratch));
+    aligned_output = divides h.out_ty.bits (start_after third (map image_size pictures)) (after_aligned third pictures (whole_behind (second + h.scratch)));
+    aligned_table = omega arith;
+  }

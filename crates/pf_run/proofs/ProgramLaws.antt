@@ -1,0 +1,102 @@
+-- What a run of a program answers, by its rows.
+use Rattle.std.proofs.Common.{◌≡◌, ℕ, zero, suc, ◌+◌, ◌*◌, ◌<◌, ◌≤◌, List, [], ◌∷◌, ◌++◌, length, get_or, All, true, Result, Ok, Err, refl, sym, ap, subst, ◌∙◌, arith}
+use Rattle.std.specs.Prelude.{slice_index_or}
+use Rattle.std.proofs.lemmas.List.{length-replicate}
+use Rattle.pf_ints.specs.Images.{Picture, IsPixelType}
+use Rattle.pf_isa.specs.declared.memory.Region.{Region}
+use Rattle.pf_isa.specs.Bytes.{packed}
+use Rattle.pf_isa.specs.Heads.{IsHead}
+use Rattle.pf_isa.specs.Machines.{IsMemory}
+use Rattle.pf_isa.specs.Memory.{nowhere}
+use Rattle.pf_isa.specs.Programs.{Text}
+use Rattle.pf_isa.specs.Steps.{State, End, Ended, Stopped, Spent}
+use Rattle.pf_isa.specs.Tables.{Table}
+use Rattle.pf_isa.specs.Runs.{RunEnd, Finished, Failed, Leaves, then_rows, rows_from, memory, region, image_regions, pixel_bytes, pixels_in_memory, columns, rows, row_budget, output_size}
+use Rattle.pf_isa.proofs.MemoryLaws.{memory-output, output_place, length-memory, length-image_regions}
+use Rattle.pf_run.specs.declared.fault.RunFault.{RunFault}
+use Rattle.pf_run.specs.declared.fault.RunFault.TheVariants.{Text as TextAt, Set, Outside, Spent as Overspent, Memory}
+use Rattle.pf_run.specs.declared.plan.Plan.{Plan}
+use Rattle.pf_run.specs.Answers.{IsReady, IsOutput, Ran, run_end}
+use Rattle.pf_run.specs.Placement.{run_places, blank_memory, blank_scratch}
+use Rattle.pf_run.specs.Rows.{HasOutputAt, IsPlan, IsPlanOf, RowsAnswer}
+use Rattle.pf_run.specs.Sets.{KeepsAll}
+use Rattle.pf_run.proofs.ReadyLaws.{Ready, ready}
+use Rattle.pf_run.proofs.RowLaws.{Held, blank_held, kept_by_row, row_end, entries, budget}
+
+module _ {I O : Type 0} (t : Table O) (p : Text I O) (pictures : List Picture) where
+  -- after all rows memory is that of a run
+  finished_from : (left y : ℕ) (rs qs : List Region) → Held p.head pictures (run_places p.head pictures) rs → rows_from t p 65536 (budget t p pictures) (entries t p pictures) left y rs ≡ Finished qs → Held p.head pictures (run_places p.head pictures) qs
+  finished_from zero y rs qs held ends =
+      let same : rs ≡ qs = cc in
+      subst (λ l. Held p.head pictures (run_places p.head pictures) l) same held
+  finished_from (suc left) y rs qs held ends = by (row_end t p pictures y rs) refl ends (λ s. finished_from left (suc y) s.regions qs)
+    where
+      by : (e : End) → row_end t p pictures y rs ≡ e → then_rows (λ next. rows_from t p 65536 (budget t p pictures) (entries t p pictures) left (suc y) next) y e ≡ Finished qs
+          → ((s : State) → Held p.head pictures (run_places p.head pictures) s.regions → rows_from t p 65536 (budget t p pictures) (entries t p pictures) left (suc y) s.regions ≡ Finished qs → Held p.head pictures (run_places p.head pictures) qs)
+          → Held p.head pictures (run_places p.head pictures) qs
+      by (Ended s) is ends more = more s (kept_by_row t p pictures y rs s held is) ends
+      by (Stopped at address count s) is ends more = absurd (cc)
+      by (Spent s) is ends more = absurd (cc)
+
+  finished_held : (qs : List Region) → run_end t p pictures ≡ Finished qs → Held p.head pictures (run_places p.head pictures) qs
+  finished_held qs ends = finished_from (rows p.head pictures) 0 (blank_memory p.head pictures (run_places p.head pictures)) qs (blank_held p.head pictures (run_places p.head pictures) (blank_memory p.head pictures (run_places p.head pictures)) refl) ends
+
+  module _ (is : IsHead p.head) (kept : KeepsAll p.head.images p.head.taps pictures) where
+    pub is_ready : IsReady p pictures
+    is_ready = record { keeps = kept; placed = (ready p.head pictures is kept).places }
+
+    pub is_memory : (rs : List Region) → rs ≡ blank_memory p.head pictures (run_places p.head pictures) → IsMemory rs
+    is_memory rs same = subst IsMemory (sym same) (record { apart = (ready p.head pictures is kept).places.apart; low = (ready p.head pictures is kept).places.low })
+
+    pub failed_ran : (fault : RunFault) (plan : Plan) (rs : List Region) → IsPlanOf p.head (length p.code) pictures plan → RowsAnswer (run_end t p pictures) plan.budget (Err fault) rs → Ran t p pictures (Err fault)
+    failed_ran (TextAt line kind) plan rs of_program answers = absurd answers
+    failed_ran (Set fault) plan rs of_program answers = absurd answers
+    failed_ran (Outside at address count) plan rs of_program answers = (is_ready, answers)
+    failed_ran (Overspent steps) plan rs of_program answers = (is_ready, (answers.0, answers.1, answers.2), answers.3 ∙ of_program.budget)
+    failed_ran Memory plan rs of_program answers = tt
+
+    module _ (plan : Plan) (of_program : IsPlanOf p.head (length p.code) pictures plan) (rs : List Region) (ends : run_end t p pictures ≡ Finished rs) (place : ℕ) (there : place ≡ length pictures + 2) where
+      at_output : place ≡ output_place pictures (run_places p.head pictures)
+      at_output =
+          let count = length-image_regions (run_places p.head pictures).images pictures (ready p.head pictures is kept).places.image_count in
+          omega arith
+
+      output_there : (held : Held p.head pictures (run_places p.head pictures) rs) → get_or rs place nowhere ≡ region (run_places p.head pictures).output held.output true
+      output_there held =
+          ap (λ l. get_or l place nowhere) held.regions
+          ∙ ap (λ n. get_or (memory pictures (run_places p.head pictures) held.table held.scratch held.output) n nowhere) at_output
+          ∙ memory-output pictures (run_places p.head pictures) held.table held.scratch held.output
+
+      pub has_output : HasOutputAt rs plan place
+      has_output =
+          let held = finished_held rs ends in
+          let of = ready p.head pictures is kept in
+          let all : length rs ≡ length pictures + 3 = ap length held.regions ∙ length-memory pictures (run_places p.head pictures) held.table held.scratch held.output of.places.image_count in
+          record {
+            within = omega arith;
+            ty = subst IsPixelType (sym of_program.out_ty) is.out_ty;
+            wide = subst (λ n. 1 ≤ n) (sym of_program.width) of.wide;
+            high = subst (λ n. 1 ≤ n) (sym of_program.height) of.high;
+            most_wide = subst (λ n. n ≤ 8192) (sym of_program.width) of.most_wide;
+            most_high = subst (λ n. n ≤ 8192) (sym of_program.height) of.most_high;
+            most = rw (of_program.width, of_program.height) of.most;
+            size = ap (λ (r : Region). length r.bytes) (output_there held) ∙ held.of_output ∙ rw (of_program.out_ty, of_program.width, of_program.height) refl;
+          }
+
+      pub ran : (o : Picture) → o.ty ≡ plan.out_ty → o.width ≡ plan.columns → o.height ≡ plan.rows → pixels_in_memory plan.out_ty o.pixels ≡ (get_or rs place nowhere).bytes → Ran t p pictures (Ok o)
+      ran o ty width height pixels =
+          let held = finished_held rs ends in
+          let here : pixels_in_memory o.ty o.pixels ≡ held.output = ap (λ u. pixels_in_memory u o.pixels) ty ∙ pixels ∙ ap (λ (r : Region). r.bytes) (output_there held) in (
+            is_ready,
+            record {
+              ty = ty ∙ of_program.out_ty;
+              width = width ∙ of_program.width;
+              height = height ∙ of_program.height;
+              leaves = record {
+                table = held.table;
+                kept = held.scratch;
+                kept_size = held.of_scratch ∙ sym (length-replicate p.head.scratch 0);
+                ends = ends ∙ ap Finished (held.regions ∙ ap (λ l. memory pictures (run_places p.head pictures) held.table held.scratch l) (sym here));
+              };
+            },
+          )

@@ -1,0 +1,107 @@
+-- Images that are such as a program asks for, and what follows of their sizes.
+use Rattle.std.proofs.Common.{◌≡◌, ℕ, ◌+◌, ◌*◌, ◌<◌, ◌≤◌, ◌^◌, List, [], ◌∷◌, ◌++◌, length, get_or, map, All, refl, sym, ap, subst, ◌∙◌, arith}
+use Rattle.std.specs.Prelude.{pos, ◌≤ℤ◌, unsigned_abs}
+use Rattle.std.proofs.lemmas.Int.{ints}
+use Rattle.std.proofs.lemmas.Nat.{mul-le}
+use Rattle.std.proofs.lemmas.List.Elements.{All-head, All-weaker}
+use Rattle.pf_ints.specs.Images.{Picture, IsPicture}
+use Rattle.pf_terms.specs.declared.term.Term.TheVariants.{Leaf}
+use Rattle.pf_terms.specs.declared.term.Leaf.TheVariants.{Tap as TapLeaf}
+use Rattle.pf_terms.specs.declared.kernel.ImageDecl.{ImageDecl}
+use Rattle.pf_terms.specs.declared.names.Tap.{Tap}
+use Rattle.pf_terms.specs.Kernels.{Source, Keeps, no_picture, left_reach, up_reach, width_of, height_of, out_width, out_height}
+use Rattle.pf_isa.specs.declared.program.Head.{Head}
+use Rattle.pf_isa.specs.Heads.{IsHead, IsTap}
+use Rattle.pf_isa.specs.Runs.{Places, IsPlaced, columns, rows, output_size}
+use Rattle.pf_run.specs.declared.plan.Plan.{Plan}
+use Rattle.pf_run.specs.Rows.{IsPlan}
+use Rattle.pf_run.specs.Placement.{places_of, run_places, blank_scratch, blank_output}
+use Rattle.pf_run.specs.Sets.{KeepsAll}
+use Rattle.pf_run.proofs.PlacedLaws.{columns_within, rows_within, placed, output_low, images_low}
+
+-- what is known of such images
+pub record Ready (h : Head) (pictures : List Picture) : Type 0 where
+  pub limits : All IsPicture pictures
+  pub few : length pictures ≤ 8
+  pub across : pos 1 ≤ℤ out_width h.taps pictures
+  pub down : pos 1 ≤ℤ out_height h.taps pictures
+  pub first_wide : width_of pictures ≤ 8192
+  pub first_high : height_of pictures ≤ 8192
+  pub wide : 1 ≤ columns h pictures
+  pub high : 1 ≤ rows h pictures
+  pub most_wide : columns h pictures ≤ 8192
+  pub most_high : rows h pictures ≤ 8192
+  pub most : columns h pictures * rows h pictures ≤ 16777216
+  pub taps : All (λ t. t.image < length pictures) h.taps
+  pub low : All (λ start. start < 2 ^ 31) (run_places h pictures).images
+  pub output : (run_places h pictures).output < 2 ^ 31
+  pub places : IsPlaced h pictures (run_places h pictures) (blank_scratch h) (blank_output h pictures)
+
+-- the size of the first
+record SmallFirst (pictures : List Picture) : Type 0 where
+  wide : width_of pictures ≤ 8192
+  high : height_of pictures ≤ 8192
+  most : width_of pictures * height_of pictures ≤ 16777216
+
+small_first : (pictures : List Picture) → All IsPicture pictures → SmallFirst pictures
+small_first [] are = record { wide = omega arith; high = omega arith; most = omega arith }
+small_first (p ∷ ps) are = let is = All-head IsPicture p ps are in record { wide = is.most_wide; high = is.most_high; most = is.most }
+
+abbrev source_of : Head → Source
+source_of h = record { images = h.images; taps = h.taps; defs = []; out_ty = h.out_ty; out = Leaf (TapLeaf 0) h.out_ty }
+
+pub ready : (h : Head) (pictures : List Picture) → IsHead h → KeepsAll h.images h.taps pictures → Ready h pictures
+ready h pictures is kept =
+    let keeps : Keeps (source_of h) pictures = kept (source_of h) refl refl in
+    let first = small_first pictures keeps.limits in
+    let count = keeps.count in
+    let of_head = is.few_images in
+    let few : length pictures ≤ 8 = omega arith in
+    let some : 1 ≤ columns h pictures = omega (arith, ints, keeps.wide) in
+    let others : 1 ≤ rows h pictures = omega (arith, ints, keeps.high) in
+    let wide : columns h pictures ≤ width_of pictures = columns_within h.taps pictures keeps.wide in
+    let high : rows h pictures ≤ height_of pictures = rows_within h.taps pictures keeps.high in
+    let product : columns h pictures * rows h pictures ≤ width_of pictures * height_of pictures = mul-le (columns h pictures) (rows h pictures) (width_of pictures) (height_of pictures) wide high in
+    let least = first.wide in
+    let tall = first.high in
+    let all = first.most in
+    let most : columns h pictures * rows h pictures ≤ 16777216 = omega arith in
+    record {
+      limits = keeps.limits;
+      few = few;
+      across = keeps.wide;
+      down = keeps.high;
+      first_wide = first.wide;
+      first_high = first.high;
+      wide = some;
+      high = others;
+      most_wide = omega arith;
+      most_high = omega arith;
+      most = most;
+      taps = All-weaker (IsTap (length h.images)) (λ t. t.image < length pictures) (λ t tap. subst (λ n. t.image < n) (sym count) tap.image) h.taps is.taps;
+      low = images_low h is pictures keeps.limits few most;
+      output = output_low h is pictures keeps.limits few most;
+      places = placed h is pictures keeps.limits few most;
+    }
+
+-- a plan for such images
+pub plan_is : (h : Head) (pictures : List Picture) (plan : Plan) → Ready h pictures → plan.taps ≡ h.taps → places_of plan.starts ≡ run_places h pictures
+    → plan.left ≡ left_reach h.taps → plan.up ≡ up_reach h.taps → plan.columns ≡ columns h pictures → plan.rows ≡ rows h pictures → IsPlan pictures plan
+plan_is h pictures plan of taps places left up across down = record {
+  left = left ∙ ap left_reach (sym taps);
+  up = up ∙ ap up_reach (sym taps);
+  columns = across ∙ ap (λ ts. unsigned_abs (out_width ts pictures)) (sym taps);
+  most_columns = subst (λ n. n ≤ 8192) (sym across) of.most_wide;
+  most_rows = subst (λ n. n ≤ 8192) (sym down) of.most_high;
+  taps = subst (λ ts. All (λ t. t.image < length pictures) ts) (sym taps) of.taps;
+  starts = ap (λ (at : Places). length at.images) places ∙ of.places.image_count;
+  low = subst (λ (at : Places). All (λ start. start < 2 ^ 31) at.images) (sym places) of.low;
+  output = subst (λ (at : Places). at.output < 2 ^ 31) (sym places) of.output;
+}
+
+-- there are as many images as declared
+pub few_images : (images : List ImageDecl) (taps : List Tap) (pictures seen : List Picture) → KeepsAll images taps pictures → seen ≡ pictures → length images ≤ 8 → length seen ≤ 8
+few_images images taps pictures seen kept same few =
+    let keeps : Keeps (record { images = images; taps = taps; defs = []; out_ty = no_picture.ty; out = Leaf (TapLeaf 0) no_picture.ty }) pictures = kept (record { images = images; taps = taps; defs = []; out_ty = no_picture.ty; out = Leaf (TapLeaf 0) no_picture.ty }) refl refl in
+    let count = keeps.count in
+    subst (λ l. length l ≤ 8) (sym same) (omega arith)

@@ -1,0 +1,90 @@
+//! What is settled of a run before its first row.
+
+ghost use Rattle.std.specs.Prelude.{◌≡◌, ◌<◌, ◌≤◌, ◌≤ℤ◌, ◌^◌, pos, unsigned_abs, length, IfOk};
+ghost use Rattle.pf_isa.specs.Heads.{IsHead};
+ghost use Rattle.pf_isa.specs.Runs.{row_budget};
+ghost use Rattle.pf_run.specs.Reach.{extent};
+ghost use Rattle.pf_run.specs.Rows.{IsPlan, IsPlanOf};
+ghost use Rattle.pf_run.specs.Sets.{KeepsAll};
+
+use crate::places::{Starts, run_starts};
+use crate::reach::{Axis, extent, least_offset};
+use crate::set::size_of;
+use pf_ints::{Duplicate, Image, LaneType, Memory};
+use pf_isa::Head;
+use pf_terms::{Tap, TapList};
+use std::alloc::Global;
+
+/// What the rows of a run have in common.
+#[derive(Debug, Drop)]
+pub struct Plan {
+    pub taps: TapList,
+    /// The type of the output's pixels.
+    pub out_ty: LaneType,
+    pub starts: Starts,
+    /// The least of 0 and all offsets of the taps along a row.
+    pub left: i16,
+    /// The least of 0 and all offsets of the taps along a column.
+    pub up: i16,
+    /// Pixels of a row of the output.
+    pub columns: u32,
+    /// Rows of the output.
+    pub rows: u32,
+    /// How many steps a row may take.
+    pub budget: u64,
+}
+
+/// How many steps a row may take, of a program of so many instructions and taps, over so many
+/// pixels.
+pub fn row_budget(instructions: u64, taps: u64, pixels: u64) -> u64
+    requires instructions { instructions < 2 ^ 31 }
+    requires taps { taps ≤ 64 }
+    requires pixels { pixels ≤ 8192 }
+    ensures { result ≡ row_budget instructions taps pixels }
+{
+    (instructions + 1) * (pixels + 8) + 4096 * (taps + 2)
+}
+
+/// The pixels of the output in this direction, on images of so many.
+fn side(axis: Axis, taps: &[Tap], size: u32) -> u32
+    requires some { pos 1 ≤ℤ extent axis taps.now size }
+    requires most { size ≤ 8192 }
+    ensures value { result ≡ unsigned_abs (extent axis taps.now size) }
+    ensures most { result ≤ 8192 }
+{
+    extent(axis, taps, size).unsigned_abs() as u32
+}
+
+/// The plan of the rows of a program of this head and so many instructions, on these images.
+pub fn plan_of(
+    alloc: Global,
+    head: &Head,
+    instructions: u64,
+    images: &[Image],
+) -> Result<Plan, Memory>
+    requires head { IsHead head.now }
+    requires short { instructions < 2 ^ 31 }
+    requires keeps { KeepsAll head.now.images head.now.taps images.now }
+    ensures plan { IfOk result (λ plan. IsPlan images.now plan) }
+    ensures program { IfOk result (λ plan. IsPlanOf head.now instructions images.now plan) }
+{
+    let taps = head.taps.as_slice();
+    let (width, height) = size_of(images);
+    let columns = side(Axis::Columns, taps, width);
+    let rows = side(Axis::Rows, taps, height);
+    let left = least_offset(Axis::Columns, taps);
+    let up = least_offset(Axis::Rows, taps);
+    let budget = row_budget(instructions, taps.len() as u64, u64::from(columns));
+    let starts = run_starts(alloc, head, images)?;
+    let taps = head.taps.copy(alloc)?;
+    Ok(Plan {
+        taps,
+        out_ty: head.out_ty,
+        starts,
+        left,
+        up,
+        columns,
+        rows,
+        budget,
+    })
+}

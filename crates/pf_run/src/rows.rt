@@ -1,0 +1,130 @@
+//! The rows of a run, one behind the other.
+
+ghost use Rattle.std.specs.Prelude.{◌≡◌, pos, ◌+ℤ◌, ◌-ℤ◌, unsigned_abs, ◌+◌, ◌*◌, ◌<◌, ◌≤◌, ◌^◌, ◌++◌, ◌∷◌, [], length, map, All, IfOk, OnOk};
+ghost use Rattle.pf_isa.specs.Runs.{row_budget, tap_address};
+ghost use Rattle.pf_isa.specs.Steps.{run, started};
+ghost use Rattle.pf_isa.specs.Machines.{HasTable, with_entries};
+ghost use Rattle.pf_run.specs.Answers.{IsReady, run_end};
+ghost use Rattle.pf_run.specs.Placement.{blank_memory, places_of, run_places};
+ghost use Rattle.pf_run.specs.Rows.{IsPlan, IsPlanOf, RowAnswers, RowsAnswer, entries_of};
+
+use crate::fault::RunFault;
+use crate::places::{TABLE, pixel_bytes};
+use crate::plan::Plan;
+use pf_ints::{Image, Memory};
+use pf_isa::{Isa, Machine, Trap};
+use pf_terms::Tap;
+use std::alloc::Global;
+
+/// How far a tap of this offset lies from the first pixel of an image, so many pixels on, where
+/// `least` is the least of 0 and all offsets.
+fn distance(from: u32, least: i16, offset: i16) -> u32
+    requires { from ≤ 8192 }
+    ensures { result ≡ unsigned_abs ((pos from -ℤ least) +ℤ offset) }
+{
+    (i64::from(from) - i64::from(least) + i64::from(offset)).unsigned_abs() as u32
+}
+
+/// The number of the pixel in this row and column of an image.
+fn pixel_number(width: u32, row: u32, column: u32) -> u64
+    requires { width ≤ 8192 }
+    ensures value { result ≡ width * row + column }
+    ensures small { result < 2 ^ 48 }
+{
+    u64::from(width) * u64::from(row) + u64::from(column)
+}
+
+/// The address of pixel n of an image that starts here, or of the output.
+fn pixel_address(start: u64, bytes: u64, n: u64) -> u64
+    requires start { start < 2 ^ 31 }
+    requires bytes { bytes ≤ 4 }
+    requires pixel { n < 2 ^ 48 }
+    ensures { result ≡ start + bytes * n }
+{
+    start + bytes * n
+}
+
+/// The address of the tap's pixel at column 0 of row y of the output.
+fn tap_address(plan: &Plan, images: &[Image], y: u32, tap: &Tap) -> u64
+    requires plan { IsPlan images.now plan.now }
+    requires image { tap.now.image < length images.now }
+    requires row { y < 8192 }
+    ensures { result ≡ tap_address plan.now.taps images.now (places_of plan.now.starts).images y tap.now }
+{
+    let number = usize::from(tap.image);
+    let image = &images[number];
+    let column = distance(0, plan.left, tap.dx);
+    let row = distance(y, plan.up, tap.dy);
+    let n = pixel_number(image.width(), row, column);
+    pixel_address(plan.starts.images[number], pixel_bytes(image.ty()), n)
+}
+
+/// Puts the table of row y in place of the entries.
+fn write_entries(
+    plan: &Plan,
+    images: &[Image],
+    y: u32,
+    entries: &mut Vec<u64>,
+) -> Result<(), Memory>
+    requires plan { IsPlan images.now plan.now }
+    requires row { y < 8192 }
+    ensures { OnOk result (entries.new.items ≡ entries_of plan.now.taps plan.now.out_ty images.now (places_of plan.now.starts) y) }
+{
+    entries.clear();
+    'taps: for tap in plan.taps.as_slice() {
+        entries.push(tap_address(plan, images, y, tap))?;
+    }
+    let n = pixel_number(plan.columns, y, 0);
+    entries.push(pixel_address(plan.starts.output, pixel_bytes(plan.out_ty), n))?;
+    entries.push(plan.starts.scratch)?;
+    entries.push(u64::from(plan.columns))?;
+    Ok(())
+}
+
+/// Runs a row from its table to its return.
+fn run_row<I: Isa>(machine: &mut Machine<I>, entries: &[u64], budget: u64) -> Result<(), RunFault>
+    requires { HasTable machine.old.state.regions 65536 (8 * length entries.now) }
+    ensures value { RowAnswers (run I.table machine.old.text.code machine.old.text.labels budget (started I.table 65536 (with_entries machine.old.state.regions 65536 entries.now))) budget result machine.new.state }
+    ensures text { machine.new.text ≡ machine.old.text }
+{
+    machine.start_row(TABLE, entries);
+    match machine.run_row(budget) {
+        Ok(()) => Ok(()),
+        Err(
+            Trap::Outside {
+                at,
+                address,
+                length,
+            },
+        ) => Err(RunFault::Outside {
+            at,
+            address,
+            length,
+        }),
+        Err(Trap::Spent { steps }) => Err(RunFault::Spent { steps }),
+    }
+}
+
+/// Runs all rows, from row 0 on, up to the first that doesn't return.
+pub fn run_rows<I: Isa>(
+    alloc: Global,
+    machine: &mut Machine<I>,
+    plan: &Plan,
+    images: &[Image],
+) -> Result<(), RunFault>
+    requires plan { IsPlan images.now plan.now }
+    requires program { IsPlanOf machine.old.text.head (length machine.old.text.code) images.now plan.now }
+    requires ready { IsReady machine.old.text images.now }
+    requires begun { machine.old.state.regions ≡ blank_memory machine.old.text.head images.now (run_places machine.old.text.head images.now) }
+    ensures value { RowsAnswer (run_end I.table machine.old.text images.now) plan.now.budget result machine.new.state.regions }
+    ensures text { machine.new.text ≡ machine.old.text }
+{
+    let mut entries = Vec::with_capacity(alloc, plan.taps.len() + 3)?;
+    'rows: for y in 0..plan.rows {
+        write_entries(plan, images, y, &mut entries)?;
+        if let Err(fault) = run_row(machine, &entries, plan.budget) {
+            return Err(fault);
+        }
+    }
+    Ok(())
+}
