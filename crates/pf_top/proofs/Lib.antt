@@ -5,7 +5,7 @@ pub mod Selecting
 pub mod SixWords
 pub mod Courses
 pub mod RunLists
-pub mod TextSizes
+pub mod TextFiles
 pub mod Running
 pub mod Tellable
 pub mod ImageLists

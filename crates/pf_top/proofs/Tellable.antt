@@ -6,7 +6,7 @@ use Rattle.pf_terms.specs.declared.kernel.ImageDecl.{ImageDecl}
 use Rattle.pf_isa.specs.Programs.{Text}
 use Rattle.pf_isa.specs.Tables.{Table}
 use Rattle.pf_run.specs.declared.fault.RunFault.{RunFault}
-use Rattle.pf_run.specs.declared.fault.RunFault.TheVariants.{Set, Outside, Spent, Memory}
+use Rattle.pf_run.specs.declared.fault.RunFault.TheVariants.{Text as TextAt, Set, Outside, Spent, Memory}
 use Rattle.pf_run.specs.declared.fault.SetFault.TheVariants.{Count, Kind, Size, Pixel, NoOutput}
 use Rattle.pf_run.specs.Answers.{Ran}
 use Rattle.pf_run.specs.Sets.{IsFirstFault}
@@ -24,6 +24,7 @@ no_kind width height number image (d ∷ ds) (p ∷ ps) types (inr next) = no_ki
 
 pub tellable : {I O : Type 0} (t : Table O) (p : Text I O) (pictures : List Picture) (fault : RunFault)
     → length pictures ≡ length p.head.images → AllZip (λ d q. q.ty ≡ d.ty) p.head.images pictures → Ran t p pictures (Err fault) → IsTellable fault
+tellable t p pictures (TextAt line kind) count types ran = ran
 tellable t p pictures (Set (Count want got)) count types ran = ran.1.0 count
 tellable t p pictures (Set (Kind image)) count types ran = no_kind _ _ 0 image p.head.images pictures types ran.1.1
 tellable t p pictures (Set (Size image width height)) count types ran = tt

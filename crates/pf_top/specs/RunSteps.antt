@@ -9,7 +9,7 @@ use Rattle.pf_neon.specs.declared.neon.Neon.{Neon}
 use Rattle.pf_neon.specs.declared.op.Form.{Form}
 use Rattle.pf_neon.specs.Neon.{table}
 use Rattle.pf_run.specs.declared.fault.RunFault.{RunFault}
-use Rattle.pf_run.specs.declared.fault.RunFault.TheVariants.{Set, Memory as RunMemory}
+use Rattle.pf_run.specs.declared.fault.RunFault.TheVariants.{Text as TextAt, Set, Memory as RunMemory}
 use Rattle.pf_run.specs.declared.fault.SetFault.TheVariants.{Count as SetCount, Kind as SetKind}
 use Rattle.pf_run.specs.Answers.{Ran}
 use Rattle.pf_top.specs.declared.image_files.ImageRefusal.{ImageRefusal}
@@ -69,6 +69,7 @@ IsVerdictOf fault _ = ⊥
 
 -- the faults that a run may have on as many images as declared, of their types
 abbrev pub IsTellable : RunFault → Type 0
+IsTellable (TextAt line kind) = ⊥
 IsTellable (Set (SetCount want got)) = ⊥
 IsTellable (Set (SetKind image)) = ⊥
 IsTellable _ = Unit {0}

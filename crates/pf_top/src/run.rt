@@ -50,7 +50,9 @@ fn verdict_of(fault: RunFault) -> RunVerdict
             NotRun::Pixel { image, x, y, value }
         }
         RunFault::Set(SetFault::NoOutput) => NotRun::NoOutput,
-        RunFault::Set(SetFault::Count { .. } | SetFault::Kind { .. }) => unreachable!(),
+        RunFault::Text { .. } | RunFault::Set(SetFault::Count { .. } | SetFault::Kind { .. }) => {
+            unreachable!()
+        }
         RunFault::Outside {
             at,
             address,

@@ -36,7 +36,7 @@ fn text_limit() -> u64
 }
 
 /// The target that the first line of a text names, where it is another than neon.
-#[tactic(auto, using(crate::proofs::TextSizes::one_target))]
+#[tactic(auto, using(crate::proofs::TextFiles::one_target))]
 fn other_target(text: &[u8]) -> Option<Target>
     ensures { MatchOption result ((t : Target) → IsFor t (lines text.now) → t ≡ Target.Neon)
         (λ t. IsFor t (lines text.now) × (t ≢ Target.Neon)) }

@@ -2,13 +2,14 @@ use Rattle.std.proofs.Common.{◌≡◌, ◌≤◌, length, rules}
 use Rattle.pf_neon.specs.Forms.{IsForm}
 use Rattle.pf_neon.specs.Neon.{table}
 use Rattle.pf_top.specs.Running.{text_limit}
-use Rattle.pf_top.proofs.TextSizes.{few_instructions, limit_low, other_text}
+use Rattle.pf_run.proofs.TextLengths.{short_code}
+use Rattle.pf_top.proofs.TextFiles.{limit_low, other_text}
 use Rattle.pf_top.proofs.text_file.program_of.Goals as goal
 
 pub returns-in-Ok-clause-size : goal.returns-in-Ok-clause-size
 returns-in-Ok-clause-size c =
     let most : length c.args.text.now ≤ text_limit = search rules in
-    limit_low _ (length c.args.text.now) (few_instructions _ _ c.args.text.now c.in-Ok.program c.in-Ok.ensures.found) most
+    short_code table IsForm c.args.text.now c.in-Ok.program c.in-Ok.ensures.found (limit_low (length c.args.text.now) most)
 
 pub returns-in-Some-clause-found : goal.returns-in-Some-clause-found
 returns-in-Some-clause-found c =
