@@ -3,6 +3,12 @@ pub mod Offsets
 pub mod LeastLaws
 pub mod Selecting
 pub mod SixWords
+pub mod Courses
+pub mod RunLists
+pub mod TextFiles
+pub mod Running
+pub mod Tellable
+pub mod ImageLists
 pub mod Telling
 pub mod SameWords
 pub mod LeastBlock

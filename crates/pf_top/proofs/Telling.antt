@@ -1,12 +1,12 @@
 -- What is put where memory is wanting for a line.
-use Rattle.std.proofs.Common.{◌≡◌, ◌≢◌, ℕ, zero, suc, ◌≤◌, ◌⊎◌, inl, inr, List, [], ◌++◌, take, Option, Some, None, Result, Ok, Err, ◌∙◌, refl, sym, ap, subst, append-nil, arith}
+use Rattle.std.proofs.Common.{◌≡◌, ◌≢◌, ℕ, zero, suc, ◌≤◌, ◌⊎◌, inl, inr, List, [], ◌∷◌, ◌++◌, take, Option, Some, None, Result, Ok, Err, ◌∙◌, refl, sym, ap, subst, append-nil, arith}
 use Rattle.std.specs.Prelude.{⊤, codes}
 use Rattle.pf_images.specs.declared.files.FilesFault.{FilesFault}
 use Rattle.pf_images.specs.declared.files.FilesFault.TheVariants.{Missing as MissingFault, Failed as FailedFault, Memory as MemoryFault}
 use Rattle.pf_images.specs.Counts.{raised, raised_by, Rose}
 use Rattle.pf_images.specs.Outside.{Changes, Appends, AppendsPart, Adds, HasCause}
-use Rattle.pf_top.specs.Statuses.{due, named_line, memory_line, wanting, write_failed, Output, Told}
-use Rattle.pf_top.proofs.Selecting.{changes_then, changes_weaker}
+use Rattle.pf_top.specs.Statuses.{due, line_of, memory_line, wanting, write_failed, Output, Told}
+use Rattle.pf_top.proofs.Courses.{changes_then, changes_weaker}
 
 -- nothing was appended in so many calls
 pub record Quiet (count : ℕ) (before after : Output) : Type 0 where
@@ -60,7 +60,7 @@ pub quiet_put : (b m : Output) → Changes (Appends []) b.written m.written → 
 quiet_put b m written faults calls = record { written = written; faults = faults; calls = calls }
 
 -- whatever the put of the line on a failed write answers, 4 is the status
-pub told_write_failed : (name line : List ℕ) (b a : Output) (r : Result ⊤ FilesFault) → line ≡ named_line (codes "write failed: ") name
+pub told_write_failed : (name line : List ℕ) (b a : Output) (r : Result ⊤ FilesFault) → line ≡ line_of (codes "write failed: " ∷ name ∷ [])
     → Adds line b.written a.written r → HasCause b.faults a.faults r → r ≢ Err MissingFault → a.calls ≡ raised b.calls → Told (write_failed name) b 4 a
 unfolding write_failed
 told_write_failed name line b a (Ok _) is written cause there calls = inl (record { status = refl; written = subst (λ u. Changes (Appends u) b.written a.written) is written; faults = cause; calls = calls })

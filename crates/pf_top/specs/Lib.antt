@@ -1,7 +1,12 @@
+pub mod Courses
+pub mod ImageFiles
 pub mod Least
 pub mod LeastKernels
 pub mod Reading
 pub mod Headline
+pub mod Running
+pub mod RunStatuses
+pub mod RunSteps
 pub mod Selected
 pub mod Selections
 pub mod Statuses

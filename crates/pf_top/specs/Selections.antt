@@ -1,5 +1,5 @@
 -- The command `select`: its words, its files, and what it comes to.
-use Rattle.std.specs.Prelude.{◌≡◌, ◌≢◌, ◌↔◌, ℕ, ◌+◌, ◌≤◌, List, [], ◌∷◌, ◌++◌, take, codes, Option, None, IsSomeAnd, IfNone}
+use Rattle.std.specs.Prelude.{◌≡◌, ◌≢◌, ◌↔◌, ℕ, ◌+◌, List, [], ◌∷◌, ◌++◌, codes, None}
 use Rattle.std.specs.List.{concat}
 use Rattle.pf_ints.specs.declared.target.Target.{Target}
 use Rattle.pf_ints.specs.declared.target.Target.TheVariants.{Neon}
@@ -9,9 +9,9 @@ use Rattle.pf_top.specs.declared.verdict.FileWord.{FileWord}
 use Rattle.pf_top.specs.declared.verdict.FileWord.TheVariants.{Kernel, Lift, Lower}
 use Rattle.pf_top.specs.declared.verdict.Verdict.{Verdict}
 use Rattle.pf_top.specs.declared.verdict.Verdict.TheVariants.{Done, TargetNotBuilt, NotBuilt, Missing, ReadFailed, WriteFailed, Memory}
-use Rattle.pf_images.specs.Counts.{raised_by, Rose}
 use Rattle.pf_top.specs.LeastKernels.{IsLeastKernel, line_end}
-use Rattle.pf_images.specs.Outside.{Contents, SameContents, Puts, PutsPart, Changes}
+use Rattle.pf_images.specs.Outside.{Contents, SameContents, Puts, PutsPart}
+use Rattle.pf_top.specs.Courses.{Store, Course, Well, Lacking, Failing, Wanting, Went, Begins}
 use Rattle.pf_top.specs.Selected.{IsSelected}
 
 -- the words behind `select`
@@ -54,23 +54,23 @@ limit Kernel = 65536
 limit Lift = 1048576
 limit Lower = 1048576
 
--- the bytes of a file that are judged: those up to one past the limit
-abbrev pub judged : FileWord → List ℕ → List ℕ
-judged w all = take (limit w + 1) all
-
--- the bytes have the form that is asked of the file
+-- the bytes of a file that are judged are those up to one past its limit: they have the form that is asked of it
 abbrev pub HasForm : FileWord → List ℕ → Type 0
 HasForm Kernel bytes = (k : LeastKernel) × IsLeastKernel bytes k
 HasForm Lift bytes = bytes ≡ lift_text
 HasForm Lower bytes = bytes ≡ lower_text
 
--- the file is there, and its judged bytes have the form
-abbrev pub Fits : Select → Contents → FileWord → Type 0
-Fits s files w = IsSomeAnd (files (file_name s w)) (λ all. HasForm w (judged w all))
+-- the file is there, and Q holds of its judged bytes
+abbrev pub OfJudged : Select → FileWord → (List ℕ → Type 0) → Contents → Type 0
+OfJudged s w Q files = Begins (file_name s w) (limit w + 1) Q files
 
--- the file is there, and its judged bytes do not have the form
+-- the file is there and has its form
+abbrev pub Fits : Select → Contents → FileWord → Type 0
+Fits s files w = OfJudged s w (HasForm w) files
+
+-- the file is there and does not have its form
 abbrev pub Differs : Select → Contents → FileWord → Type 0
-Differs s files w = IsSomeAnd (files (file_name s w)) (λ all. HasForm w (judged w all) → ⊥)
+Differs s files w = OfJudged s w (λ bytes. HasForm w bytes → ⊥) files
 
 -- the files that are judged before this one have their forms
 abbrev pub Reaches : Select → Contents → FileWord → Type 0
@@ -81,7 +81,7 @@ Reaches s files Lower = Fits s files Kernel × Fits s files Lift
 -- the text is one for the kernel that the kernel file spells, and the rule files have their forms
 pub record Selects (s : Select) (files : Contents) (bytes : List ℕ) : Type 0 where
   pub kernel : LeastKernel
-  pub spelled : IsSomeAnd (files s.kernel) (λ all. IsLeastKernel (judged Kernel all) kernel)
+  pub spelled : OfJudged s Kernel (λ judged. IsLeastKernel judged kernel) files
   pub lift : Fits s files Lift
   pub lower : Fits s files Lower
   pub selected : IsSelected kernel bytes
@@ -96,47 +96,23 @@ Leads s (ReadFailed w) old new = Reaches s old w × SameContents old new
 Leads s WriteFailed old new = (text : List ℕ) × Selects s old text × PutsPart s.out text old new
 Leads s Memory old new = SameContents old new
 
--- the count of faults over the call: it rose where a read or the write failed, and where a file is
--- missing from a store that tells nothing; else it stayed, but where a file is missing
-abbrev pub FaultsAre : Verdict → Option Contents → ℕ → ℕ → Type 0
-FaultsAre Done held before after = after ≡ before
-FaultsAre TargetNotBuilt held before after = after ≡ before
-FaultsAre (NotBuilt w) held before after = after ≡ before
-FaultsAre (Missing w) held before after = (before ≤ after) × IfNone held (Rose before after)
-FaultsAre (ReadFailed w) held before after = Rose before after
-FaultsAre WriteFailed held before after = Rose before after
-FaultsAre Memory held before after = after ≡ before
-
 -- how many files were read up to this one
 abbrev pub place : FileWord → ℕ
 place Kernel = 1
 place Lift = 2
 place Lower = 3
 
--- a count after at most this many calls
-abbrev pub RaisedUpTo : ℕ → ℕ → ℕ → Type 0
-RaisedUpTo most before after = (calls : ℕ) × (calls ≤ most) × (after ≡ raised_by calls before)
-
--- the count of calls of the store: each file that was judged was read once, no other was, and the text
--- is written last
-abbrev pub CallsAre : Verdict → ℕ → ℕ → Type 0
-CallsAre Done before after = after ≡ raised_by 4 before
-CallsAre TargetNotBuilt before after = after ≡ before
-CallsAre (NotBuilt w) before after = after ≡ raised_by (place w) before
-CallsAre (Missing w) before after = after ≡ raised_by (place w) before
-CallsAre (ReadFailed w) before after = after ≡ raised_by (place w) before
-CallsAre WriteFailed before after = after ≡ raised_by 4 before
-CallsAre Memory before after = RaisedUpTo 4 before after
-
--- what is seen of a store at a moment
-pub record Store : Type 0 where
-  pub held : Option Contents
-  pub faults : ℕ
-  pub calls : ℕ
+-- the calls of the store: each file that was judged was read once, no other was, and the text is written last
+abbrev pub course : Verdict → Course
+course Done = Well 4
+course TargetNotBuilt = Well 0
+course (NotBuilt w) = Well (place w)
+course (Missing w) = Lacking (place w)
+course (ReadFailed w) = Failing (place w)
+course WriteFailed = Failing 4
+course Memory = Wanting 4
 
 -- the call came to this verdict
 pub record Came (s : Select) (before : Store) (v : Verdict) (after : Store) : Type 0 where
   pub target : (v ≡ TargetNotBuilt) ↔ (s.target ≢ Neon)
-  pub contents : Changes (Leads s v) before.held after.held
-  pub faults : FaultsAre v before.held before.faults after.faults
-  pub calls : CallsAre v before.calls after.calls
+  pub went : Went (Leads s v) (course v) before after

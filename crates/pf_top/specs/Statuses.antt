@@ -1,12 +1,13 @@
 -- The statuses of the program and the lines that it puts.
-use Rattle.std.specs.Prelude.{◌≡◌, ℕ, List, [], ◌++◌, codes, Option, ◌⊎◌}
+use Rattle.std.specs.Prelude.{◌≡◌, ℕ, List, [], ◌∷◌, ◌++◌, codes, Option, Some, None, ◌⊎◌}
 use Rattle.pf_ints.specs.Targets.{target_word}
 use Rattle.pf_top.specs.declared.verdict.Verdict.{Verdict}
 use Rattle.pf_top.specs.declared.verdict.Verdict.TheVariants.{Done, TargetNotBuilt, NotBuilt, Missing, ReadFailed, WriteFailed, Memory}
 use Rattle.pf_images.specs.Counts.{raised, Rose}
 use Rattle.pf_top.specs.LeastKernels.{line_end}
 use Rattle.pf_images.specs.Outside.{Changes, Appends, AppendsPart}
-use Rattle.pf_top.specs.Selections.{Select, file_name, RaisedUpTo}
+use Rattle.pf_top.specs.Courses.{RaisedUpTo}
+use Rattle.pf_top.specs.Selections.{Select, file_name}
 
 -- what is due: a status with its line, and the status and the line where memory is wanting for it
 pub record Due : Type 0 where
@@ -22,13 +23,14 @@ memory_line = codes "out of memory" ++ line_end
 abbrev pub due : ℕ → List ℕ → Due
 due status line = record { status = status; line = line; poor_status = 13; poor_line = memory_line }
 
--- a line that ends with a name
-abbrev pub named_line : List ℕ → List ℕ → List ℕ
-named_line head name = head ++ (name ++ line_end)
+-- a line of some texts
+abbrev pub line_of : List (List ℕ) → List ℕ
+line_of [] = line_end
+line_of (text ∷ more) = text ++ line_of more
 
 -- what is due where the words are of no form
 unfoldable pub usage : Due
-usage = due 2 (codes "usage: pitchfork select|check|run|eval|explain|demo" ++ line_end)
+usage = due 2 (line_of (codes "usage: pitchfork select|check|run|eval|explain|demo" ∷ []))
 
 -- what is due where memory is wanting
 unfoldable pub wanting : Due
@@ -36,7 +38,7 @@ wanting = record { status = 13; line = memory_line; poor_status = 13; poor_line 
 
 -- what is due where the write of the text failed: 4, also where memory is wanting for its line
 unfoldable pub write_failed : List ℕ → Due
-write_failed name = record { status = 4; line = named_line (codes "write failed: ") name; poor_status = 4; poor_line = [] }
+write_failed name = record { status = 4; line = line_of (codes "write failed: " ∷ name ∷ []); poor_status = 4; poor_line = [] }
 
 -- what is seen of an output at a moment
 pub record Output : Type 0 where
@@ -69,12 +71,17 @@ pub record MemoryWanted (d : Due) (before : Output) (answer : ℕ) (after : Outp
 abbrev pub Told : Due → Output → ℕ → Output → Type 0
 Told d before answer after = Said d before answer after ⊎ OutputFailed d before answer after ⊎ MemoryWanted d before answer after
 
--- what is answered and put at each verdict of `select`; at Done it is 0, and nothing is put
-abbrev pub Tells : Select → Verdict → Output → ℕ → Output → Type 0
-Tells s Done before answer after = (answer ≡ 0) × (after ≡ before)
-Tells s TargetNotBuilt before answer after = Told (due 8 (named_line (codes "not built: ") (target_word s.target))) before answer after
-Tells s (NotBuilt w) before answer after = Told (due 8 (named_line (codes "not built: ") (file_name s w))) before answer after
-Tells s (Missing w) before answer after = Told (due 3 (named_line (codes "no file: ") (file_name s w))) before answer after
-Tells s (ReadFailed w) before answer after = Told (due 3 (named_line (codes "read failed: ") (file_name s w))) before answer after
-Tells s WriteFailed before answer after = Told (write_failed s.out) before answer after
-Tells s Memory before answer after = Told wanting before answer after
+-- what is due is answered and put; where nothing is due the answer is 0, and nothing is put
+abbrev pub Tells : Option Due → Output → ℕ → Output → Type 0
+Tells None before answer after = (answer ≡ 0) × (after ≡ before)
+Tells (Some d) before answer after = Told d before answer after
+
+-- what is due at each verdict of `select`
+abbrev pub select_due : Select → Verdict → Option Due
+select_due s Done = None
+select_due s TargetNotBuilt = Some (due 8 (line_of (codes "not built: " ∷ target_word s.target ∷ [])))
+select_due s (NotBuilt w) = Some (due 8 (line_of (codes "not built: " ∷ file_name s w ∷ [])))
+select_due s (Missing w) = Some (due 3 (line_of (codes "no file: " ∷ file_name s w ∷ [])))
+select_due s (ReadFailed w) = Some (due 3 (line_of (codes "read failed: " ∷ file_name s w ∷ [])))
+select_due s WriteFailed = Some (write_failed s.out)
+select_due s Memory = Some wanting

@@ -2,11 +2,18 @@
 #![tactic(auto)]
 
 mod command;
+mod image_files;
+mod judging;
 mod least;
 mod least_program;
 mod report;
+mod run;
+mod run_report;
+mod run_verdict;
+mod run_words;
 mod select;
 mod selected;
+mod text_file;
 mod top;
 mod verdict;
 
@@ -14,5 +21,7 @@ pub use least::LeastKernel;
 pub use report::tell_want;
 pub use top::pitchfork;
 
+#[cfg(test)]
+mod run_tests;
 #[cfg(test)]
 mod tests;

@@ -1,22 +1,51 @@
-ghost use Rattle.std.specs.Prelude.{◌≡◌, IfOk};
+ghost use Rattle.std.specs.Prelude.{◌≡◌, [], ◌∷◌, ◌++◌, map, IfOk, OnOk};
+ghost use Rattle.std.specs.Fmt.{signed_decimal};
 ghost use Rattle.pf_images.specs.Counts.{raised};
-ghost use Rattle.pf_top.specs.Statuses.{due, named_line, memory_line, wanting, write_failed, usage, Told, Tells};
+ghost use Rattle.pf_top.specs.Statuses.{due, line_of, memory_line, wanting, write_failed, usage, select_due, Told, Tells};
 ghost use Rattle.pf_top.specs.Selections.{file_name};
-ghost use Rattle.pf_top.specs.Steps.{the_words, seen_output};
+ghost use Rattle.pf_top.specs.Steps.{the_words, seen_output, piece_text};
 
 use crate::command::Selection;
 use crate::verdict::{FileWord, Verdict};
+use itoa::Buffer;
 use pf_images::{FilesFault, Sink};
 use pf_ints::Memory;
+use pf_isa::push_number;
 use std::alloc::Global;
 
-/// A line that ends with a name.
-fn named_line(alloc: Global, head: &[u8], name: &[u8]) -> Result<Vec<u8>, Memory>
-    ensures { IfOk result (λ line. line.items ≡ named_line head.now name.now) }
+/// A piece of a line: a word, or a number in decimal digits, behind `-` where it is negative.
+#[derive(Clone, Copy)]
+pub enum Piece<'a> {
+    Word(&'a [u8]),
+    Number(u64),
+    Whole(i128),
+}
+
+fn push_whole(line: &mut Vec<u8>, n: i128) -> Result<(), Memory>
+    ensures { OnOk result (line.new.items ≡ line.old.items ++ signed_decimal n) }
+{
+    let mut buffer = Buffer::new();
+    line.extend_from_slice(buffer.format(n).as_bytes())
+}
+
+fn push_piece(line: &mut Vec<u8>, piece: Piece<'_>) -> Result<(), Memory>
+    ensures { OnOk result (line.new.items ≡ line.old.items ++ piece_text piece.entry) }
+{
+    match piece {
+        Piece::Word(word) => line.extend_from_slice(word),
+        Piece::Number(n) => push_number(line, n),
+        Piece::Whole(n) => push_whole(line, n),
+    }
+}
+
+/// The line of the pieces.
+fn line_of(alloc: Global, pieces: &[Piece<'_>]) -> Result<Vec<u8>, Memory>
+    ensures { IfOk result (λ line. line.items ≡ line_of (map piece_text pieces.now)) }
 {
     let mut line = Vec::new(alloc);
-    line.extend_from_slice(head)?;
-    line.extend_from_slice(name)?;
+    'pieces: for piece in pieces {
+        push_piece(&mut line, *piece)?;
+    }
     line.extend_from_slice(b"\n")?;
     Ok(line)
 }
@@ -35,11 +64,11 @@ pub fn tell_want<S: Sink>(alloc: Global, out: &mut S) -> u8
 }
 
 /// Puts the line, and answers the status, 4 where the output failed, or 13 where memory is wanting.
-fn tell<S: Sink>(alloc: Global, out: &mut S, status: u8, head: &[u8], name: &[u8]) -> u8
-    ensures { Told (due status (named_line head.now name.now)) (seen_output S.written S.faults S.calls out.old)
+pub fn tell<S: Sink>(alloc: Global, out: &mut S, status: u8, pieces: &[Piece<'_>]) -> u8
+    ensures { Told (due status (line_of (map piece_text pieces.now))) (seen_output S.written S.faults S.calls out.old)
         result (seen_output S.written S.faults S.calls out.new) }
 {
-    let Ok(line) = named_line(alloc, head, name) else {
+    let Ok(line) = line_of(alloc, pieces) else {
         return tell_want(alloc, out);
     };
     match out.put(alloc, line.as_slice()) {
@@ -52,11 +81,11 @@ fn tell<S: Sink>(alloc: Global, out: &mut S, status: u8, head: &[u8], name: &[u8
 
 /// Puts that the write of the text failed, and answers 4 in every case.
 #[tactic(auto, unfolding(crate::specs::Statuses::write_failed))]
-fn tell_write_failed<S: Sink>(alloc: Global, out: &mut S, name: &[u8]) -> u8
+pub fn tell_write_failed<S: Sink>(alloc: Global, out: &mut S, name: &[u8]) -> u8
     ensures { Told (write_failed name.now) (seen_output S.written S.faults S.calls out.old) result
         (seen_output S.written S.faults S.calls out.new) }
 {
-    if let Ok(line) = named_line(alloc, b"write failed: ", name) {
+    if let Ok(line) = line_of(alloc, &[Piece::Word(b"write failed: "), Piece::Word(name)]) {
         let _ = out.put(alloc, line.as_slice());
     }
     4
@@ -68,13 +97,8 @@ pub fn tell_usage<S: Sink>(alloc: Global, out: &mut S) -> u8
     ensures { Told usage (seen_output S.written S.faults S.calls out.old) result
         (seen_output S.written S.faults S.calls out.new) }
 {
-    tell(
-        alloc,
-        out,
-        2,
-        b"usage: pitchfork select|check|run|eval|explain|demo",
-        b"",
-    )
+    let line = b"usage: pitchfork select|check|run|eval|explain|demo";
+    tell(alloc, out, 2, &[Piece::Word(line)])
 }
 
 /// The name of a file that is read.
@@ -88,6 +112,15 @@ fn file_name<'a>(words: &Selection<'a>, word: FileWord) -> &'a [u8]
     }
 }
 
+/// Puts the line of the words, and answers the status.
+pub fn tell_named<S: Sink>(alloc: Global, out: &mut S, status: u8, head: &[u8], name: &[u8]) -> u8
+    ensures { Told (due status (line_of (head.now ∷ name.now ∷ [])))
+        (seen_output S.written S.faults S.calls out.old) result
+        (seen_output S.written S.faults S.calls out.new) }
+{
+    tell(alloc, out, status, &[Piece::Word(head), Piece::Word(name)])
+}
+
 /// Puts the line of the verdict where it has one, and answers the status.
 pub fn tell_verdict<S: Sink>(
     alloc: Global,
@@ -95,15 +128,28 @@ pub fn tell_verdict<S: Sink>(
     verdict: Verdict,
     out: &mut S,
 ) -> u8
-    ensures { Tells (the_words words.now) verdict (seen_output S.written S.faults S.calls out.old) result
+    ensures { Tells (select_due (the_words words.now) verdict)
+        (seen_output S.written S.faults S.calls out.old) result
         (seen_output S.written S.faults S.calls out.new) }
 {
     match verdict {
         Verdict::Done => 0,
-        Verdict::TargetNotBuilt => tell(alloc, out, 8, b"not built: ", words.target.word()),
-        Verdict::NotBuilt(word) => tell(alloc, out, 8, b"not built: ", file_name(words, word)),
-        Verdict::Missing(word) => tell(alloc, out, 3, b"no file: ", file_name(words, word)),
-        Verdict::ReadFailed(word) => tell(alloc, out, 3, b"read failed: ", file_name(words, word)),
+        Verdict::TargetNotBuilt => tell_named(alloc, out, 8, b"not built: ", words.target.word()),
+        Verdict::NotBuilt(word) => tell_named(
+            alloc,
+            out,
+            8,
+            b"not built: ",
+            file_name(words, word),
+        ),
+        Verdict::Missing(word) => tell_named(alloc, out, 3, b"no file: ", file_name(words, word)),
+        Verdict::ReadFailed(word) => tell_named(
+            alloc,
+            out,
+            3,
+            b"read failed: ",
+            file_name(words, word),
+        ),
         Verdict::WriteFailed => tell_write_failed(alloc, out, words.out.as_bytes()),
         Verdict::Memory => tell_want(alloc, out),
     }

@@ -1,16 +1,17 @@
 ghost use Rattle.std.specs.Prelude.{◌≡◌, ◌+◌, IfOk};
 ghost use Rattle.pf_top.specs.declared.verdict.FileWord.TheVariants.{Kernel, Lift, Lower};
 ghost use Rattle.pf_top.specs.LeastKernels.{IsLeastKernel, IsProper};
-ghost use Rattle.pf_top.specs.Selected.{IsSelected};
-ghost use Rattle.pf_top.specs.Selections.{limit, lift_text, lower_text, Came};
-ghost use Rattle.pf_top.specs.Steps.{the_words, seen, Judged, Written, verdict_of};
+ghost use Rattle.pf_top.specs.Courses.{seen, Judged};
+ghost use Rattle.pf_top.specs.Selections.{limit, lift_text, lower_text, HasForm, Came};
+ghost use Rattle.pf_top.specs.Steps.{the_words, at, verdict_of};
 
 use crate::command::Selection;
+use crate::judging::{Stop, read_front, write_file};
 use crate::least::{LeastKernel, read_least};
 use crate::selected::text_of;
 use crate::verdict::{FileWord, Verdict};
 use pf_images::{Files, FilesFault};
-use pf_ints::{Memory, Target};
+use pf_ints::Target;
 use std::alloc::Global;
 
 /// The rule file without rules.
@@ -40,75 +41,56 @@ fn most_judged(word: FileWord) -> u64
     }
 }
 
-/// The bytes of a file that are judged: those up to one past its limit.
-fn judged_bytes<F: Files>(
-    alloc: Global,
-    files: &mut F,
-    word: FileWord,
-    name: &str,
-) -> Result<Vec<u8>, Verdict>
-    ensures { Judged (λ bytes judged. bytes.items ≡ judged) word name.now
-        (seen F.held F.faults F.calls files.old) result (seen F.held F.faults F.calls files.new) }
-{
-    match files.read(alloc, name, most_judged(word)) {
-        Ok(bytes) => Ok(bytes),
-        Err(FilesFault::Missing) => Err(Verdict::Missing(word)),
-        Err(FilesFault::Failed) => Err(Verdict::ReadFailed(word)),
-        Err(FilesFault::Memory) => Err(Verdict::Memory),
-    }
-}
-
 /// The kernel of a file.
-fn kernel_of<F: Files>(alloc: Global, files: &mut F, name: &str) -> Result<LeastKernel, Verdict>
-    ensures judged { Judged (λ kernel bytes. IsLeastKernel bytes kernel) Kernel name.now
+fn kernel_of<F: Files>(alloc: Global, files: &mut F, name: &str) -> Result<LeastKernel, Stop<()>>
+    ensures judged { Judged (λ kernel bytes. IsLeastKernel bytes kernel) (λ _ bytes. HasForm Kernel bytes → ⊥)
+        name.now (limit Kernel + 1)
         (seen F.held F.faults F.calls files.old) result (seen F.held F.faults F.calls files.new) }
     ensures proper { IfOk result IsProper }
 {
-    let text = judged_bytes(alloc, files, FileWord::Kernel, name)?;
+    let text = read_front(alloc, files, name, most_judged(FileWord::Kernel))?;
     match read_least(text.as_slice()) {
         Some(kernel) => Ok(kernel),
-        None => Err(Verdict::NotBuilt(FileWord::Kernel)),
+        None => Err(Stop::Refused(())),
     }
 }
 
 /// Judges the file of the lifting rules.
-fn judge_lift<F: Files>(alloc: Global, files: &mut F, name: &str) -> Result<(), Verdict>
-    ensures { Judged (λ _ bytes. bytes ≡ lift_text) Lift name.now
+fn judge_lift<F: Files>(alloc: Global, files: &mut F, name: &str) -> Result<(), Stop<()>>
+    ensures { Judged (λ _ bytes. HasForm Lift bytes) (λ _ bytes. HasForm Lift bytes → ⊥)
+        name.now (limit Lift + 1)
         (seen F.held F.faults F.calls files.old) result (seen F.held F.faults F.calls files.new) }
 {
-    let text = judged_bytes(alloc, files, FileWord::Lift, name)?;
+    let text = read_front(alloc, files, name, most_judged(FileWord::Lift))?;
     if text.as_slice() != lift_text() {
-        return Err(Verdict::NotBuilt(FileWord::Lift));
+        return Err(Stop::Refused(()));
     }
     Ok(())
 }
 
 /// Judges the file of the lowering rules.
-fn judge_lower<F: Files>(alloc: Global, files: &mut F, name: &str) -> Result<(), Verdict>
-    ensures { Judged (λ _ bytes. bytes ≡ lower_text) Lower name.now
+fn judge_lower<F: Files>(alloc: Global, files: &mut F, name: &str) -> Result<(), Stop<()>>
+    ensures { Judged (λ _ bytes. HasForm Lower bytes) (λ _ bytes. HasForm Lower bytes → ⊥)
+        name.now (limit Lower + 1)
         (seen F.held F.faults F.calls files.old) result (seen F.held F.faults F.calls files.new) }
 {
-    let text = judged_bytes(alloc, files, FileWord::Lower, name)?;
+    let text = read_front(alloc, files, name, most_judged(FileWord::Lower))?;
     if text.as_slice() != lower_text() {
-        return Err(Verdict::NotBuilt(FileWord::Lower));
+        return Err(Stop::Refused(()));
     }
     Ok(())
 }
 
-/// Writes the text.
-fn write_text<F: Files>(
-    alloc: Global,
-    files: &mut F,
-    name: &str,
-    text: &[u8],
-) -> Result<(), Verdict>
-    ensures { Written name.now text.now
-        (seen F.held F.faults F.calls files.old) result (seen F.held F.faults F.calls files.new) }
+/// What judging the file of this word came to, for the whole call.
+fn at<A>(word: FileWord, judged: Result<A, Stop<()>>) -> Result<A, Verdict>
+    ensures { result ≡ at word judged }
 {
-    match files.write(alloc, name, text) {
-        Ok(()) => Ok(()),
-        Err(FilesFault::Memory) => Err(Verdict::Memory),
-        Err(_) => Err(Verdict::WriteFailed),
+    match judged {
+        Ok(good) => Ok(good),
+        Err(Stop::Unread(FilesFault::Missing)) => Err(Verdict::Missing(word)),
+        Err(Stop::Unread(FilesFault::Failed)) => Err(Verdict::ReadFailed(word)),
+        Err(Stop::Unread(FilesFault::Memory)) => Err(Verdict::Memory),
+        Err(Stop::Refused(())) => Err(Verdict::NotBuilt(word)),
     }
 }
 
@@ -121,11 +103,12 @@ fn run<F: Files>(alloc: Global, words: &Selection<'_>, files: &mut F) -> Result<
     if words.target != Target::Neon {
         return Err(Verdict::TargetNotBuilt);
     }
-    let kernel = kernel_of(alloc, files, words.kernel)?;
-    judge_lift(alloc, files, words.lift)?;
-    judge_lower(alloc, files, words.lower)?;
+    let kernel = at(FileWord::Kernel, kernel_of(alloc, files, words.kernel))?;
+    at(FileWord::Lift, judge_lift(alloc, files, words.lift))?;
+    at(FileWord::Lower, judge_lower(alloc, files, words.lower))?;
     let text = text_of(alloc, &kernel)?;
-    write_text(alloc, files, words.out, text.as_slice())
+    write_file(alloc, files, words.out, text.as_slice())?;
+    Ok(())
 }
 
 /// What the command `select` comes to.

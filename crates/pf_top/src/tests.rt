@@ -5,11 +5,12 @@ use std::alloc::Global;
 use std::process::Abort;
 use std::test::Fail;
 
-const KERNEL: &[u8] = b"kernel m\nimage a u8\nimage b u8\nout u8 = min(a[0,0], b[0,0])\n";
+pub(crate) const KERNEL: &[u8] =
+    b"kernel m\nimage a u8\nimage b u8\nout u8 = min(a[0,0], b[0,0])\n";
 
-const LIFT: &[u8] = b"rules 1 lift\n";
+pub(crate) const LIFT: &[u8] = b"rules 1 lift\n";
 
-const LOWER: &[u8] =
+pub(crate) const LOWER: &[u8] =
     b"rules 1 neon\nrule least\nwidths 8 16 32\nvar x u1\nvar y u1\nleft min(x, y)\nright @min(x, y)\nend\n";
 
 /// A call that is tried, and what it has to answer and to put.
@@ -35,14 +36,19 @@ const WELL: Case = Case {
     calls: 4,
 };
 
-fn hold(alloc: Global, files: &mut MemFiles, name: &str, bytes: &[u8]) -> Result<(), Fail> {
+pub(crate) fn hold(
+    alloc: Global,
+    files: &mut MemFiles,
+    name: &str,
+    bytes: &[u8],
+) -> Result<(), Fail> {
     let name = String::from_str(alloc, name)?;
     let bytes = Sequence::from_slice(alloc, bytes)?;
     files.held.insert(name, bytes)?;
     Ok(())
 }
 
-fn texts(alloc: Global, words: &[&str]) -> Result<Vec<String>, Fail> {
+pub(crate) fn texts(alloc: Global, words: &[&str]) -> Result<Vec<String>, Fail> {
     let mut texts = Vec::new(alloc);
     for word in words {
         texts.push(String::from_str(alloc, word)?)?;

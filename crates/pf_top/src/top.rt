@@ -1,19 +1,29 @@
 ghost use Rattle.std.specs.Prelude.{◌≡◌, map, string_bytes};
+ghost use Rattle.pf_top.specs.declared.run_verdict.RunVerdict.{RunVerdict};
 ghost use Rattle.pf_top.specs.declared.verdict.Verdict.{Verdict};
+ghost use Rattle.pf_top.specs.Courses.{seen};
+ghost use Rattle.pf_top.specs.Running.{Run, IsRun, RanTo};
+ghost use Rattle.pf_top.specs.RunStatuses.{run_due};
 ghost use Rattle.pf_top.specs.Selections.{Select, IsSelect, Came};
-ghost use Rattle.pf_top.specs.Statuses.{usage, Told, Tells};
-ghost use Rattle.pf_top.specs.Steps.{seen, seen_output};
+ghost use Rattle.pf_top.specs.Statuses.{usage, select_due, Told, Tells};
+ghost use Rattle.pf_top.specs.Steps.{seen_output};
 
 use crate::command::selection_of;
 use crate::report::{tell_usage, tell_verdict};
+use crate::run::run;
+use crate::run_report::tell_run_verdict;
+use crate::run_words::run_of;
 use crate::select::select;
 use pf_images::{Files, Sink};
 use std::alloc::Global;
 
 /// Does what the words ask for over the store of files, puts its lines to the output, and answers
-/// the status. `select T KERNEL LIFT LOWER OUT` writes the text of the kernel to OUT. The statuses
-/// are 0 (done), 2 (the words are of no form), 3 (a file could not be read or is missing), 4 (a
-/// file or the output could not be written), 8 (not built) and 13 (memory is wanting).
+/// the status. `select T KERNEL LIFT LOWER OUT` writes the text of the kernel to OUT. `run TEXT
+/// IMG.. OUT` runs the text on the images and writes what it leaves to OUT as PGM. The statuses are
+/// 0 (done), 2 (the words are of no form), 3 (a file could not be read or is missing), 4 (a file or
+/// the output could not be written), 8 (not built), 9 (an image is refused), 10 (the text is
+/// refused), 11 (an instruction loads or stores where it may not), 12 (a row took all its steps) and
+/// 13 (memory is wanting).
 pub fn pitchfork<F: Files, S: Sink>(
     alloc: Global,
     words: &Vec<String>,
@@ -22,6 +32,7 @@ pub fn pitchfork<F: Files, S: Sink>(
 ) -> u8
     // Words of no form: 2 with the line on them, and no file is touched.
     ensures usage { ((s : Select) → IsSelect (map string_bytes words.now.items) s → ⊥)
+        → ((r : Run) → IsRun (map string_bytes words.now.items) r → ⊥)
         → Told usage (seen_output S.written S.faults S.calls out.old) result
         (seen_output S.written S.faults S.calls out.new) × (files.new ≡ files.old) }
 
@@ -29,12 +40,22 @@ pub fn pitchfork<F: Files, S: Sink>(
     // files, and told it.
     ensures selects { (s : Select) → IsSelect (map string_bytes words.now.items) s
         → (v : Verdict) × Came s (seen F.held F.faults F.calls files.old) v (seen F.held F.faults F.calls files.new)
-        × Tells s v (seen_output S.written S.faults S.calls out.old) result
+        × Tells (select_due s v) (seen_output S.written S.faults S.calls out.old) result
+        (seen_output S.written S.faults S.calls out.new) }
+
+    // The same of the words of `run`.
+    ensures runs { (r : Run) → IsRun (map string_bytes words.now.items) r
+        → (v : RunVerdict) × RanTo r (seen F.held F.faults F.calls files.old) v (seen F.held F.faults F.calls files.new)
+        × Tells (run_due r v) (seen_output S.written S.faults S.calls out.old) result
         (seen_output S.written S.faults S.calls out.new) }
 {
-    let Some(words) = selection_of(words.as_slice()) else {
-        return tell_usage(alloc, out);
-    };
-    let verdict = select(alloc, &words, files);
-    tell_verdict(alloc, &words, verdict, out)
+    if let Some(words) = selection_of(words.as_slice()) {
+        let verdict = select(alloc, &words, files);
+        return tell_verdict(alloc, &words, verdict, out);
+    }
+    if let Some(words) = run_of(words.as_slice()) {
+        let verdict = run(alloc, &words, files);
+        return tell_run_verdict(alloc, &words, verdict, out);
+    }
+    tell_usage(alloc, out)
 }

@@ -1,5 +1,6 @@
 ghost use Rattle.std.specs.Prelude.{◌≡◌};
 
+use crate::judging::Unwritten;
 use std::alloc::AllocError;
 
 /// A word of `select` that names a file to be read.
@@ -36,5 +37,18 @@ impl From<AllocError> for Verdict {
 
     fn from(_want: AllocError) -> Verdict {
         Verdict::Memory
+    }
+}
+
+impl From<Unwritten> for Verdict {
+    ghost use Rattle.pf_top.specs.Steps.{unwritten};
+
+    ghost from_gives = { λ stop verdict. verdict ≡ unwritten stop };
+
+    fn from(stop: Unwritten) -> Verdict {
+        match stop {
+            Unwritten::Failed => Verdict::WriteFailed,
+            Unwritten::Memory => Verdict::Memory,
+        }
     }
 }

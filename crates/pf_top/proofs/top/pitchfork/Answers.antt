@@ -1,12 +1,16 @@
 use Rattle.std.proofs.Common.{◌≡◌}
 use Rattle.pf_top.specs.Steps.{the_words}
-use Rattle.pf_top.proofs.SameWords.{same_select}
+use Rattle.pf_top.specs.RunSteps.{the_run}
+use Rattle.pf_top.proofs.SameWords.{same_run}
 use Rattle.pf_top.proofs.top.pitchfork.Goals as goal
 
-pub returns-clause-usage : goal.returns-clause-usage
-returns-clause-usage g c = λ none. absurd (none (the_words c.in-Some.words) (rw (← c.as_slice.ensures.value) c.in-Some.ensures))
+pub returns-in-Some-clause-usage : goal.returns-in-Some-clause-usage
+returns-in-Some-clause-usage g c = λ none_select none_run. absurd (none_select (the_words c.in-Some.words) (rw (← c.as_slice.ensures.value) c.in-Some.ensures))
 
-pub returns-clause-selects : goal.returns-clause-selects
-returns-clause-selects g c = λ s is.
-    let same : the_words c.in-Some.words ≡ s = same_select _ _ _ c.in-Some.ensures (rw c.as_slice.ensures.value is) in
-    rw (← same) (c.select-verdict.result, c.select-verdict.ensures, c.tell_verdict.ensures)
+pub returns-in-Some-run_of-clause-usage : goal.returns-in-Some-run_of-clause-usage
+returns-in-Some-run_of-clause-usage g c = λ none_select none_run. absurd (none_run (the_run c.in-Some-run_of.words) (rw (← c.as_slice-2.ensures.value) c.in-Some-run_of.ensures))
+
+pub returns-in-Some-run_of-clause-runs : goal.returns-in-Some-run_of-clause-runs
+returns-in-Some-run_of-clause-runs g c = λ r is.
+    let same : the_run c.in-Some-run_of.words ≡ r = same_run _ _ _ c.in-Some-run_of.ensures (rw c.as_slice-2.ensures.value is) in
+    rw (← same) (c.run-verdict.result, c.run-verdict.ensures, c.tell_run_verdict.ensures)

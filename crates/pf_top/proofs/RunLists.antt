@@ -1,0 +1,32 @@
+-- The words of a run as lists.
+use Rattle.std.proofs.Common.{◌≡◌, ℕ, zero, suc, false, ◌==◌, ◌+◌, ◌-◌, ◌≤◌, ◌<◌, List, [], ◌∷◌, ◌++◌, length, map, take, drop, get_or, sym, ap, ◌∙◌, arith}
+use Rattle.std.proofs.lemmas.List.{take_more, take_all, length-map, map-append}
+
+last_item : {X : Type 0} (xs : List X) (c : X) → 1 ≤ length xs → c ≡ get_or xs (length xs - 1) c → xs ≡ take (length xs - 1) xs ++ c ∷ []
+last_item xs c some is =
+    let all : take (length xs - 1 + 1) xs ≡ xs = take_all (length xs - 1 + 1) xs (omega (arith, some)) in
+    let more : take (length xs - 1 + 1) xs ≡ take (length xs - 1) xs ++ get_or xs (length xs - 1) c ∷ [] = take_more xs (length xs - 1) c (omega (arith, some)) in
+    sym all ∙ more ∙ ap (λ d. take (length xs - 1) xs ++ d ∷ []) (sym is)
+
+-- three items or more are the first two, those between, and the last
+pub run_items : {X : Type 0} (xs : List X) (a b c : X) → 3 ≤ length xs → a ≡ get_or xs 0 a → b ≡ get_or xs 1 b → c ≡ get_or xs (length xs - 1) c
+    → xs ≡ a ∷ b ∷ (take (length xs - 1 - 2) (drop 2 xs) ++ c ∷ [])
+run_items [] a b c some ea eb ec = absurd (omega arith)
+run_items (x ∷ []) a b c some ea eb ec = absurd (omega arith)
+run_items (x ∷ y ∷ rest) a b c some ea eb ec =
+    let left : suc (suc (length rest)) - 1 - 2 ≡ length rest - 1 = omega arith in
+    let at : suc (suc (length rest)) - 1 ≡ suc (suc (length rest - 1)) = omega (arith, some) in
+    let last : c ≡ get_or rest (length rest - 1) c = ec ∙ ap (λ k. get_or (x ∷ y ∷ rest) k c) at in
+    let parts : rest ≡ take (length rest - 1) rest ++ c ∷ [] = last_item rest c (omega (arith, some)) last in
+    rw (ea, eb, left) (ap (λ r. x ∷ y ∷ r) parts)
+
+pub run_texts : {X : Type 0} (g : X → List ℕ) (xs : List X) (a b c : X) (between : List X) (u v w : List ℕ)
+    → xs ≡ a ∷ b ∷ (between ++ c ∷ []) → u ≡ g a → v ≡ g b → w ≡ g c → map g xs ≡ u ∷ v ∷ (map g between ++ w ∷ [])
+run_texts g xs a b c between u v w is eu ev ew = rw (is, eu, ev, ew) (ap (λ r. g a ∷ g b ∷ r) (map-append g between (c ∷ [])))
+
+not_zero : (n : ℕ) → false ≡ (n == 0) → 0 < n
+not_zero zero e = absurd (cc)
+not_zero (suc n) e = omega arith
+
+pub some_texts : {X : Type 0} (g : X → List ℕ) (xs : List X) → false ≡ (length xs == 0) → 0 < length (map g xs)
+some_texts g xs some = let mapped : length (map g xs) ≡ length xs = length-map xs g in let pos = not_zero (length xs) some in omega (arith, mapped, pos)

@@ -1,0 +1,55 @@
+-- The faults that a run may have on as many images as declared, of their types, and the images that they name.
+use Rattle.std.proofs.Common.{◌≡◌, ℕ, ℤ, ◌+◌, ◌<◌, arith, List, [], ◌∷◌, length, Err, inl, inr}
+use Rattle.std.specs.List.{AllZip}
+use Rattle.pf_ints.specs.Images.{Picture}
+use Rattle.pf_terms.specs.declared.kernel.ImageDecl.{ImageDecl}
+use Rattle.pf_isa.specs.Programs.{Text}
+use Rattle.pf_isa.specs.Tables.{Table}
+use Rattle.pf_run.specs.declared.fault.RunFault.{RunFault}
+use Rattle.pf_run.specs.declared.fault.RunFault.TheVariants.{Text as TextAt, Set, Outside, Spent, Memory}
+use Rattle.pf_run.specs.declared.fault.SetFault.TheVariants.{Count, Kind, Size, Pixel, NoOutput}
+use Rattle.pf_run.specs.Answers.{Ran}
+use Rattle.pf_run.specs.Sets.{IsFirstFault}
+use Rattle.pf_top.specs.declared.run_verdict.NotRun.{NotRun}
+use Rattle.pf_top.specs.declared.run_verdict.NotRun.TheVariants.{Size as NotRunSize, Pixel as NotRunPixel, NoOutput as NotRunNoOutput, Outside as NotRunOutside, Spent as NotRunSpent}
+use Rattle.pf_top.specs.Running.{Run, fault_of, IsImageAmong}
+use Rattle.pf_top.specs.RunSteps.{IsTellable}
+
+-- no image is of another type
+no_kind : (width height number image : ℕ) (decls : List ImageDecl) (pictures : List Picture) → AllZip (λ d p. p.ty ≡ d.ty) decls pictures → IsFirstFault width height number decls pictures (Kind image) → ⊥
+no_kind width height number image [] pictures types fault = fault
+no_kind width height number image (d ∷ ds) [] types fault = fault
+no_kind width height number image (d ∷ ds) (p ∷ ps) types (inl here) = here.1 types.0
+no_kind width height number image (d ∷ ds) (p ∷ ps) types (inr next) = no_kind width height (number + 1) image ds ps types.1 next.1
+
+pub tellable : {I O : Type 0} (t : Table O) (p : Text I O) (pictures : List Picture) (fault : RunFault)
+    → length pictures ≡ length p.head.images → AllZip (λ d q. q.ty ≡ d.ty) p.head.images pictures → Ran t p pictures (Err fault) → IsTellable fault
+tellable t p pictures (TextAt line kind) count types ran = ran
+tellable t p pictures (Set (Count want got)) count types ran = ran.1.0 count
+tellable t p pictures (Set (Kind image)) count types ran = no_kind _ _ 0 image p.head.images pictures types ran.1.1
+tellable t p pictures (Set (Size image width height)) count types ran = tt
+tellable t p pictures (Set (Pixel image x y value)) count types ran = tt
+tellable t p pictures (Set NoOutput) count types ran = tt
+tellable t p pictures (Outside at address long) count types ran = tt
+tellable t p pictures (Spent steps) count types ran = tt
+tellable t p pictures Memory count types ran = tt
+
+-- the image that a fault names is one of them
+size_within : (width height number : ℕ) (decls : List ImageDecl) (pictures : List Picture) (image w h : ℕ) → IsFirstFault width height number decls pictures (Size image w h) → image < number + length pictures
+size_within width height number [] pictures image w h fault = absurd fault
+size_within width height number (d ∷ ds) [] image w h fault = absurd fault
+size_within width height number (d ∷ ds) (p ∷ ps) image w h (inl here) = let same : image ≡ number = here.0 in omega (arith, same)
+size_within width height number (d ∷ ds) (p ∷ ps) image w h (inr next) = let low = size_within width height (number + 1) ds ps image w h next.1 in omega (arith, low)
+
+pixel_within : (width height number : ℕ) (decls : List ImageDecl) (pictures : List Picture) (image x y : ℕ) (n : ℤ) → IsFirstFault width height number decls pictures (Pixel image x y n) → image < number + length pictures
+pixel_within width height number [] pictures image x y n fault = absurd fault
+pixel_within width height number (d ∷ ds) [] image x y n fault = absurd fault
+pixel_within width height number (d ∷ ds) (p ∷ ps) image x y n (inl here) = let same : image ≡ number = here.0 in omega (arith, same)
+pixel_within width height number (d ∷ ds) (p ∷ ps) image x y n (inr next) = let low = pixel_within width height (number + 1) ds ps image x y n next.1 in omega (arith, low)
+
+pub image_among : {I O : Type 0} (t : Table O) (p : Text I O) (r : Run) (pictures : List Picture) (e : NotRun) → length pictures ≡ length r.images → Ran t p pictures (Err (fault_of e)) → IsImageAmong r e
+image_among t p r pictures (NotRunSize image w h) long ran = let low = size_within _ _ 0 p.head.images pictures image w h ran.1.1 in omega (arith, low, long)
+image_among t p r pictures (NotRunPixel image x y n) long ran = let low = pixel_within _ _ 0 p.head.images pictures image x y n ran.1.1 in omega (arith, low, long)
+image_among t p r pictures NotRunNoOutput long ran = tt
+image_among t p r pictures (NotRunOutside at address count) long ran = tt
+image_among t p r pictures (NotRunSpent steps) long ran = tt

@@ -1,0 +1,61 @@
+-- The statuses of `run` and the lines that it puts.
+use Rattle.std.specs.Prelude.{ℕ, ℤ, List, [], ◌∷◌, codes, decimal, Option, Some, None}
+use Rattle.std.specs.Fmt.{signed_decimal}
+use Rattle.pf_ints.specs.Targets.{target_word}
+use Rattle.pf_images.specs.Words.{kind_word}
+use Rattle.pf_isa.specs.TextFaults.{kind_word as text_kind_word}
+use Rattle.pf_top.specs.declared.image_files.ImageRefusal.{ImageRefusal}
+use Rattle.pf_top.specs.declared.image_files.ImageRefusal.TheVariants.{TooLong as ImageTooLong, At as ImageAt}
+use Rattle.pf_top.specs.declared.run_verdict.NotRun.{NotRun}
+use Rattle.pf_top.specs.declared.run_verdict.NotRun.TheVariants.{Size, Pixel, NoOutput, Outside, Spent}
+use Rattle.pf_top.specs.declared.run_verdict.RunFile.TheVariants.{Image}
+use Rattle.pf_top.specs.declared.run_verdict.RunVerdict.{RunVerdict}
+use Rattle.pf_top.specs.declared.run_verdict.RunVerdict.TheVariants.{Done, Missing, ReadFailed, TextRefused, Count, ImageRefused, NotRun as Prevented, WriteFailed, Memory}
+use Rattle.pf_top.specs.declared.text_file.TextRefusal.{TextRefusal}
+use Rattle.pf_top.specs.declared.text_file.TextRefusal.TheVariants.{TooLong, NotBuilt, At}
+use Rattle.pf_top.specs.Statuses.{Due, due, line_of, wanting, write_failed}
+use Rattle.pf_top.specs.Running.{Run, run_file_name}
+
+-- a text that is refused: 8 where its target is not run, and else 10 with the line and the kind of the fault
+abbrev pub text_due : List ℕ → TextRefusal → Due
+text_due name TooLong = due 10 (line_of (name ∷ codes ":0: limit" ∷ []))
+text_due name (NotBuilt target) = due 8 (line_of (codes "not built: " ∷ target_word target ∷ []))
+text_due name (At at kind) = due 10 (line_of (name ∷ codes ":" ∷ decimal at ∷ codes ": " ∷ text_kind_word kind ∷ []))
+
+-- the file of an image that is refused
+abbrev pub image_due : List ℕ → ImageRefusal → Due
+image_due name ImageTooLong = due 9 (line_of (name ∷ codes ": byte 33619968: limit" ∷ []))
+image_due name (ImageAt at kind) = due 9 (line_of (name ∷ codes ": byte " ∷ decimal at ∷ codes ": " ∷ kind_word kind ∷ []))
+
+-- the images that don't suit a program
+abbrev pub count_due : ℕ → ℕ → Due
+count_due want got = due 9 (line_of (codes "want " ∷ decimal want ∷ codes " images, got " ∷ decimal got ∷ []))
+
+abbrev pub size_due : List ℕ → ℕ → ℕ → Due
+size_due name width height = due 9 (line_of (name ∷ codes ": size " ∷ decimal width ∷ codes " " ∷ decimal height ∷ []))
+
+abbrev pub pixel_due : List ℕ → ℕ → ℕ → ℤ → Due
+pixel_due name x y value = due 9 (line_of (name ∷ codes ": pixel " ∷ decimal x ∷ codes " " ∷ decimal y ∷ codes " is " ∷ signed_decimal value ∷ []))
+
+-- a load or a store that no region allows
+abbrev pub outside_due : ℕ → ℕ → ℕ → Due
+outside_due at address length = due 11 (line_of (codes "outside: instruction " ∷ decimal at ∷ codes ", address " ∷ decimal address ∷ codes ", length " ∷ decimal length ∷ []))
+
+abbrev pub not_run_due : Run → NotRun → Due
+not_run_due r (Size n width height) = size_due (run_file_name r (Image n)) width height
+not_run_due r (Pixel n x y value) = pixel_due (run_file_name r (Image n)) x y value
+not_run_due r NoOutput = due 9 (line_of (codes "no output pixel" ∷ []))
+not_run_due r (Outside at address length) = outside_due at address length
+not_run_due r (Spent steps) = due 12 (line_of (codes "spent: " ∷ decimal steps ∷ codes " steps" ∷ []))
+
+-- what is due at each verdict of `run`; nothing is put on success
+abbrev pub run_due : Run → RunVerdict → Option Due
+run_due r Done = None
+run_due r (Missing w) = Some (due 3 (line_of (codes "no file: " ∷ run_file_name r w ∷ [])))
+run_due r (ReadFailed w) = Some (due 3 (line_of (codes "read failed: " ∷ run_file_name r w ∷ [])))
+run_due r (TextRefused e) = Some (text_due r.text e)
+run_due r (Count want got) = Some (count_due want got)
+run_due r (ImageRefused n e) = Some (image_due (run_file_name r (Image n)) e)
+run_due r (Prevented e) = Some (not_run_due r e)
+run_due r WriteFailed = Some (write_failed r.out)
+run_due r Memory = Some wanting

@@ -1,0 +1,120 @@
+//! The command `run`.
+
+ghost use Rattle.std.specs.Prelude.{◌≡◌, ◌<◌, ◌^◌, length};
+ghost use Rattle.std.specs.List.{AllZip};
+ghost use Rattle.pf_top.specs.Courses.{seen};
+ghost use Rattle.pf_top.specs.Running.{fault_of, RanTo};
+ghost use Rattle.pf_top.specs.RunSteps.{the_run, run_verdict_of, Counted, IsTellable, IsVerdictOf, Outputs};
+
+use crate::image_files::read_images;
+use crate::judging::write_file;
+use crate::run_verdict::{NotRun, RunVerdict};
+use crate::run_words::RunWords;
+use crate::text_file::read_program;
+use pf_images::{Files, write_pgm};
+use pf_ints::ImageSet;
+use pf_isa::Program;
+use pf_neon::Neon;
+use pf_run::{RunFault, SetFault, run_program};
+use std::alloc::Global;
+
+/// Judges the number of images.
+fn judge_count(want: usize, got: usize) -> Result<(), RunVerdict>
+    ensures { Counted want got result }
+{
+    if want == got {
+        return Ok(());
+    }
+    Err(RunVerdict::Count {
+        want: want as u64,
+        got: got as u64,
+    })
+}
+
+/// Why a program is not run, of what is wrong with as many images as declared, of their types.
+fn not_suited(fault: SetFault) -> NotRun
+    requires { IsTellable (RunFault.Set fault) }
+    ensures { RunFault.Set fault ≡ fault_of result }
+{
+    match fault {
+        SetFault::Size {
+            image,
+            width,
+            height,
+        } => NotRun::Size {
+            image,
+            width,
+            height,
+        },
+        SetFault::Pixel { image, x, y, value } => NotRun::Pixel { image, x, y, value },
+        SetFault::NoOutput => NotRun::NoOutput,
+        SetFault::Count { .. } | SetFault::Kind { .. } => unreachable!(),
+    }
+}
+
+/// What the call comes to where the program isn't run to its end.
+fn verdict_of(fault: RunFault) -> RunVerdict
+    requires { IsTellable fault }
+    ensures { IsVerdictOf fault result }
+{
+    match fault {
+        RunFault::Set(fault) => RunVerdict::NotRun(not_suited(fault)),
+        RunFault::Outside {
+            at,
+            address,
+            length,
+        } => RunVerdict::NotRun(NotRun::Outside {
+            at,
+            address,
+            length,
+        }),
+        RunFault::Spent { steps } => RunVerdict::NotRun(NotRun::Spent { steps }),
+        RunFault::Text { .. } => unreachable!(),
+        RunFault::Memory => RunVerdict::Memory,
+    }
+}
+
+/// The PGM file of what the program leaves of the images.
+fn output_of(
+    alloc: Global,
+    program: Program<Neon>,
+    images: &ImageSet,
+) -> Result<Vec<u8>, RunVerdict>
+    requires count { length images.now ≡ length program.head.images }
+    requires size { length program.code < 2 ^ 31 }
+    requires types { AllZip (λ d p. p.ty ≡ d.ty) program.head.images images.now }
+    ensures { Outputs (λ v. v.items) program images.now result }
+{
+    let output = match run_program::<Neon>(alloc, program, images) {
+        Ok(output) => output,
+        Err(fault) => return Err(verdict_of(fault)),
+    };
+    let text = write_pgm(alloc, &output)?;
+    Ok(text)
+}
+
+/// Reads and judges the text and then the images in the order of the words, each before the next is
+/// read, runs the text on the images, and writes what it leaves.
+fn run_files<F: Files>(alloc: Global, words: &RunWords<'_>, files: &mut F) -> Result<(), RunVerdict>
+    ensures { RanTo (the_run words.now) (seen F.held F.faults F.calls files.old) (run_verdict_of result)
+        (seen F.held F.faults F.calls files.new) }
+{
+    let program = read_program(alloc, files, words.text)?;
+    let decls = program.head().images.as_slice();
+    judge_count(decls.len(), words.images.len())?;
+    let images = read_images(alloc, files, words.images, decls)?;
+    let text = output_of(alloc, program, &images)?;
+    write_file(alloc, files, words.out, text.as_slice())?;
+    Ok(())
+}
+
+/// What the command `run` comes to.
+pub fn run<F: Files>(alloc: Global, words: &RunWords<'_>, files: &mut F) -> RunVerdict
+    ensures { RanTo (the_run words.now) (seen F.held F.faults F.calls files.old) result
+        (seen F.held F.faults F.calls files.new) }
+{
+    match run_files(alloc, words, files) {
+        Ok(()) => RunVerdict::Done,
+        Err(verdict) => verdict,
+    }
+}

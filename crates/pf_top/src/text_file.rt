@@ -1,0 +1,81 @@
+//! The file of a text.
+
+ghost use Rattle.std.specs.Prelude.{◌≡◌, ◌≢◌, ◌+◌, ◌^◌, ◌<◌, length, IfOk, MatchOption};
+ghost use Rattle.std.specs.Str.Lines.{lines};
+ghost use Rattle.pf_ints.specs.declared.target.Target.{Target};
+ghost use Rattle.pf_isa.specs.TextFaults.{IsFor};
+ghost use Rattle.pf_top.specs.Courses.{seen, Judged};
+ghost use Rattle.pf_top.specs.Running.{text_limit, IsTextFile, RefusesText};
+ghost use Rattle.pf_top.specs.Steps.{Finds};
+
+use crate::judging::{Stop, read_front};
+use pf_images::{Files, FilesFault};
+use pf_ints::Target;
+use pf_isa::{Program, TextFault, TextKind, read_text, target_of};
+use pf_neon::Neon;
+use std::alloc::Global;
+
+/// Why a text is not run.
+#[derive(Clone, Copy, Debug, PartialEq, Eq)]
+pub enum TextRefusal {
+    /// It has more bytes than are read.
+    TooLong,
+    /// Its first line names a target that is not run.
+    NotBuilt(Target),
+    /// The first fault of a text that is no program: its line, counted from 1, and its kind.
+    At { line: u64, kind: TextKind },
+}
+
+/// The most bytes of a text.
+#[tactic(auto, unfolding(crate::specs::Running::text_limit))]
+fn text_limit() -> u64
+    ensures value { result ≡ text_limit }
+    ensures low { result < 4294967296 }
+{
+    2_147_483_647
+}
+
+/// The target that the first line of a text names, where it is another than neon.
+#[tactic(auto, using(crate::proofs::TextFiles::one_target))]
+fn other_target(text: &[u8]) -> Option<Target>
+    ensures { MatchOption result ((t : Target) → IsFor t (lines text.now) → t ≡ Target.Neon)
+        (λ t. IsFor t (lines text.now) × (t ≢ Target.Neon)) }
+{
+    let target = target_of(text)?;
+    if target == Target::Neon {
+        return None;
+    }
+    Some(target)
+}
+
+/// The program that the text is of.
+fn program_of(alloc: Global, text: &[u8]) -> Result<Program<Neon>, Stop<TextRefusal>>
+    ensures found { Finds IsTextFile RefusesText result text.now }
+    ensures size { IfOk result (λ p. length p.code < 2 ^ 31) }
+{
+    if text.len() as u64 > text_limit() {
+        return Err(Stop::Refused(TextRefusal::TooLong));
+    }
+    if let Some(target) = other_target(text) {
+        return Err(Stop::Refused(TextRefusal::NotBuilt(target)));
+    }
+    match read_text::<Neon>(alloc, text) {
+        Ok(program) => Ok(program),
+        Err(TextFault::At { line, kind }) => Err(Stop::Refused(TextRefusal::At { line, kind })),
+        Err(TextFault::Memory) => Err(Stop::Unread(FilesFault::Memory)),
+    }
+}
+
+/// The program of a text's file.
+pub fn read_program<F: Files>(
+    alloc: Global,
+    files: &mut F,
+    name: &str,
+) -> Result<Program<Neon>, Stop<TextRefusal>>
+    ensures judged { Judged IsTextFile RefusesText name.now (text_limit + 1)
+        (seen F.held F.faults F.calls files.old) result (seen F.held F.faults F.calls files.new) }
+    ensures size { IfOk result (λ p. length p.code < 2 ^ 31) }
+{
+    let text = read_front(alloc, files, name, text_limit() + 1)?;
+    program_of(alloc, text.as_slice())
+}
