@@ -49,9 +49,9 @@ run_file_name r (Image n) = slice_index_or r.images n []
 unfoldable pub text_limit : ℕ
 text_limit = 2 ^ 31 - 1
 
--- the bytes are a text of this program for neon, within the limit
+-- the bytes are a text of this program for neon and of no other, within the limit
 abbrev pub IsTextFile : Text Neon Form → List ℕ → Type 0
-IsTextFile p bytes = (length bytes ≤ text_limit) × IsText table IsForm bytes p
+IsTextFile p bytes = (length bytes ≤ text_limit) × IsText table IsForm bytes p × ((q : Text Neon Form) → IsText table IsForm bytes q → p ≡ q)
 
 -- the bytes are a text of no program for neon
 abbrev pub IsNoText : List ℕ → Type 0
