@@ -1,15 +1,13 @@
-use Rattle.std.proofs.Common.{rules, ◌≡◌, refl, sym, ap, ◌∙◌, subst, ℕ, ◌<◌, arith, true, false, List, [], ◌∷◌, length, get_or}
-use Rattle.std.specs.Prelude.{◌≢◌, All, codes}
+use Rattle.std.proofs.Common.{rules, ◌≡◌, refl, sym, ap, subst, ℕ, ◌<◌, arith, true, false, List, [], ◌∷◌, get_or}
+use Rattle.std.specs.Prelude.{◌≢◌}
 use Rattle.std.specs.List.{AllPairs}
 use Rattle.std.proofs.lemmas.List.Kept.{AllPairs-cons}
-use Rattle.pf_ints.specs.declared.lane.LaneType.{LaneType}
 use Rattle.pf_ints.specs.declared.lane.Bits.TheVariants.{Eight, Sixteen}
 use Rattle.pf_ints.specs.Images.{IsPixelType}
 use Rattle.pf_ints.specs.Words.{is_name, is_reserved}
 use Rattle.pf_terms.specs.declared.names.DefName.{DefName}
 use Rattle.pf_terms.specs.declared.names.ImageName.{ImageName}
 use Rattle.pf_terms.specs.declared.names.Names.{Names}
-use Rattle.pf_terms.specs.declared.names.Tap.{Tap}
 use Rattle.pf_terms.specs.KernelNames.{IsNames, IsNearTap}
 use Rattle.pf_terms.proofs.TapLists.{all_of_each}
 use Rattle.pf_terms.proofs.read_tests.some_names.Goals as goal
