@@ -1,6 +1,6 @@
 -- What lines of code say, with one line more.
-use Rattle.std.proofs.Common.{◌≡◌, ℕ, zero, suc, ◌+◌, ◌-◌, ◌<◌, ◌≤◌, List, [], ◌∷◌, ◌++◌, length, take, drop, map, Bool, true, false, not, ◌||◌, Option, Some, None, refl, sym, ◌∙◌, ap, subst, arith, get_or, ⊎_elim, append_assoc, if◌then◌else◌}
-use Rattle.std.specs.Prelude.{Ok, Err, Result, Contains, slice_index_or, IsTrue, ◌≢◌}
+use Rattle.std.proofs.Common.{◌≡◌, ℕ, suc, ◌+◌, ◌-◌, ◌<◌, ◌≤◌, List, [], ◌∷◌, ◌++◌, length, take, drop, map, Bool, true, false, not, ◌||◌, Option, Some, None, refl, sym, ◌∙◌, ap, subst, arith, get_or, ⊎_elim, append_assoc, if◌then◌else◌}
+use Rattle.std.specs.Prelude.{Ok, Err, Result, Contains, slice_index_or, ◌≢◌}
 use Rattle.std.specs.Borrow.{Bor}
 use Rattle.std.specs.List.{AllPairs, AllZip, list_any, last_or, slice_get, drop-map}
 use Rattle.std.specs.Result.{IfErr, IsErrAnd}
@@ -13,19 +13,15 @@ use Rattle.std.proofs.lemmas.List.Quantifiers.{all_pairs_push}
 use Rattle.std.proofs.lemmas.Map.Views.{Contains-from_any, list_any-from_Contains}
 use Rattle.std.proofs.lemmas.Cmp.{nat_list_eq_equiv}
 use Rattle.std.proofs.lemmas.Slice.Eq.{bytes_eq-Decides}
-use Rattle.pf_ints.specs.Words.{is_name}
-use Rattle.pf_isa.specs.declared.code.Label.{Label}
 use Rattle.pf_isa.specs.declared.code.Line.{Line}
-use Rattle.pf_isa.specs.declared.code.Line.TheVariants.{Vector, Control as Controls}
 use Rattle.pf_isa.specs.declared.fault.TextFault.{TextFault}
 use Rattle.pf_isa.specs.declared.fault.TextFault.TheVariants.{At, Memory}
-use Rattle.pf_isa.specs.declared.fault.TextKind.TheVariants.{Label as LabelFault}
 use Rattle.pf_isa.specs.declared.read_code.Reading.{Reading}
 use Rattle.pf_isa.specs.Tables.{Table}
-use Rattle.pf_isa.specs.Texts.{Said, Nothing, Named, Does, Says, code_of, labels_of}
-use Rattle.pf_isa.specs.TextFaults.{IsKnown, SaysKnown, texts, label_names, AreRead, IsLineFault}
+use Rattle.pf_isa.specs.Texts.{Said, Nothing, Named, Does, code_of, labels_of}
+use Rattle.pf_isa.specs.TextFaults.{SaysKnown, texts, label_names}
 use Rattle.pf_isa.proofs.PlaceLaws.{take_item, split_item}
-use Rattle.pf_isa.specs.CodeReading.{jump_label, jump_of, jumps_of, has_name, IsReading, HasLabel, AddsLabel, HasInstruction, AddsInstruction, IsTaken, IsLineRefusal}
+use Rattle.pf_isa.specs.CodeReading.{jump_of, jumps_of, has_name, IsReading, AddsLabel, AddsInstruction, IsTaken, IsLineRefusal}
 
 zip_push : {A B : Type 0} (R : A → B → Type 0) (xs : List A) (ys : List B) (x : A) (y : B) → AllZip R xs ys → R x y → AllZip R (xs ++ x ∷ []) (ys ++ y ∷ [])
 zip_push R [] [] x y z r = (r, tt)

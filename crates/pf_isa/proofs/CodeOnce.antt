@@ -1,6 +1,6 @@
 -- Lines of code say one thing, and no fault is told of them where they say it.
-use Rattle.std.proofs.Common.{◌≡◌, ℕ, zero, suc, ◌+◌, ◌<◌, ◌≤◌, List, [], ◌∷◌, ◌++◌, length, map, Bool, true, false, Option, Some, None, refl, sym, ◌∙◌, ap, subst, arith, All, ⊎_elim}
-use Rattle.std.specs.Prelude.{Contains, IsTrue, ◌≢◌, ◌⊎◌, Result, Ok, Err}
+use Rattle.std.proofs.Common.{◌≡◌, ℕ, ◌+◌, ◌<◌, ◌≤◌, List, [], ◌∷◌, ◌++◌, length, map, Option, Some, None, refl, sym, ◌∙◌, ap, subst, arith, All, ⊎_elim}
+use Rattle.std.specs.Prelude.{Contains, ◌≢◌, Result, Ok, Err}
 use Rattle.std.specs.List.{AllPairs, AllZip, last_or}
 use Rattle.std.specs.Result.{IfOk, IfErr}
 use Rattle.std.proofs.Math.ListN.{get_or-append, get_or-map}
@@ -10,17 +10,15 @@ use Rattle.std.proofs.lemmas.List.Elements.{All-nil, All-cons, All-head, All-tai
 use Rattle.pf_isa.specs.declared.code.Label.{Label}
 use Rattle.pf_isa.specs.declared.code.Line.{Line}
 use Rattle.pf_isa.specs.declared.code.Line.TheVariants.{Vector, Control as Controls}
-use Rattle.pf_isa.specs.declared.control.Control.{Control}
 use Rattle.pf_isa.specs.declared.fault.TextFault.{TextFault}
 use Rattle.pf_isa.specs.declared.fault.TextFault.TheVariants.{At, Memory}
 use Rattle.pf_isa.specs.declared.fault.TextKind.{TextKind}
 use Rattle.pf_isa.specs.declared.fault.TextKind.TheVariants.{Target, Directive, Instruction, Label as LabelFault, NoEnd}
 use Rattle.pf_isa.specs.Programs.{jumps_to, IsThere, IsInstructionOf, IsLast}
-use Rattle.pf_isa.specs.Control.{IsControl}
 use Rattle.pf_isa.specs.Lines.{tight, IsInstruction}
 use Rattle.pf_isa.specs.Tables.{Table, IsTable}
-use Rattle.pf_isa.specs.Texts.{Said, Nothing, Named, Does, Says, code_of, labels_of, label_text, uncommented, line_text, IsOpOf, IsCodeText}
-use Rattle.pf_isa.specs.TextFaults.{IsKnown, SaysKnown, label_names, AreRead, IsNamed, HasPlace, IsLineFault, IsBadLine, IsBadJump, IsOpenEnd, IsCodeFaultAt, IsCodeRefusal, IsCodeOr}
+use Rattle.pf_isa.specs.Texts.{Said, Nothing, Named, Does, Says, code_of, labels_of, label_text, line_text, IsOpOf, IsCodeText}
+use Rattle.pf_isa.specs.TextFaults.{IsKnown, SaysKnown, label_names, IsNamed, HasPlace, IsLineFault, IsBadLine, IsBadJump, IsCodeFaultAt, IsCodeRefusal, IsCodeOr}
 use Rattle.pf_isa.proofs.CodeTexts.{names_of_labels}
 
 -- ---- one line

@@ -1,6 +1,6 @@
 -- What all lines of a code say together.
-use Rattle.std.proofs.Common.{◌≡◌, ℕ, zero, suc, ◌+◌, ◌-◌, ◌<◌, ◌≤◌, List, [], ◌∷◌, ◌++◌, length, map, drop, Bool, true, false, Option, Some, None, refl, sym, ◌∙◌, ap, subst, arith, All, inr}
-use Rattle.std.specs.Prelude.{Contains, IsTrue, ◌≢◌, ◌⊎◌}
+use Rattle.std.proofs.Common.{◌≡◌, ℕ, suc, ◌+◌, ◌-◌, ◌≤◌, List, [], ◌∷◌, ◌++◌, length, map, drop, Bool, true, false, Option, Some, None, refl, sym, ◌∙◌, ap, subst, arith, All, inr}
+use Rattle.std.specs.Prelude.{Contains, ◌≢◌, ◌⊎◌}
 use Rattle.std.specs.Borrow.{Bor}
 use Rattle.std.specs.List.{AllPairs, AllZip, list_any, last_or, drop-map}
 use Rattle.std.proofs.lemmas.List.{length-map, length-drop}

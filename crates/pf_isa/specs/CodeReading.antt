@@ -4,12 +4,10 @@ use Rattle.std.specs.Borrow.{Bor}
 use Rattle.std.specs.HashSet.{HashSet, contains_by}
 use Rattle.std.specs.List.{list_any}
 use Rattle.std.specs.Str.{bytes_eq}
-use Rattle.pf_isa.specs.declared.code.Label.{Label as LabelOf}
 use Rattle.pf_isa.specs.declared.code.Line.{Line}
 use Rattle.pf_isa.specs.declared.code.Line.TheVariants.{Vector, Control as Controls}
 use Rattle.pf_isa.specs.declared.fault.TextFault.{TextFault}
 use Rattle.pf_isa.specs.declared.fault.TextFault.TheVariants.{At, Memory}
-use Rattle.pf_isa.specs.declared.fault.TextKind.{TextKind}
 use Rattle.pf_isa.specs.declared.fault.TextKind.TheVariants.{Label as LabelFault}
 use Rattle.pf_isa.specs.declared.jumps.Jump.{Jump}
 use Rattle.pf_isa.specs.declared.read_code.Reading.{Reading}

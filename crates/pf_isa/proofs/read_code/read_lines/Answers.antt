@@ -1,7 +1,6 @@
-use Rattle.std.proofs.Common.{◌≡◌, sym, List, ℕ, take, drop, refl, [], arith}
+use Rattle.std.proofs.Common.{sym, take, drop, refl, [], arith}
 use Rattle.pf_isa.specs.TextFaults.{texts}
-use Rattle.pf_isa.specs.CodeReading.{IsLineRefusal}
-use Rattle.pf_isa.proofs.CodeLaws.{carried, text_at, number_at, reading_on, line_refused, all_read}
+use Rattle.pf_isa.proofs.CodeLaws.{carried, text_at, number_at, reading_on, line_refused}
 use Rattle.pf_isa.proofs.read_code.read_lines.Goals as goal
 
 pub loop-n-init : goal.loop-n-init

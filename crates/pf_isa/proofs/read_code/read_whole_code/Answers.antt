@@ -1,4 +1,4 @@
-use Rattle.std.proofs.Common.{◌≡◌, ◌+◌, sym, ◌∙◌, drop, length, true, false, All, List, ℕ}
+use Rattle.std.proofs.Common.{◌≡◌, drop, true, All}
 use Rattle.std.specs.List.{last_or}
 use Rattle.std.specs.Prelude.{None}
 use Rattle.pf_isa.specs.Programs.{IsLast}
