@@ -1,25 +1,24 @@
 -- The lines of a head go on from nothing to the whole head.
-use Rattle.std.proofs.Common.{◌≡◌, ◌≢◌, refl, sym, ap, ◌∙◌, subst, inl, inr, ⊎_elim, zero, suc, ℕ, ◌+◌, ◌≤◌, ◌<◌, ◌^◌, List, [], ◌∷◌, ◌++◌, length, map, get_or, Bool, true, false, arith, append_assoc, length-append, All, rules, if◌then◌else◌}
+use Rattle.std.proofs.Common.{◌≡◌, ◌≢◌, refl, sym, ap, ◌∙◌, subst, inl, inr, ⊎_elim, suc, ℕ, ◌+◌, ◌<◌, List, [], ◌∷◌, ◌++◌, length, map, true, false, arith, append_assoc, length-append, All, if◌then◌else◌}
 use Rattle.std.specs.Prelude.{◌⊎◌, IsTrue, Contains, sum, codes}
 use Rattle.std.specs.Str.{bytes_eq}
 use Rattle.std.specs.List.{AllPairs, AllZip}
 use Rattle.std.proofs.lemmas.Bool.{cases_Bool}
 use Rattle.std.proofs.lemmas.Slice.Eq.{bytes_eq-Decides}
-use Rattle.std.proofs.lemmas.List.{append-nil, map-append, map_push, length-map}
+use Rattle.std.proofs.lemmas.List.{append-nil, map-append, map_push}
 use Rattle.pf_ints.specs.declared.target.Target.{Target}
-use Rattle.pf_ints.specs.Words.{is_name, is_spelled, is_reserved}
+use Rattle.pf_ints.specs.Words.{is_name, is_reserved}
 use Rattle.pf_terms.specs.declared.kernel.Definition.{Definition}
 use Rattle.pf_terms.specs.declared.kernel.ImageDecl.{ImageDecl}
-use Rattle.pf_terms.specs.declared.names.Names.{Names}
 use Rattle.pf_terms.specs.declared.names.Tap.{Tap}
 use Rattle.pf_terms.specs.Terms.{node_count}
 use Rattle.pf_terms.specs.TermTexts.{no_type}
 use Rattle.pf_isa.specs.declared.program.Head.{Head}
-use Rattle.pf_isa.specs.declared.so_far.Stage.TheVariants.{Declarations, Scratch, Lifted, Cost, Code}
-use Rattle.pf_isa.specs.Heads.{image_name, def_name, names_of, with_def, IsDecl, IsTap, IsLifted, AreLifted, AreLiftedNames, IsHead}
+use Rattle.pf_isa.specs.declared.so_far.Stage.TheVariants.{Declarations, Scratch, Lifted, Cost}
+use Rattle.pf_isa.specs.Heads.{image_name, def_name, with_def, IsDecl, IsTap, IsLifted, AreLifted, AreLiftedNames, IsHead}
 use Rattle.pf_isa.specs.Lines.{IsLine}
-use Rattle.pf_isa.specs.Texts.{IsHeadText, IsLiftedLine, AreLiftedLines, target_line, image_line, tap_line, out_line, scratch_line, cost_line, declaration_lines}
-use Rattle.pf_isa.specs.TextFaults.{SoFar, nothing, names_in, names_so_far, nodes_so_far, with_image, with_tap, with_lifted, stage_behind, IsNextImage, IsNextTap, IsNextLifted, GoesOn, GoOn}
+use Rattle.pf_isa.specs.Texts.{IsHeadText, AreLiftedLines, target_line, image_line, tap_line, out_line, scratch_line, declaration_lines}
+use Rattle.pf_isa.specs.TextFaults.{SoFar, nothing, names_so_far, nodes_so_far, stage_behind, IsNextImage, IsNextTap, IsNextLifted, GoOn}
 use Rattle.pf_isa.specs.HeadSteps.{whole}
 use Rattle.pf_isa.proofs.ListLaws.{item_at, fresh, sum_split, zip_split}
 
@@ -183,4 +182,3 @@ chain_of target ls h is text (first ∷ decls) same =
 
 pub head_chain : (target : Target) (ls : List (List ℕ)) (h : Head) → IsHead h → IsHeadText target ls h → IsChain target ls h
 head_chain target ls h is text = chain_of target ls h is text text.declarations refl
-

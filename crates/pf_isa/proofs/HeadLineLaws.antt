@@ -1,5 +1,5 @@
 -- A line goes on as its words do.
-use Rattle.std.proofs.Common.{◌≡◌, ◌≢◌, refl, sym, ap, ◌∙◌, subst, inl, inr, ⊎_elim, ℕ, ◌+◌, ◌-◌, ◌≤◌, ◌<◌, ◌^◌, List, [], ◌∷◌, ◌++◌, length, take, drop, map, Bool, true, false, Option, Some, None, arith, get_or, length-append, pos, append_assoc, All, ◌==◌}
+use Rattle.std.proofs.Common.{◌≡◌, ◌≢◌, refl, sym, ap, ◌∙◌, subst, inl, inr, ⊎_elim, ℕ, ◌+◌, ◌-◌, ◌≤◌, ◌<◌, ◌^◌, List, [], ◌∷◌, ◌++◌, length, take, drop, map, Bool, true, false, Option, Some, None, arith, get_or, length-append, pos, append_assoc, All}
 use Rattle.std.specs.Prelude.{◌⊎◌, Result, Ok, Err, IfOk, IsTrue, Contains, codes, decimal}
 use Rattle.std.specs.Fmt.{signed_decimal}
 use Rattle.std.specs.List.{position, position_or_len}
@@ -28,9 +28,9 @@ use Rattle.pf_isa.specs.declared.so_far.Stage.{Stage}
 use Rattle.pf_isa.specs.declared.so_far.Stage.TheVariants.{Declarations, Scratch, Lifted, Cost, Code}
 use Rattle.pf_isa.specs.Heads.{image_name, def_name, IsDecl, IsTap}
 use Rattle.pf_isa.specs.HeadWords.{IsTheOne, IsLiftedName, is_sign, words_in, image_words, tap_words, out_words, scratch_words, cost_words, lifted_words}
-use Rattle.pf_isa.specs.HeadSteps.{ImageGoesOn, TapGoesOn, OutGoesOn, OutWordsGoOn, TapOrOutGoesOn, DeclarationGoesOn, WordsGoOn, LiftedGoesOn, IsReadyAt}
+use Rattle.pf_isa.specs.HeadSteps.{ImageGoesOn, TapGoesOn, OutWordsGoOn, TapOrOutGoesOn, DeclarationGoesOn, WordsGoOn, LiftedGoesOn, IsReadyAt}
 use Rattle.pf_isa.specs.Lines.{IsLine}
-use Rattle.pf_isa.specs.Texts.{IsLiftedLine, image_line, tap_line, out_line, scratch_line, cost_line, lifted_front}
+use Rattle.pf_isa.specs.Texts.{image_line, tap_line, out_line, scratch_line, cost_line, lifted_front}
 use Rattle.pf_isa.specs.TextFaults.{SoFar, names_in, names_so_far, with_lifted, stage_behind, GoesOn, GoesOnAt}
 use Rattle.pf_isa.proofs.WordLines.{IsWord, AreWords, spaced_line, words_of_line, line_of_words, key_word, name_word, type_word_is, number_word, offset_word}
 
@@ -196,10 +196,10 @@ parted line i found =
     record {
       parts = sym (take-append-drop (i + 1) line) ∙ ap (λ l. l ++ drop (i + 1) line) front ∙ append_assoc (take i line) (61 ∷ []) (drop (i + 1) line);
       first = λ k d lt e.
-        let below : k < i = omega (arith, lt, length-take i line) in
-        let same : get_or (take i line) k d ≡ get_or line k d = get_or-take i line k d below in
-        let other = (position-Some is_sign line i d (sym found)).2 k below in
-        absurd (let here : is_sign 61 ≡ false = ap is_sign (sym e ∙ same) ∙ other in cc);
+          let below : k < i = omega (arith, lt, length-take i line) in
+          let same : get_or (take i line) k d ≡ get_or line k d = get_or-take i line k d below in
+          let other = (position-Some is_sign line i d (sym found)).2 k below in
+          absurd (let here : is_sign 61 ≡ false = ap is_sign (sym e ∙ same) ∙ other in cc);
       front = front;
     }
 
@@ -208,8 +208,7 @@ lifted_there : (h : Head) (line : List ℕ) (i : ℕ) (name : List ℕ) (ty : La
 lifted_there h line i name ty next found named words (new, room, (d, is, made)) =
     let p = parted line i found in
     let same_words : words_in (take (i + 1) line) ≡ lifted_words d.name d.ty = words ∙ ap (λ n. lifted_words n ty) (sym is.0) ∙ ap (lifted_words d.name) (sym is.1) in
-    let printed : IsLine (take (i + 1) line) (lifted_front d) = (lifted_both (take (i + 1) line) d (subst IsLiftedName (sym is.0) named)).back same_words in
-    (
+    let printed : IsLine (take (i + 1) line) (lifted_front d) = (lifted_both (take (i + 1) line) d (subst IsLiftedName (sym is.0) named)).back same_words in (
       d,
       record { front = take i line; term = drop (i + 1) line; parts = p.parts; first = p.first; printed = subst (λ l. IsLine l (lifted_front d)) p.front printed; means = is.2 },
       record { lifted = is.3; name = subst (λ n. (n ≡ codes "out") ⊎ (IsTrue (is_name n) × (length h.lifted < 64))) (sym is.0) room; new = subst (λ n. Contains (names_in h) n → ⊥) (sym is.0) new; nodes = is.4 },

@@ -1,9 +1,9 @@
 -- What lines that go on from nothing say, all in all.
-use Rattle.std.proofs.Common.{◌≡◌, ◌≢◌, refl, sym, ap, ◌∙◌, subst, inl, inr, ⊎_elim, zero, suc, ℕ, ◌+◌, ◌≤◌, ◌<◌, ◌^◌, List, [], ◌∷◌, ◌++◌, length, map, get_or, Bool, true, false, arith, append_assoc, length-append, All, rules, if◌then◌else◌}
+use Rattle.std.proofs.Common.{◌≡◌, ◌≢◌, refl, sym, ap, ◌∙◌, subst, ⊎_elim, suc, ℕ, ◌+◌, ◌≤◌, ◌<◌, ◌^◌, List, [], ◌∷◌, ◌++◌, length, map, Bool, true, false, arith, append_assoc, All, if◌then◌else◌}
 use Rattle.std.specs.Prelude.{IsTrue, Contains, sum, codes}
 use Rattle.std.specs.Str.{bytes_eq}
 use Rattle.std.specs.List.{AllPairs, AllZip}
-use Rattle.std.proofs.lemmas.List.{append-nil, map-append, map_push, length-map, length_push}
+use Rattle.std.proofs.lemmas.List.{append-nil, map_push, length-map, length_push}
 use Rattle.std.proofs.lemmas.List.Elements.{All-nil, All-cons, All-head, All-tail, All-push, All-append}
 use Rattle.std.proofs.lemmas.List.Quantifiers.{all_pairs_push}
 use Rattle.std.proofs.lemmas.Slice.Eq.{bytes_eq-Decides}
@@ -23,9 +23,9 @@ use Rattle.pf_isa.specs.declared.so_far.Stage.TheVariants.{Declarations, Scratch
 use Rattle.pf_isa.specs.Heads.{image_name, def_name, names_of, with_def, IsDecl, IsTap, IsLifted, AreLifted, AreLiftedNames, IsHead}
 use Rattle.pf_isa.specs.Lines.{IsLine}
 use Rattle.pf_isa.specs.Texts.{IsHeadText, IsLiftedLine, AreLiftedLines, target_line, image_line, tap_line, out_line, scratch_line, cost_line}
-use Rattle.pf_isa.specs.TextFaults.{SoFar, nothing, names_in, names_so_far, nodes_so_far, with_image, with_tap, with_lifted, stage_behind, IsNextImage, IsNextTap, IsNextLifted, GoesOn, GoesOnAt, GoOn}
+use Rattle.pf_isa.specs.TextFaults.{SoFar, nothing, names_in, names_so_far, nodes_so_far, with_image, with_tap, with_lifted, IsNextImage, IsNextTap, IsNextLifted, GoesOnAt, GoOn}
 use Rattle.pf_isa.specs.HeadSteps.{whole, IsReached, IsReady, IsReadyAt}
-use Rattle.pf_isa.proofs.ListLaws.{different, sum_split, zip_more, zip_join}
+use Rattle.pf_isa.proofs.ListLaws.{different, sum_split, zip_more}
 
 abbrev images_lines : Head → List (List ℕ)
 images_lines h = map image_line h.images
@@ -238,7 +238,7 @@ step_out h ls line g said images taps lifted is pixel some = record {
     sym lifted ∙ said.at.0,
     record { some = subst (λ (l : List ImageDecl). 1 ≤ length l) images some; out_ty = pixel },
     zip_more IsLine ls (declared g) line (out_line g.out_ty)
-    (subst (λ l. AllZip IsLine ls (images_lines g ++ map (tap_line (map image_name g.images)) l)) taps (subst (λ l. AllZip IsLine ls (map image_line l ++ map (tap_line (map image_name l)) h.taps)) images said.at.1)) is,
+        (subst (λ l. AllZip IsLine ls (images_lines g ++ map (tap_line (map image_name g.images)) l)) taps (subst (λ l. AllZip IsLine ls (map image_line l ++ map (tap_line (map image_name l)) h.taps)) images said.at.1)) is,
   );
 }
 
@@ -350,7 +350,7 @@ names_from h few_images decls few_taps taps distinct_taps distinct named few =
       few_defs = omega (arith, few, length-map h.lifted def_name);
       pixels = pixels_of h.images decls;
       named = subst (λ l. All (λ s. is_name s ≡ true) (l ++ map (λ d. d.name) (map def_name h.lifted))) (sym images)
-      (subst (λ l. All (λ s. is_name s ≡ true) (map (λ d. d.name) h.images ++ l)) (sym defs) (All-append (λ s. is_name s ≡ true) (map (λ d. d.name) h.images) (map (λ d. d.name) h.lifted) (named_of h.images decls) named));
+          (subst (λ l. All (λ s. is_name s ≡ true) (map (λ d. d.name) h.images ++ l)) (sym defs) (All-append (λ s. is_name s ≡ true) (map (λ d. d.name) h.images) (map (λ d. d.name) h.lifted) (named_of h.images decls) named));
       distinct_names = subst (λ l. AllPairs (λ s t. s ≢ t) (l ++ map (λ d. d.name) (map def_name h.lifted))) (sym images) (subst (λ l. AllPairs (λ s t. s ≢ t) (map (λ d. d.name) h.images ++ l)) (sym defs) distinct);
       near = subst (λ n. All (IsNearTap n) h.taps) (sym long) (λ k d lt. let t = taps k d lt in record { image = t.image; across = record { low = t.left; high = t.right }; down = record { low = t.up; high = t.down } });
       distinct_taps = distinct_taps;

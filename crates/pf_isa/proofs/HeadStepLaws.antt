@@ -1,6 +1,6 @@
 -- What the next line of a head says is one thing.
-use Rattle.std.proofs.Common.{◌≡◌, ◌≢◌, refl, sym, ap, ◌∙◌, subst, inl, inr, ⊎_elim, ℕ, ◌+◌, ◌≤◌, ◌<◌, List, [], ◌∷◌, ◌++◌, length, map, Bool, true, false, Option, Some, None, arith, get_or, length-append, append_assoc, cond}
-use Rattle.std.specs.Prelude.{Result, Ok, Err, IfOk, IfSome, IsTrue, Contains, codes}
+use Rattle.std.proofs.Common.{◌≡◌, ◌≢◌, refl, sym, ap, ◌∙◌, subst, inl, inr, ⊎_elim, ℕ, ◌≤◌, ◌<◌, List, [], ◌∷◌, ◌++◌, length, map, true, false, Option, Some, None, arith, get_or, length-append, cond}
+use Rattle.std.specs.Prelude.{Result, Ok, Err, IfOk, IfSome, Contains, codes}
 use Rattle.std.specs.List.{list_any}
 use Rattle.std.proofs.lemmas.List.{length-map}
 use Rattle.pf_ints.specs.declared.lane.LaneType.{LaneType}
@@ -14,12 +14,10 @@ use Rattle.pf_terms.specs.declared.meaning.ReadFault.{ReadFault}
 use Rattle.pf_terms.specs.declared.meaning.ReadFault.TheVariants.{Syntax, Name, Types, Amount, Limit, Memory}
 use Rattle.pf_terms.specs.declared.term.Term.{Term}
 use Rattle.pf_terms.specs.Meanings.{IsTermText, IsTermOr, with_taps, tap_uses, same_tap}
-use Rattle.pf_terms.specs.Terms.{IsWellTyped, stated_type, node_count, depth_of}
+use Rattle.pf_terms.specs.Terms.{IsWellTyped}
 use Rattle.pf_terms.specs.TermTexts.{is_named}
 use Rattle.pf_isa.specs.declared.program.Head.{Head}
-use Rattle.pf_isa.specs.declared.so_far.Stage.{Stage}
-use Rattle.pf_isa.specs.declared.so_far.Stage.TheVariants.{Declarations, Scratch, Lifted, Cost, Code}
-use Rattle.pf_isa.specs.Heads.{image_name, IsDecl, IsTap, IsLifted}
+use Rattle.pf_isa.specs.Heads.{image_name, IsDecl, IsTap}
 use Rattle.pf_isa.specs.HeadWords.{IsTheOne, image_words, tap_words, out_words}
 use Rattle.pf_isa.specs.HeadSteps.{ImageGoesOn, TapGoesOn, OutGoesOn, OutWordsGoOn, TapOrOutGoesOn, DeclarationGoesOn, IsFitting, IsDefinitionOf, IsRoom, TermGoesOn, LiftedGoesOn}
 use Rattle.pf_isa.specs.TextFaults.{SoFar, names_in, names_so_far, nodes_so_far, with_lifted, stage_behind}
@@ -53,9 +51,12 @@ image_goes h ws d (Err e) (says, only) is = is
 image_goes h ws d (Ok None) (says, only) is = λ next. λ k. ⊎_elim
     (λ (i : (e : ImageDecl) × (ws ≡ image_words e) × ImageGoesOn h e next). is next (subst (λ e. ImageGoesOn h e next) (only i.0 (i.2.0.decl, i.1)) i.2))
     (λ (o : TapOrOutGoesOn h ws next). no_image_word h ws d next says.1 o) k
-image_goes h ws d (Ok (Some s)) (says, only) is = (inl (d, says.1, is.0), λ next k. ⊎_elim
-    (λ (i : (e : ImageDecl) × (ws ≡ image_words e) × ImageGoesOn h e next). is.1 next (subst (λ e. ImageGoesOn h e next) (only i.0 (i.2.0.decl, i.1)) i.2))
-    (λ (o : TapOrOutGoesOn h ws next). absurd (no_image_word h ws d next says.1 o)) k)
+image_goes h ws d (Ok (Some s)) (says, only) is = (
+  inl (d, says.1, is.0),
+  λ next k. ⊎_elim
+      (λ (i : (e : ImageDecl) × (ws ≡ image_words e) × ImageGoesOn h e next). is.1 next (subst (λ e. ImageGoesOn h e next) (only i.0 (i.2.0.decl, i.1)) i.2))
+      (λ (o : TapOrOutGoesOn h ws next). absurd (no_image_word h ws d next says.1 o)) k,
+)
 
 pub no_image_goes : {E : Type 0} (h : Head) (ws : List (List ℕ)) (r : Result (Option SoFar) E) → ((d : ImageDecl) → IsDecl d × (ws ≡ image_words d) → ⊥) → IfOk r (IsTheOne (TapOrOutGoesOn h ws)) → IfOk r (IsTheOne (DeclarationGoesOn h ws))
 no_image_goes h ws (Err e) none is = is
@@ -69,9 +70,12 @@ tap_goes h ws t (Err e) (says, only) is = is
 tap_goes h ws t (Ok None) (says, only) is = λ next k. ⊎_elim
     (λ (i : (u : Tap) × (ws ≡ tap_words (map image_name h.images) u) × TapGoesOn h u next). is next (subst (λ u. TapGoesOn h u next) (only i.0 (i.2.0.tap, i.1)) i.2))
     (λ (o : OutWordsGoOn h ws next). no_tap_word h ws t next says.1 o) k
-tap_goes h ws t (Ok (Some s)) (says, only) is = (inl (t, says.1, is.0), λ next k. ⊎_elim
-    (λ (i : (u : Tap) × (ws ≡ tap_words (map image_name h.images) u) × TapGoesOn h u next). is.1 next (subst (λ u. TapGoesOn h u next) (only i.0 (i.2.0.tap, i.1)) i.2))
-    (λ (o : OutWordsGoOn h ws next). absurd (no_tap_word h ws t next says.1 o)) k)
+tap_goes h ws t (Ok (Some s)) (says, only) is = (
+  inl (t, says.1, is.0),
+  λ next k. ⊎_elim
+      (λ (i : (u : Tap) × (ws ≡ tap_words (map image_name h.images) u) × TapGoesOn h u next). is.1 next (subst (λ u. TapGoesOn h u next) (only i.0 (i.2.0.tap, i.1)) i.2))
+      (λ (o : OutWordsGoOn h ws next). absurd (no_tap_word h ws t next says.1 o)) k,
+)
 
 -- what is told of the taps of images' names
 abbrev pub IsTheTap : ℕ → List ImageName → List (List ℕ) → Tap → Type 0

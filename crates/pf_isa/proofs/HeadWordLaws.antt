@@ -11,7 +11,7 @@ use Rattle.std.proofs.lemmas.List.Sums.{position_or_len_is, fails_before_first}
 use Rattle.std.proofs.lemmas.List.Splits.{slice_split_first, slice_split_none}
 use Rattle.std.proofs.lemmas.Bool.{and_parts, lt-ltb, cases_lt}
 use Rattle.std.proofs.lemmas.Int.{ints}
-use Rattle.std.proofs.lemmas.Fmt.{length-decimal-le, signed_decimal_injective, decimal_injective}
+use Rattle.std.proofs.lemmas.Fmt.{length-decimal-le, signed_decimal_injective}
 use Rattle.std.proofs.lemmas.Bool.Decides.{nat_tests}
 use Rattle.pf_ints.specs.declared.lane.LaneType.{LaneType}
 use Rattle.pf_ints.specs.declared.lane.Bits.{Bits}
@@ -22,7 +22,7 @@ use Rattle.pf_ints.specs.Words.{is_digit, is_name, is_spelled, is_reserved}
 use Rattle.pf_terms.specs.declared.kernel.ImageDecl.{ImageDecl}
 use Rattle.pf_terms.specs.declared.names.ImageName.{ImageName}
 use Rattle.pf_terms.specs.declared.names.Tap.{Tap}
-use Rattle.pf_terms.specs.TermTexts.{type_word, no_type, no_image}
+use Rattle.pf_terms.specs.TermTexts.{type_word, no_image}
 use Rattle.pf_isa.specs.Heads.{IsDecl, IsTap}
 use Rattle.pf_isa.specs.HeadWords.{IsTheOne, image_words, tap_words, lifted_words, IsLiftedName, IsOffset, is_space}
 use Rattle.pf_isa.specs.Scan.{number_on, behind}
@@ -205,11 +205,11 @@ pub one_tap : (ws : List (List ℕ)) (images : List ImageName) (key name left do
 one_tap ws images key name left down image dx dy is is_key (at, only) (across, one_across) (below, one_below) = (
   (record { image = at.0; left = across.0.0; right = across.0.1; up = below.0.0; down = below.0.1 }, is ∙ rw (is_key, ← at.1, ← across.1, ← below.1) refl),
   λ u (tap, says).
-  let same : tap_words images u ≡ key ∷ name ∷ left ∷ down ∷ [] = sym says ∙ is in
-  let image_is : u.image ≡ image = only u.image (tap.image, ap (λ l. get_or l 1 []) same) in
-  let dx_is : u.dx ≡ dx = one_across u.dx ((tap.left, tap.right), ap (λ l. get_or l 2 []) same) in
-  let dy_is : u.dy ≡ dy = one_below u.dy ((tap.up, tap.down), ap (λ l. get_or l 3 []) same) in
-  λ i. record { image = image_is i; dx = dx_is i; dy = dy_is i },
+      let same : tap_words images u ≡ key ∷ name ∷ left ∷ down ∷ [] = sym says ∙ is in
+      let image_is : u.image ≡ image = only u.image (tap.image, ap (λ l. get_or l 1 []) same) in
+      let dx_is : u.dx ≡ dx = one_across u.dx ((tap.left, tap.right), ap (λ l. get_or l 2 []) same) in
+      let dy_is : u.dy ≡ dy = one_below u.dy ((tap.up, tap.down), ap (λ l. get_or l 3 []) same) in
+      λ i. record { image = image_is i; dx = dx_is i; dy = dy_is i },
 )
 
 pub out_only : (w : List ℕ) (o : Option (List ℕ)) → w ≡ codes "out" → IfSome o (λ n. n ≡ w) → ((1 ≤ length w) × (length w ≤ 32) → IsSome o) → IsTheOne (λ n. IsLiftedName n × (n ≡ w)) o
@@ -225,10 +225,10 @@ pub one_lifted : (ws : List (List ℕ)) (key called word sign name : List ℕ) (
 one_lifted ws key called word sign name ty is is_key is_sign named is_name typed = (
   (named, is ∙ rw (is_key, is_sign, is_name, typed) refl),
   λ r (other, says).
-  let same : lifted_words r.0 r.1 ≡ key ∷ called ∷ word ∷ sign ∷ [] = sym says ∙ is in
-  let names : r.0 ≡ name = ap (λ l. get_or l 1 []) same ∙ sym is_name in
-  let types : r.1 ≡ ty = type_word_injective r.1 ty (ap (λ l. get_or l 2 []) same ∙ sym typed) in
-  λ i. (names i, types i),
+      let same : lifted_words r.0 r.1 ≡ key ∷ called ∷ word ∷ sign ∷ [] = sym says ∙ is in
+      let names : r.0 ≡ name = ap (λ l. get_or l 1 []) same ∙ sym is_name in
+      let types : r.1 ≡ ty = type_word_injective r.1 ty (ap (λ l. get_or l 2 []) same ∙ sym typed) in
+      λ i. (names i, types i),
 )
 
 pub no_lifted_name : (ws : List (List ℕ)) (key called word sign : List ℕ) → ws ≡ key ∷ called ∷ word ∷ sign ∷ [] → ((n : List ℕ) → IsLiftedName n × (n ≡ called) → ⊥) → (r : List ℕ × LaneType) → IsLiftedName r.0 × (ws ≡ lifted_words r.0 r.1) → ⊥

@@ -1,5 +1,5 @@
 -- Lists with one item more.
-use Rattle.std.proofs.Common.{◌≡◌, ◌≢◌, refl, sym, ap, ◌∙◌, subst, zero, suc, ℕ, ◌+◌, ◌≤◌, ◌<◌, ◌-◌, List, [], ◌∷◌, ◌++◌, length, map, get_or, arith, append_assoc, length-append}
+use Rattle.std.proofs.Common.{◌≡◌, ◌≢◌, refl, sym, ap, ◌∙◌, zero, suc, ℕ, ◌+◌, ◌<◌, ◌-◌, List, [], ◌∷◌, ◌++◌, length, get_or, arith, length-append}
 use Rattle.std.specs.Prelude.{All, Contains, sum}
 use Rattle.std.specs.List.{AllPairs, AllZip}
 use Rattle.std.proofs.Math.Seq.{get_or-append_right}

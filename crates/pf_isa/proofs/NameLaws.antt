@@ -1,10 +1,9 @@
 -- Names in lists.
-use Rattle.std.proofs.Common.{◌≡◌, ◌≢◌, sym, ◌∙◌, ap, ⊎_elim, ℕ, ◌+◌, ◌-◌, ◌<◌, ◌≤◌, List, [], ◌∷◌, ◌++◌, length, map, get_or, arith, below_more, length-append}
-use Rattle.std.specs.Prelude.{Contains, ◌⊎◌}
+use Rattle.std.proofs.Common.{◌≡◌, ◌≢◌, sym, ◌∙◌, ⊎_elim, ℕ, ◌+◌, ◌<◌, List, ◌++◌, length, map, get_or, arith, below_more, length-append}
+use Rattle.std.specs.Prelude.{Contains}
 use Rattle.std.specs.List.{AllPairs}
 use Rattle.std.proofs.lemmas.List.{get_or-map, length-map, get_or_append_left}
-use Rattle.std.proofs.lemmas.List.Elements.{Contains-append_left, Contains-append_right, Contains-append_cases}
-use Rattle.pf_terms.specs.declared.kernel.ImageDecl.{ImageDecl}
+use Rattle.std.proofs.lemmas.List.Elements.{Contains-append_cases}
 use Rattle.pf_terms.specs.declared.names.ImageName.{ImageName}
 use Rattle.pf_terms.specs.KernelNames.{IsNames}
 use Rattle.pf_isa.specs.declared.program.Head.{Head}

@@ -1,5 +1,5 @@
 -- What reading a head line by line says of all its lines.
-use Rattle.std.proofs.Common.{◌≡◌, ◌≢◌, refl, sym, ap, ◌∙◌, subst, ℕ, zero, suc, ◌+◌, ◌≤◌, ◌<◌, List, [], ◌∷◌, ◌++◌, length, take, drop, get_or, ◌-◌, arith, length-append}
+use Rattle.std.proofs.Common.{◌≡◌, ◌≢◌, refl, sym, ap, ◌∙◌, subst, ℕ, suc, ◌+◌, ◌≤◌, ◌<◌, List, [], ◌∷◌, ◌++◌, length, take, drop, get_or, ◌-◌, arith, length-append}
 use Rattle.std.specs.Prelude.{Result, Ok, Err, IfOk, IfErr}
 use Rattle.std.specs.Borrow.{Bor}
 use Rattle.std.proofs.Math.Seq.{take-append_seam}
@@ -7,11 +7,9 @@ use Rattle.std.proofs.lemmas.List.{take_rest, length-drop, length-map}
 use Rattle.pf_ints.specs.declared.target.Target.{Target}
 use Rattle.pf_isa.specs.declared.fault.TextFault.{TextFault}
 use Rattle.pf_isa.specs.declared.fault.TextFault.TheVariants.{At, Memory}
-use Rattle.pf_isa.specs.declared.fault.TextKind.{TextKind}
 use Rattle.pf_isa.specs.declared.fault.TextKind.TheVariants.{Target as TargetFault, Directive, Instruction, Label, NoEnd}
 use Rattle.pf_isa.specs.declared.program.Head.{Head}
-use Rattle.pf_isa.specs.declared.so_far.Stage.{Stage}
-use Rattle.pf_isa.specs.declared.so_far.Stage.TheVariants.{Declarations, Scratch, Lifted, Cost, Code}
+use Rattle.pf_isa.specs.declared.so_far.Stage.TheVariants.{Code}
 use Rattle.pf_isa.specs.HeadSteps.{whole, IsWholeFrom, IsStopped, IsReached}
 use Rattle.pf_isa.specs.Heads.{IsHead}
 use Rattle.pf_isa.specs.Lines.{IsLine}
@@ -88,7 +86,6 @@ go_more a b c (x ∷ ls) line h k = (h.0, h.1, go_more h.0 b c ls line h.2 k)
 
 pub reached_on : (s next : SoFar) (line : List ℕ) → IsReached s → GoesOn s line next → IsReached next
 reached_on s next line (before, go) goes = (before ++ line ∷ [], go_more nothing s next before line go goes)
-
 
 -- ---- answers
 pub whole_ok : (s next : SoFar) (line : List ℕ) (ls rest : List (List ℕ)) (n : ℕ) (r : Result (Head × ℕ) TextFault) → ls ≡ line ∷ rest → GoesOn s line next → IfOk r (λ p. IsWholeFrom next rest (n + 1) p.0 p.1) → IfOk r (λ p. IsWholeFrom s ls n p.0 p.1)

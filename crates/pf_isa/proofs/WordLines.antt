@@ -1,6 +1,6 @@
 -- A line that is printed as words with spaces between them is read by its words.
-use Rattle.std.proofs.Common.{◌≡◌, ◌≢◌, refl, sym, ap, ◌∙◌, subst, ℕ, ◌+◌, ◌≤◌, ◌<◌, ◌^◌, List, [], ◌∷◌, ◌++◌, length, Bool, true, false, ◌==◌, arith, All, append_assoc, ℤ, pos, negsuc, suc, rules}
-use Rattle.std.specs.Prelude.{codes, decimal, IsTrue}
+use Rattle.std.proofs.Common.{◌≡◌, refl, sym, ap, ◌∙◌, subst, ℕ, ◌≤◌, ◌<◌, ◌^◌, List, [], ◌∷◌, ◌++◌, length, Bool, true, false, arith, All, ℤ, pos, negsuc, suc}
+use Rattle.std.specs.Prelude.{decimal, IsTrue}
 use Rattle.std.specs.Fmt.{signed_decimal, digits}
 use Rattle.std.specs.List.{join_with_byte, slice_split}
 use Rattle.std.proofs.lemmas.List.{append-nil}
@@ -15,9 +15,9 @@ use Rattle.pf_ints.specs.declared.lane.Bits.TheVariants.{Eight, Sixteen, ThirtyT
 use Rattle.pf_ints.specs.Words.{is_name}
 use Rattle.pf_terms.specs.TermTexts.{type_word}
 use Rattle.pf_isa.specs.Lines.{is_blank, tight, tight_on, tight_pending, IsLine}
-use Rattle.pf_isa.specs.HeadWords.{is_space, words_in, IsLiftedName, IsOffset}
+use Rattle.pf_isa.specs.HeadWords.{is_space, words_in, IsOffset}
 use Rattle.pf_isa.proofs.TextLaws.{name_bytes}
-use Rattle.pf_isa.proofs.TightLaws.{IsSolid, solid_name, solid_digits, front_kept, tight_on-solid}
+use Rattle.pf_isa.proofs.TightLaws.{IsSolid, solid_name, solid_digits, front_kept}
 use Rattle.pf_isa.proofs.ScanLaws.{digits-decimal}
 use Rattle.pf_isa.proofs.HeadWordLaws.{name_size}
 

@@ -1,8 +1,7 @@
 -- The lines of a head, as they are printed, are read as the head.
-use Rattle.std.proofs.Common.{◌≡◌, ◌≢◌, refl, sym, ap, ◌∙◌, subst, suc, ℕ, ◌+◌, ◌≤◌, ◌<◌, length, drop, arith, length-append, List, [], ◌∷◌, ◌++◌, map, Bool, true, false, not, ◌==◌, All, append_assoc, rules}
+use Rattle.std.proofs.Common.{◌≡◌, ◌≢◌, refl, sym, ap, ◌∙◌, subst, suc, ℕ, ◌+◌, ◌≤◌, ◌<◌, length, drop, arith, length-append, List, [], ◌∷◌, ◌++◌, map, Bool, true, false, not, ◌==◌, All, append_assoc}
 use Rattle.std.specs.Prelude.{decimal, codes}
 use Rattle.std.specs.List.{AllPairs, list_all, AllZip}
-use Rattle.std.proofs.lemmas.Bool.{not-true}
 use Rattle.std.proofs.lemmas.List.{map-append, map_push, get_or_append_left}
 use Rattle.std.proofs.lemmas.List.Elements.{All-nil, All-push}
 use Rattle.std.proofs.lemmas.List.Sums.{AllPass-from_list_all}
@@ -26,7 +25,7 @@ use Rattle.pf_terms.specs.TermTexts.{type_word, sign_letter, term_text}
 use Rattle.pf_isa.specs.declared.program.Head.{Head}
 use Rattle.pf_isa.specs.Lines.{tight, IsLine}
 use Rattle.pf_isa.specs.Heads.{IsHead, IsLifted, AreLifted, AreLiftedNames, names_of, with_def, image_name}
-use Rattle.pf_isa.specs.Texts.{IsHeadText, IsLiftedLine, AreLiftedLines, lifted_front, lifted_line, lifted_lines, declaration_lines, head_lines, target_line, image_line, tap_line, out_line, scratch_line, cost_line}
+use Rattle.pf_isa.specs.Texts.{IsHeadText, IsLiftedLine, AreLiftedLines, lifted_line, lifted_lines, declaration_lines, head_lines, target_line, image_line, tap_line, out_line, scratch_line, cost_line}
 use Rattle.pf_isa.specs.TextFaults.{names_so_far}
 use Rattle.pf_isa.proofs.HeadSaid.{names_from}
 use Rattle.pf_isa.proofs.HeadChains.{with_terms, names_more}
@@ -133,8 +132,7 @@ lifted_are_read h is done (d ∷ e ∷ ds) all named names same lifted k =
     let long : length h.lifted ≡ length done + suc (suc (length ds)) = ap (λ (l : List Definition). length l) (sym all) ∙ length-append done (d ∷ e ∷ ds) in
     let few : length done ≤ 64 = omega (arith, long, is.few_lifted) in
     let fits : IsNames names = subst IsNames (sym same) (names_at h is done (d ∷ e ∷ ds) all named few) in
-    let more : All (λ s. is_name s ≡ true) (map (λ c. c.name) (done ++ d ∷ [])) = subst (λ l. All (λ s. is_name s ≡ true) l) (sym (map_push (λ (c : Definition). c.name) done d)) (All-push (λ s. is_name s ≡ true) (map (λ c. c.name) done) d.name named k.0) in
-    (
+    let more : All (λ s. is_name s ≡ true) (map (λ c. c.name) (done ++ d ∷ [])) = subst (λ l. All (λ s. is_name s ≡ true) l) (sym (map_push (λ (c : Definition). c.name) done d)) (All-push (λ s. is_name s ≡ true) (map (λ c. c.name) done) d.name named k.0) in (
       lifted_is_read names d (all-weaker is_name_byte no_sign name_byte_no_sign d.name (name_bytes d.name k.0)) fits lifted.0,
       lifted_are_read h is (done ++ d ∷ []) (e ∷ ds) (append_assoc done (d ∷ []) (e ∷ ds) ∙ all) more (with_def names d) (ap (λ n. with_def n d) same ∙ sym (names_more h done d)) lifted.1 k.1,
     )

@@ -15,7 +15,7 @@ use Rattle.pf_isa.specs.declared.program.Head.{Head}
 use Rattle.pf_isa.specs.declared.so_far.Stage.{Stage}
 use Rattle.pf_isa.specs.declared.so_far.Stage.TheVariants.{Declarations, Scratch, Lifted, Cost, Code}
 use Rattle.pf_isa.specs.Heads.{image_name, IsLifted}
-use Rattle.pf_isa.specs.HeadWords.{image_words, tap_words, out_words, scratch_words, cost_words, lifted_words}
+use Rattle.pf_isa.specs.HeadWords.{image_words, tap_words, out_words, scratch_words, cost_words}
 use Rattle.pf_isa.specs.declared.fault.TextFault.{TextFault}
 use Rattle.pf_isa.specs.declared.fault.TextFault.TheVariants.{At, Memory}
 use Rattle.pf_isa.specs.declared.fault.TextKind.TheVariants.{Directive}

@@ -1,15 +1,13 @@
 -- The lines of a head as lists of words.
-use Rattle.std.specs.Prelude.{◌≡◌, ℕ, ℤ, pos, neg_ℤ, ◌^◌, ◌≤◌, ◌<◌, ◌≤ℤ◌, ◌⊎◌, Bool, ◌==◌, List, [], ◌∷◌, length, IsTrue, Option, Some, None, codes, decimal, slice_index_or}
+use Rattle.std.specs.Prelude.{◌≡◌, ℕ, ℤ, pos, neg_ℤ, ◌≤ℤ◌, ◌⊎◌, Bool, ◌==◌, List, [], ◌∷◌, IsTrue, Option, Some, None, codes, decimal, slice_index_or}
 use Rattle.std.specs.Fmt.{signed_decimal}
 use Rattle.std.specs.List.{slice_split}
-use Rattle.pf_ints.specs.Images.{IsPixelType}
 use Rattle.pf_ints.specs.Words.{is_name}
 use Rattle.pf_ints.specs.declared.lane.LaneType.{LaneType}
 use Rattle.pf_terms.specs.declared.kernel.ImageDecl.{ImageDecl}
 use Rattle.pf_terms.specs.declared.names.ImageName.{ImageName}
 use Rattle.pf_terms.specs.declared.names.Tap.{Tap}
 use Rattle.pf_terms.specs.TermTexts.{type_word, no_image}
-use Rattle.pf_isa.specs.Heads.{IsDecl, IsTap}
 use Rattle.pf_isa.specs.Lines.{tight}
 
 -- the one value of which this holds, or None where it holds of none

@@ -27,9 +27,9 @@ use Rattle.pf_isa.specs.declared.so_far.Stage.TheVariants.{Declarations, Scratch
 use Rattle.pf_isa.specs.Control.{IsControl}
 use Rattle.pf_isa.specs.Heads.{image_name, def_name, IsDecl, IsTap, IsLifted, IsHead}
 use Rattle.pf_isa.specs.Lines.{IsLine}
-use Rattle.pf_isa.specs.Programs.{Text, jumps_to, IsThere, IsLast}
+use Rattle.pf_isa.specs.Programs.{Text, jumps_to, IsLast}
 use Rattle.pf_isa.specs.Tables.{Table, IsOver}
-use Rattle.pf_isa.specs.Texts.{Said, Nothing, Named, Does, Says, code_of, target_line, image_line, tap_line, out_line, scratch_line, cost_line, IsLiftedLine, IsHeadText, IsText}
+use Rattle.pf_isa.specs.Texts.{Said, Named, Does, Says, code_of, target_line, image_line, tap_line, out_line, scratch_line, cost_line, IsLiftedLine, IsHeadText}
 
 abbrev pub kind_word : TextKind → List ℕ
 kind_word TargetFault = codes "target"

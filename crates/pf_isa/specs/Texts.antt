@@ -1,5 +1,5 @@
 -- Programs as texts.
-use Rattle.std.specs.Prelude.{◌≡◌, ◌≢◌, ℕ, ◌≤◌, length, Some, None, ◌+◌, List, [], ◌∷◌, ◌++◌, map, true, not, ◌&&◌, ◌==◌, nat_le, if◌then◌else◌, IsTrue, All, codes, decimal}
+use Rattle.std.specs.Prelude.{◌≡◌, ◌≢◌, ℕ, ◌≤◌, length, None, ◌+◌, List, [], ◌∷◌, ◌++◌, map, true, not, ◌&&◌, ◌==◌, nat_le, if◌then◌else◌, IsTrue, All, codes, decimal}
 use Rattle.std.specs.Fmt.{signed_decimal}
 use Rattle.std.specs.List.{AllPairs, AllZip, flat_map, last_or, list_all}
 use Rattle.std.specs.Str.Lines.{lines}

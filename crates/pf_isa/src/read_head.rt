@@ -13,11 +13,7 @@ use pf_ints::Target;
 use std::alloc::Global;
 
 /// The head that the first lines say, and how many lines it takes.
-pub fn read_head(
-    alloc: Global,
-    target: Target,
-    lines: &[&[u8]],
-) -> Result<(Head, usize), TextFault>
+pub fn read_head(alloc: Global, target: Target, lines: &[&[u8]]) -> Result<(Head, usize), TextFault>
     ensures within { IfOk result (λ r. r.1 ≤ length lines.now) }
     ensures says { IfOk result (λ r. IsHeadText target (take r.1 (texts lines.now)) r.0) }
     ensures kept { IfOk result (λ r. IsHead r.0) }

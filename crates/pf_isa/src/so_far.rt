@@ -111,7 +111,8 @@ impl HeadSoFar {
     fn has_name(&self, name: &[u8]) -> bool
         ensures { IsTrue result ↔ Contains (names_in self.now.head) name.now }
     {
-        has_image(self.head.images.as_slice(), name) || has_lifted(self.head.lifted.as_slice(), name)
+        has_image(self.head.images.as_slice(), name)
+            || has_lifted(self.head.lifted.as_slice(), name)
     }
 
     fn with_image(self, image: &ImageDecl) -> Result<Option<HeadSoFar>, Memory>

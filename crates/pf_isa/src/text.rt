@@ -20,7 +20,8 @@ use std::alloc::Global;
 /// A text has a head and then lines of code. Each line is the one that `write_text` writes, up to
 /// blanks: one or more spaces or TABs where a space is printed, any number behind a comma and at
 /// both ends. A lifted term may be any text of the term. Behind the head blank lines and comments
-/// are free. Lines end in LF or CR LF, and the last one may lack its end.
+/// are free. Lines end in LF or CR LF, and the last one may lack its end. So what `write_text` wrote
+/// of a program is read as that program.
 ///
 /// The first fault is told: `Target` in line 1; `Directive` in the first line with which the lines
 /// so far begin no head, which is the line after the last where the text ends within the head; then

@@ -1,4 +1,4 @@
-use Rattle.std.proofs.Common.{arith, rules, [], get_or}
+use Rattle.std.proofs.Common.{rules, []}
 use Rattle.pf_isa.proofs.HeadWordLaws.{five_words, no_image_range, one_image}
 use Rattle.pf_isa.proofs.head_words.image_of.Goals as goal
 

@@ -1,4 +1,4 @@
-use Rattle.std.proofs.Common.{arith, rules, [], get_or}
+use Rattle.std.proofs.Common.{rules, []}
 use Rattle.pf_isa.proofs.HeadWordLaws.{four_words, one_lifted, no_lifted_name, no_lifted_type}
 use Rattle.pf_isa.proofs.head_words.lifted_of.Goals as goal
 

@@ -1,6 +1,6 @@
-use Rattle.std.proofs.Common.{◌≡◌, ◌∙◌, arith, rules, neg_ℤ, pos}
+use Rattle.std.proofs.Common.{arith, rules}
 use Rattle.std.specs.Int.{w16}
-use Rattle.std.proofs.lemmas.Int.{ints, to_z-of_z}
+use Rattle.std.proofs.lemmas.Int.{to_z-of_z}
 use Rattle.pf_isa.proofs.HeadWordLaws.{no_minus, one_minus}
 use Rattle.pf_isa.proofs.head_words.negative_of_digits.Goals as goal
 

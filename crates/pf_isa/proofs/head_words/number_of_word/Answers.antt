@@ -1,4 +1,4 @@
-use Rattle.std.proofs.Common.{◌≡◌, sym, ap, ◌∙◌, refl, arith, rules, ◌<◌}
+use Rattle.std.proofs.Common.{◌≡◌, sym, ap, ◌∙◌, refl, arith, rules}
 use Rattle.std.specs.Fmt.{decimal}
 use Rattle.pf_isa.proofs.HeadWordLaws.{long_number, other_bytes, value_is}
 use Rattle.pf_isa.proofs.head_words.number_of_word.Goals as goal

@@ -1,4 +1,4 @@
-use Rattle.std.specs.Prelude.{◌<◌, ◌≤◌, ◌^◌, codes, decimal}
+use Rattle.std.specs.Prelude.{codes}
 use Rattle.pf_ints.specs.Images.{IsPixelType}
 use Rattle.pf_terms.specs.TermTexts.{type_word}
 use Rattle.pf_isa.proofs.HeadWordLaws.{only_behind}

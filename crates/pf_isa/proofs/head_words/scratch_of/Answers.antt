@@ -1,6 +1,4 @@
-use Rattle.std.specs.Prelude.{◌<◌, ◌≤◌, ◌^◌, codes, decimal}
-use Rattle.pf_ints.specs.Images.{IsPixelType}
-use Rattle.pf_terms.specs.TermTexts.{type_word}
+use Rattle.std.specs.Prelude.{◌≤◌, ◌^◌, codes, decimal}
 use Rattle.pf_isa.proofs.HeadWordLaws.{only_behind}
 use Rattle.pf_isa.proofs.head_words.scratch_of.Goals as goal
 

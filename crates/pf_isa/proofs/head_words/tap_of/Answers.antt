@@ -1,4 +1,4 @@
-use Rattle.std.proofs.Common.{arith, rules, [], get_or}
+use Rattle.std.proofs.Common.{arith, rules, []}
 use Rattle.std.specs.Int.{w16}
 use Rattle.std.proofs.lemmas.Int.{to_z-of_z}
 use Rattle.pf_isa.proofs.HeadWordLaws.{near, four_words, one_tap, no_tap_down}

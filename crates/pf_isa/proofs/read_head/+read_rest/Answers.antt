@@ -1,4 +1,4 @@
-use Rattle.std.proofs.Common.{◌≡◌, ◌≢◌, ◌∙◌, arith, ◌<◌, ◌-◌, ◌+◌, List, ℕ, [], ◌∷◌, length, take, drop, get_or, subst, true, false, rules}
+use Rattle.std.proofs.Common.{◌≡◌, ◌≢◌, ◌∙◌, arith, ◌<◌, ◌-◌, ◌+◌, [], length, take, drop, get_or, subst, rules}
 use Rattle.std.specs.Prelude.{Err}
 use Rattle.pf_isa.specs.declared.so_far.Stage.TheVariants.{Code}
 use Rattle.pf_isa.specs.HeadWords.{IsTheOne}

@@ -1,10 +1,10 @@
-use Rattle.std.proofs.Common.{◌≡◌, ◌≢◌, ◌+◌, ◌-◌, List, ℕ, [], ◌∷◌, length, take, drop, get_or, ◌++◌, subst, sym, ap, ◌∙◌, arith, rules, refl}
+use Rattle.std.proofs.Common.{◌≡◌, ◌+◌, ◌-◌, List, ℕ, [], length, take, drop, get_or, ◌++◌, subst, sym, arith, rules}
 use Rattle.std.specs.Prelude.{Err, IfOk, IfErr}
 use Rattle.pf_isa.specs.HeadSteps.{IsReached, IsWholeFrom, IsStopped, whole}
 use Rattle.pf_isa.specs.declared.program.Head.{Head}
 use Rattle.pf_isa.specs.Lines.{IsLine}
 use Rattle.pf_isa.specs.Texts.{target_line}
-use Rattle.pf_isa.specs.TextFaults.{texts, IsFor, GoOn, IsHeadOr, SoFar}
+use Rattle.pf_isa.specs.TextFaults.{texts, IsFor, GoOn, IsHeadOr}
 use Rattle.pf_isa.proofs.ReadingLaws.{texts_first, rest_count, length-texts, says_text, says_head, says_within, says_only, says_fault, other_only, nothing_reached}
 use Rattle.pf_isa.proofs.read_head.read_head.Goals as goal
 

@@ -1,4 +1,4 @@
-use Rattle.std.proofs.Common.{rules, arith, ◌≤◌, ◌<◌, length}
+use Rattle.std.proofs.Common.{rules, ◌≤◌, ◌<◌, length}
 use Rattle.pf_isa.proofs.HeadStepLaws.{term_refused, known_refused, more_taps, term_read, kept_names}
 use Rattle.pf_terms.specs.TermTexts.{is_named}
 use Rattle.std.proofs.Common.{subst, true, ◌≡◌}

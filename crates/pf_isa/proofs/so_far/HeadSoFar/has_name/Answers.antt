@@ -1,4 +1,4 @@
-use Rattle.std.proofs.Common.{◌≡◌, rules, map, false, Bool}
+use Rattle.std.proofs.Common.{rules, map, false}
 use Rattle.std.specs.Prelude.{Contains, IsTrue}
 use Rattle.std.proofs.lemmas.List.Elements.{Contains-append_right}
 use Rattle.pf_isa.proofs.NameLaws.{in_second}

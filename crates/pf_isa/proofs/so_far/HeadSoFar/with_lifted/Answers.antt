@@ -1,4 +1,4 @@
-use Rattle.std.proofs.Common.{rules, false, ◌≡◌}
+use Rattle.std.proofs.Common.{rules}
 use Rattle.std.specs.Prelude.{Contains}
 use Rattle.pf_isa.specs.HeadSteps.{IsRoom}
 use Rattle.pf_isa.specs.TextFaults.{names_in}

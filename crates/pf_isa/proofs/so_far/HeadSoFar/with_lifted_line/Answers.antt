@@ -1,4 +1,4 @@
-use Rattle.std.proofs.Common.{◌≡◌, ◌+◌, take, drop, rules, sym}
+use Rattle.std.proofs.Common.{◌≡◌, ◌+◌, take, rules}
 use Rattle.std.proofs.lemmas.List.{take_rest}
 use Rattle.pf_isa.specs.HeadWords.{words_in}
 use Rattle.pf_isa.specs.TextFaults.{texts}
