@@ -14,7 +14,6 @@ mod tests;
 mod write;
 
 pub use fault::KernelFault;
-pub use front::Front;
 pub use kernel::Kernel;
 pub use pf_terms::{Definition, Definitions, ImageDecl, ImageList};
 pub use read::read_kernel;

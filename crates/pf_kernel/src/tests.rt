@@ -1,5 +1,5 @@
 use crate::{KernelFault, out_size, read_kernel, write_kernel};
-use pf_ints::{Bits, LaneType, Name};
+use pf_ints::{Bits, LaneType};
 use pf_terms::LimitKind;
 use std::alloc::{AllocError, Global};
 use std::test::Fail;
@@ -94,10 +94,14 @@ fn syntax_of(alloc: Global, text: &[u8]) -> Option<(u32, u64)> {
     }
 }
 
-fn name_of(alloc: Global, text: &[u8]) -> Option<(u32, Name)> {
+// Whether the text is refused for this name in this line.
+fn is_name_told(alloc: Global, text: &[u8], line: u32, name: &[u8]) -> bool {
     match read_kernel(alloc, text) {
-        Err(KernelFault::Name { line, name }) => Some((line, name)),
-        _ => None,
+        Err(KernelFault::Name {
+            line: place,
+            name: told,
+        }) => place == line && told.as_slice() == name,
+        _ => false,
     }
 }
 
@@ -142,8 +146,7 @@ fn names_and_types_are_told(rt: HostRuntime) -> Result<(), Fail> {
     ];
     for (more, line, name) in names {
         let text = behind(alloc, more)?;
-        let name = Name::new(name).ok_or("a name")?;
-        assert_eq!(rt; name_of(alloc, text.as_slice()), Some((line, name)));
+        assert_eq!(rt; is_name_told(alloc, text.as_slice(), line, name), true);
     }
     let types: [(&[u8], u32, LaneType, LaneType); 3] = [
         (b"image b u16\nout u16 = a[0,0] + b[0,0]", 4, U8, U16),
@@ -197,14 +200,20 @@ fn short_limits(rt: HostRuntime) -> Result<(), Fail> {
     ];
     for (more, limit) in limits {
         let text = behind(alloc, more)?;
-        assert_eq!(rt; read_kernel(alloc, text.as_slice()).is_ok(), limit.is_none());
+        assert_eq!(rt;
+            read_kernel(alloc, text.as_slice()).is_ok(),
+            limit.is_none()
+        );
         assert_eq!(rt; limit_of(alloc, text.as_slice()), limit);
     }
     let text = behind(
         alloc,
         b"image b u8\nimage c u8\nimage d u8\nimage e u8\nimage f u8\nimage g u8\nimage h u8\nimage i u8",
     )?;
-    assert_eq!(rt; limit_of(alloc, text.as_slice()), Some((LimitKind::Images, 9)));
+    assert_eq!(rt;
+        limit_of(alloc, text.as_slice()),
+        Some((LimitKind::Images, 9))
+    );
     Ok(())
 }
 
@@ -214,21 +223,30 @@ fn long_limits(rt: HostRuntime) -> Result<(), Fail> {
     let deep = behind(alloc, sum(alloc, b"out u8 = ", b"1u8", 128)?.as_slice())?;
     assert_eq!(rt; read_kernel(alloc, deep.as_slice()).is_ok(), true);
     let deeper = behind(alloc, sum(alloc, b"out u8 = ", b"1u8", 129)?.as_slice())?;
-    assert_eq!(rt; limit_of(alloc, deeper.as_slice()), Some((LimitKind::Depth, 129)));
+    assert_eq!(rt;
+        limit_of(alloc, deeper.as_slice()),
+        Some((LimitKind::Depth, 129))
+    );
     let mut many = behind(alloc, sum(alloc, b"def d u8 = ", b"1u8", 128)?.as_slice())?;
     many.extend_from_slice(sum(alloc, b"def e u8 = ", b"1u8", 128)?.as_slice())?;
     let mut more = many.clone()?;
     many.extend_from_slice(b"out u8 = d >> 1\n")?;
     assert_eq!(rt; read_kernel(alloc, many.as_slice()).is_ok(), true);
     more.extend_from_slice(b"out u8 = d + e\n")?;
-    assert_eq!(rt; limit_of(alloc, more.as_slice()), Some((LimitKind::Nodes, 513)));
+    assert_eq!(rt;
+        limit_of(alloc, more.as_slice()),
+        Some((LimitKind::Nodes, 513))
+    );
     let mut long = behind(alloc, b"out u8 = a[0,0]\n#")?;
     for _ in long.len()..65536 {
         long.push(b'#')?;
     }
     assert_eq!(rt; read_kernel(alloc, long.as_slice()).is_ok(), true);
     long.push(b'#')?;
-    assert_eq!(rt; limit_of(alloc, long.as_slice()), Some((LimitKind::Bytes, 65537)));
+    assert_eq!(rt;
+        limit_of(alloc, long.as_slice()),
+        Some((LimitKind::Bytes, 65537))
+    );
     Ok(())
 }
 
@@ -240,20 +258,30 @@ fn many_taps_and_definitions(rt: HostRuntime) -> Result<(), Fail> {
     taps.extend_from_slice(numbered(alloc, b"+a[", b",1]", 14)?.as_slice())?;
     assert_eq!(rt; read_kernel(alloc, taps.as_slice()).is_ok(), true);
     taps.extend_from_slice(b"+a[0,0]")?;
-    assert_eq!(rt; limit_of(alloc, taps.as_slice()), Some((LimitKind::Taps, 65)));
-    let mut defs = behind(alloc, numbered(alloc, b"def d", b" u8=1u8\n", 64)?.as_slice())?;
+    assert_eq!(rt;
+        limit_of(alloc, taps.as_slice()),
+        Some((LimitKind::Taps, 65))
+    );
+    let mut defs = behind(
+        alloc,
+        numbered(alloc, b"def d", b" u8=1u8\n", 64)?.as_slice(),
+    )?;
     let mut more = defs.clone()?;
     defs.extend_from_slice(b"out u8 = d10")?;
     assert_eq!(rt; read_kernel(alloc, defs.as_slice()).is_ok(), true);
     more.extend_from_slice(b"def e u8 = 1u8\n")?;
-    assert_eq!(rt; limit_of(alloc, more.as_slice()), Some((LimitKind::Definitions, 65)));
+    assert_eq!(rt;
+        limit_of(alloc, more.as_slice()),
+        Some((LimitKind::Definitions, 65))
+    );
     Ok(())
 }
 
 #[test]
 fn written_and_read(rt: HostRuntime) -> Result<(), Fail> {
     let alloc = rt.alloc();
-    let text = b"kernel half # a comment\r\n\n\timage a u8\nimage b u8 0 255\nout u8=u8((u16(a[0,0])+u16(b[-1,0]))>>1)";
+    let text =
+        b"kernel half # a comment\r\n\n\timage a u8\nimage b u8 0 255\nout u8=u8((u16(a[0,0])+u16(b[-1,0]))>>1)";
     let kernel = read_kernel(alloc, text.as_slice()).ok().ok_or("a kernel")?;
     let written = write_kernel(alloc, &kernel)?;
     assert_eq!(rt;
