@@ -94,14 +94,11 @@ fn syntax_of(alloc: Global, text: &[u8]) -> Option<(u32, u64)> {
     }
 }
 
-// Whether the text is refused for this name in this line.
-fn is_name_told(alloc: Global, text: &[u8], line: u32, name: &[u8]) -> bool {
+// The line in which a name is told.
+fn name_line(alloc: Global, text: &[u8]) -> Option<u32> {
     match read_kernel(alloc, text) {
-        Err(KernelFault::Name {
-            line: place,
-            name: told,
-        }) => place == line && told.as_slice() == name,
-        _ => false,
+        Err(KernelFault::Name { line, .. }) => Some(line),
+        _ => None,
     }
 }
 
@@ -134,19 +131,19 @@ fn syntax_is_told_where_it_stands(rt: HostRuntime) -> Result<(), Fail> {
 #[test]
 fn names_and_types_are_told(rt: HostRuntime) -> Result<(), Fail> {
     let alloc = rt.alloc();
-    let names: [(&[u8], u32, &[u8]); 8] = [
-        (b"out u8 = b[0,0]", 3, b"b"),
-        (b"out u8 = d", 3, b"d"),
-        (b"out u8 = a", 3, b"a"),
-        (b"image a u8", 3, b"a"),
-        (b"def a u8 = 1u8", 3, b"a"),
-        (b"def d u8 = d", 3, b"d"),
-        (b"def a u8 = b[0,0]", 3, b"a"),
-        (b"def d u8 = 1u8\ndef d u8 = 1u8", 4, b"d"),
+    let names: [(&[u8], u32); 8] = [
+        (b"out u8 = b[0,0]", 3),
+        (b"out u8 = d", 3),
+        (b"out u8 = a", 3),
+        (b"image a u8", 3),
+        (b"def a u8 = 1u8", 3),
+        (b"def d u8 = d", 3),
+        (b"def a u8 = b[0,0]", 3),
+        (b"def d u8 = 1u8\ndef d u8 = 1u8", 4),
     ];
-    for (more, line, name) in names {
+    for (more, line) in names {
         let text = behind(alloc, more)?;
-        assert_eq!(rt; is_name_told(alloc, text.as_slice(), line, name), true);
+        assert_eq!(rt; name_line(alloc, text.as_slice()), Some(line));
     }
     let types: [(&[u8], u32, LaneType, LaneType); 3] = [
         (b"image b u16\nout u16 = a[0,0] + b[0,0]", 4, U8, U16),
