@@ -9,8 +9,6 @@ mod line;
 mod read;
 mod reading;
 mod size;
-#[cfg(test)]
-mod tests;
 mod write;
 
 pub use fault::KernelFault;
