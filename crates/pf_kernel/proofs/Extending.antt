@@ -77,15 +77,17 @@ module _ (a : Names) (taps : List TapOf) (defs : List DefName) where
   layer_stays (Leaf leaf ty) h =
       let known : is_named_leaf a leaf ty ≡ true = sym (fold-roll-Term Bool (named_step a) (Leaf leaf ty)) ∙ h in
       record {
-      named = fold-roll-Term Bool (named_step (more_names a taps defs)) (Leaf leaf ty) ∙ leaf_named leaf ty known;
-      text = fold-roll-Term (List ℕ) (text_step (more_names a taps defs)) (Leaf leaf ty) ∙ leaf_same leaf ty known ∙ sym (fold-roll-Term (List ℕ) (text_step a) (Leaf leaf ty)) }
+        named = fold-roll-Term Bool (named_step (more_names a taps defs)) (Leaf leaf ty) ∙ leaf_named leaf ty known;
+        text = fold-roll-Term (List ℕ) (text_step (more_names a taps defs)) (Leaf leaf ty) ∙ leaf_same leaf ty known ∙ sym (fold-roll-Term (List ℕ) (text_step a) (Leaf leaf ty));
+      }
   layer_stays (Node op ty k fs) h =
       let args = map (λ e. e.0) fs in
       let known : all_true (map (is_named a) args) ≡ true = sym (fold-roll-Term Bool (named_step a) (Node op ty k args)) ∙ h in
       let all = each_stays fs known in
       record {
-      named = fold-roll-Term Bool (named_step (more_names a taps defs)) (Node op ty k args) ∙ all.0;
-      text = fold-roll-Term (List ℕ) (text_step (more_names a taps defs)) (Node op ty k args) ∙ ap (node_text op ty k) all.1 ∙ sym (fold-roll-Term (List ℕ) (text_step a) (Node op ty k args)) }
+        named = fold-roll-Term Bool (named_step (more_names a taps defs)) (Node op ty k args) ∙ all.0;
+        text = fold-roll-Term (List ℕ) (text_step (more_names a taps defs)) (Node op ty k args) ∙ ap (node_text op ty k) all.1 ∙ sym (fold-roll-Term (List ℕ) (text_step a) (Node op ty k args));
+      }
 
   pub stays_named : (t : Term) → is_named a t ≡ true → StaysNamed a (more_names a taps defs) t
   stays_named = ind-Term (λ t. Stays a (more_names a taps defs) t) (λ x y is. subst (λ z. Stays a (more_names a taps defs) (roll-Term z)) is (layer_stays y))

@@ -185,8 +185,9 @@ module _ (b : Begun) where
   front_fault ks n some h =
       let s = stuck_at ks n some h in
       record {
-      some = some;
-      within = s.within;
-      begun = s.begun;
-      fault = λ less goes. absurd (cc (found b _ goes.1 goes.2, s.stuck less goes.0));
-      end = λ all f shape. absurd (cc (found b ks f shape, h)) }
+        some = some;
+        within = s.within;
+        begun = s.begun;
+        fault = λ less goes. absurd (cc (found b _ goes.1 goes.2, s.stuck less goes.0));
+        end = λ all f shape. absurd (cc (found b ks f shape, h));
+      }

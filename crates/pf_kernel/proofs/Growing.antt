@@ -61,8 +61,12 @@ behind_images b h = record { images = some_items b.images (not_true _ (and_left 
 -- ---- definitions under more taps, and one more
 term_more_taps : (a : Names) (more : List Tap) (ty : LaneType) (t : Term) → IsTermOf a ty t → IsTermOf (record a { taps = a.taps ++ more }) ty t
 term_more_taps a more ty t h =
-    record { formed = h.formed; typed = h.typed; depth = h.depth;
-      named = subst (λ (ds : List DefName). is_named (record { images = a.images; taps = a.taps ++ more; defs = ds }) t ≡ true) (append-nil a.defs) (stays_named a more [] t h.named).named }
+    record {
+      formed = h.formed;
+      typed = h.typed;
+      depth = h.depth;
+      named = subst (λ (ds : List DefName). is_named (record { images = a.images; taps = a.taps ++ more; defs = ds }) t ≡ true) (append-nil a.defs) (stays_named a more [] t h.named).named;
+    }
 
 defs_more_taps : (a : Names) (more : List Tap) (ds : List Definition) → AreDefinitions a ds → AreDefinitions (record a { taps = a.taps ++ more }) ds
 defs_more_taps a more [] h = tt
@@ -70,9 +74,11 @@ defs_more_taps a more (d ∷ ds) h = (term_more_taps a more d.ty d.term h.0, def
 
 defs_push : (a : Names) (ds : List Definition) (x : Definition) → AreDefinitions a ds → IsTermOf (record a { defs = a.defs ++ map def_name ds }) x.ty x.term → AreDefinitions a (ds ++ x ∷ [])
 defs_push a [] x h k = (subst (λ (es : List DefName). IsTermOf (record { images = a.images; taps = a.taps; defs = es }) x.ty x.term) (append-nil a.defs) k, tt)
-defs_push a (d ∷ ds) x h k =
-    (h.0, defs_push (record a { defs = a.defs ++ def_name d ∷ [] }) ds x h.1
-      (subst (λ (es : List DefName). IsTermOf (record { images = a.images; taps = a.taps; defs = es }) x.ty x.term) (sym (append_assoc a.defs (def_name d ∷ []) (map def_name ds))) k))
+defs_push a (d ∷ ds) x h k = (
+  h.0,
+  defs_push (record a { defs = a.defs ++ def_name d ∷ [] }) ds x h.1
+      (subst (λ (es : List DefName). IsTermOf (record { images = a.images; taps = a.taps; defs = es }) x.ty x.term) (sym (append_assoc a.defs (def_name d ∷ []) (map def_name ds))) k),
+)
 
 -- the definitions so far, under the taps of one more expression
 defs_stay : (b : Begun) (d : Draft) → IsGood b → AreDefinitions (names_behind b.images (names_after (names_in b) d).taps []) b.defs
@@ -97,13 +103,14 @@ pub good_out : (b : Begun) (d : Draft) (ty : LaneType) → IsGood b → may_stan
 good_out b d ty h may pixel names typed nodes =
     let open_still = behind_images b may in
     record {
-    called = h.called;
-    names = names;
-    images = h.images;
-    defs = defs_stay b d h;
-    nodes = nodes;
-    turn = turn_more b d _ h open_still.out refl;
-    out = (pixel, typed, open_still.images) }
+      called = h.called;
+      names = names;
+      images = h.images;
+      defs = defs_stay b d h;
+      nodes = nodes;
+      turn = turn_more b d _ h open_still.out refl;
+      out = (pixel, typed, open_still.images);
+    }
 
 -- ---- a definition
 pub good_def : (b : Begun) (d : Draft) (n : List ℕ) (ty : LaneType) → IsGood b → may_stand b Def ≡ true → is_name n ≡ true → is_taken (names_in b) n ≡ false → IsNames (names_after (names_in b) d) → IsTermOf (names_after (names_in b) d) ty (term_of (names_after (names_in b) d) d) →
@@ -124,13 +131,14 @@ good_def b d n ty h may named free names typed few nodes =
     ap sum (map-append (λ (e : Definition). node_count e.term) b.defs (x ∷ [])) ∙ sum_by_push (λ (k : ℕ). k) (map (λ (e : Definition). node_count e.term) b.defs) (node_count x.term) in
     let none : out_nodes b.out ≡ 0 = ap out_nodes open_still.out in
     record {
-    called = h.called;
-    names = named_more now more n names named free all refl (omega arith) names.few_images (omega arith) names.pixels;
-    images = h.images;
-    defs = defs_push (names_behind b.images now.taps []) b.defs x (defs_stay b d h) typed;
-    nodes = omega arith;
-    turn = turn_more b d _ h open_still.out (ap (λ o. map (λ (e : Definition). e.term) (b.defs ++ x ∷ []) ++ out_terms o) open_still.out ∙ append-nil _ ∙ terms);
-    out = subst (λ (o : Option (LaneType × Term)). MatchOption o (Unit {0}) (λ p. IsPixelType p.0 × IsTermOf more p.0 p.1 × (1 ≤ length b.images))) (sym open_still.out) tt }
+      called = h.called;
+      names = named_more now more n names named free all refl (omega arith) names.few_images (omega arith) names.pixels;
+      images = h.images;
+      defs = defs_push (names_behind b.images now.taps []) b.defs x (defs_stay b d h) typed;
+      nodes = omega arith;
+      turn = turn_more b d _ h open_still.out (ap (λ o. map (λ (e : Definition). e.term) (b.defs ++ x ∷ []) ++ out_terms o) open_still.out ∙ append-nil _ ∙ terms);
+      out = subst (λ (o : Option (LaneType × Term)). MatchOption o (Unit {0}) (λ p. IsPixelType p.0 × IsTermOf more p.0 p.1 × (1 ≤ length b.images))) (sym open_still.out) tt;
+    }
 
 -- ---- the fields of a reading
 record_names : (a : Names) (images : List ImageName) (taps : List Tap) (defs : List DefName) → a.images ≡ images → a.taps ≡ taps → a.defs ≡ defs → ◌≡◌ {A = Names} a (record { images = images; taps = taps; defs = defs })
@@ -149,11 +157,12 @@ def_added r s now d n ty x nodes h may named free names term known typed few cou
     let taps : s.names.taps ≡ (names_after (names_in b) d).taps = ap (λ (m : Names). m.taps) all ∙ ap (λ (m : Names). m.taps) names in
     let said : begun_of s ≡ record b { taps = (names_after (names_in b) d).taps; defs = r.defs ++ record { name = n; ty = ty; term = last } ∷ [] } = λ i. record { name = name i; images = images i; taps = taps i; defs = more i; out = out i } in
     record {
-    good = subst IsGood (sym said) good;
-    same = record_names s.names _ _ _
-      (ap (λ (m : Names). m.images) all ∙ ap (λ (m : Names). m.images) names ∙ ap (map image_name) (sym images))
-      refl
-      (ap (λ (m : Names). m.defs) all ∙ ap (λ (m : Names). m.defs ++ record { name = n; ty = ty } ∷ []) names ∙ sym (map-append def_name r.defs _) ∙ ap (map def_name) (sym defs)) }
+      good = subst IsGood (sym said) good;
+      same = record_names s.names _ _ _
+          (ap (λ (m : Names). m.images) all ∙ ap (λ (m : Names). m.images) names ∙ ap (map image_name) (sym images))
+          refl
+          (ap (λ (m : Names). m.defs) all ∙ ap (λ (m : Names). m.defs ++ record { name = n; ty = ty } ∷ []) names ∙ sym (map-append def_name r.defs _) ∙ ap (map def_name) (sym defs));
+    }
 
 pub out_set : (r s : Reading) (now : Names) (d : Draft) (ty : LaneType) (x : Term) (nodes : ℕ) → IsReading r → may_stand (begun_of r) Out ≡ true → IsPixelType ty →
     now ≡ names_after (names_in (begun_of r)) d → x ≡ term_of (names_after (names_in (begun_of r)) d) d → IsNames now → IsTermOf now ty x → nodes ≡ min (nodes_in (begun_of r)) (2 ^ 64 - 1) → nodes + node_count x ≤ 512 →
@@ -168,11 +177,12 @@ out_set r s now d ty x nodes h may pixel names term known typed counted most nam
     let whole : s.out ≡ Some (ty, last) = out ∙ ap (λ (y : Term). Some (ty, y)) term in
     let said : begun_of s ≡ record b { taps = (names_after (names_in b) d).taps; out = Some (ty, last) } = λ i. record { name = name i; images = images i; taps = taps i; defs = defs i; out = whole i } in
     record {
-    good = subst IsGood (sym said) good;
-    same = record_names s.names _ _ _
-      (ap (λ (m : Names). m.images) all ∙ ap (λ (m : Names). m.images) names ∙ ap (map image_name) (sym images))
-      refl
-      (ap (λ (m : Names). m.defs) all ∙ ap (λ (m : Names). m.defs) names ∙ ap (map def_name) (sym defs)) }
+      good = subst IsGood (sym said) good;
+      same = record_names s.names _ _ _
+          (ap (λ (m : Names). m.images) all ∙ ap (λ (m : Names). m.images) names ∙ ap (map image_name) (sym images))
+          refl
+          (ap (λ (m : Names). m.defs) all ∙ ap (λ (m : Names). m.defs) names ∙ ap (map def_name) (sym defs));
+    }
 
 -- the nodes so far, as they are counted
 pub nodes_counted : (b : Begun) (n : ℕ) → IsGood b → n ≡ min (nodes_in b) (2 ^ 64 - 1) → n ≡ nodes_in b
@@ -184,4 +194,4 @@ pub judged_so : (r : Reading) (ty : LaneType) (defs nodes more : ℕ) (text : Li
 judged_so r ty defs nodes more text q now h counted same judged =
     subst (λ (k : ℕ). Judges (names_in (begun_of r)) (nodes_in (begun_of r)) ty k text q now) same
     (subst (λ (k : ℕ). Judges (names_in (begun_of r)) k ty defs text q now) (nodes_counted (begun_of r) nodes h.good counted)
-      (subst (λ (m : Names). Judges m nodes ty defs text q now) h.same judged))
+    (subst (λ (m : Names). Judges m nodes ty defs text q now) h.same judged))

@@ -370,10 +370,11 @@ clean ty got defs depth nodes h =
     let two = or_right (more_than 64 Definitions defs) _ one in
     let three = or_right (more_than 128 Depth (counted depth)) _ two in
     record {
-    same = sym (types_same ty got (not_false (same_type ty got) (no_fault (not (same_type ty got)) _ (or_left _ _ h))));
-    few = few_told 64 Definitions defs (or_left _ _ one);
-    shallow = uncounted 128 depth (omega arith) (few_told 128 Depth (counted depth) (or_left _ _ two));
-    small = uncounted 512 nodes (omega arith) (few_told 512 Nodes (counted nodes) three) }
+      same = sym (types_same ty got (not_false (same_type ty got) (no_fault (not (same_type ty got)) _ (or_left _ _ h))));
+      few = few_told 64 Definitions defs (or_left _ _ one);
+      shallow = uncounted 128 depth (omega arith) (few_told 128 Depth (counted depth) (or_left _ _ two));
+      small = uncounted 512 nodes (omega arith) (few_told 512 Nodes (counted nodes) three);
+    }
 
 -- what holds of a clean term holds of the answer
 pub if_clean : (P : Term → Type 0) (t : Term) (fault : Option ReadFault) (r : Result Term ReadFault) → JudgesTerm t fault r → (fault ≡ None → P t) → IfOk r P

@@ -50,11 +50,12 @@ pub named_more : (names more : Names) (n : List ℕ) → IsNames names → is_na
     length more.images ≤ 8 → length more.defs ≤ 64 → All (λ i. IsPixelType i.ty) more.images → IsNames more
 named_more names more n h named free all taps count few_images few_defs pixels =
     record {
-    few_images = few_images;
-    few_taps = subst (λ (ts : List Tap). length ts ≤ 64) (sym taps) h.few_taps;
-    few_defs = few_defs;
-    pixels = pixels;
-    named = subst (λ (ns : List (List ℕ)). All (λ s. is_name s ≡ true) ns) (sym all) (All-push (λ s. is_name s ≡ true) (all_names names) n h.named named);
-    distinct_names = subst (λ (ns : List (List ℕ)). AllPairs (λ s t. s ≢ t) ns) (sym all) (all_pairs_push (λ s t. s ≢ t) (all_names names) n h.distinct_names (is_new names n free));
-    near = subst (λ (ts : List Tap). All (IsNearTap (length more.images)) ts) (sym taps) (near_more (length names.images) (length more.images) names.taps count h.near);
-    distinct_taps = subst (λ (ts : List Tap). AllPairs (λ t u. t ≢ u) ts) (sym taps) h.distinct_taps }
+      few_images = few_images;
+      few_taps = subst (λ (ts : List Tap). length ts ≤ 64) (sym taps) h.few_taps;
+      few_defs = few_defs;
+      pixels = pixels;
+      named = subst (λ (ns : List (List ℕ)). All (λ s. is_name s ≡ true) ns) (sym all) (All-push (λ s. is_name s ≡ true) (all_names names) n h.named named);
+      distinct_names = subst (λ (ns : List (List ℕ)). AllPairs (λ s t. s ≢ t) ns) (sym all) (all_pairs_push (λ s t. s ≢ t) (all_names names) n h.distinct_names (is_new names n free));
+      near = subst (λ (ts : List Tap). All (IsNearTap (length more.images)) ts) (sym taps) (near_more (length names.images) (length more.images) names.taps count h.near);
+      distinct_taps = subst (λ (ts : List Tap). AllPairs (λ t u. t ≢ u) ts) (sym taps) h.distinct_taps;
+    }

@@ -22,9 +22,6 @@ use Rattle.pf_kernel.specs.Reads.{IsTold, fault, memory, AnswersNext, IsNextOr, 
 use Rattle.pf_kernel.specs.Texts.{IsKernel, IsKernelOr, IsKernelFault, long, line, early, IsRefusal, at_line, all_of, byte_limit}
 
 -- ---- the first line of a text
-is_end : ℕ → Bool
-is_end b = b == 10
-
 not_below : (n m : ℕ) → nat_lt n m ≡ false → m ≤ n
 not_below n m e = grind (arith, nat_tests)
 
@@ -80,21 +77,22 @@ module _ (text rest next l : List ℕ) (count : ℕ) (r : Reading) where
       let room : count + length rest ≤ length text = h.room in
       let same : count ≡ length h.before = h.count_is in
       record {
-      good = good;
-      before = h.before ++ l ∷ [];
-      parts = h.parts ∙ ap (λ (ls : List (List ℕ)). h.before ++ ls) e ∙ sym (append_assoc h.before (l ∷ []) (lines next));
-      count_is = omega (arith, length-append h.before (l ∷ []));
-      room = omega arith;
-      read = read_more nothing (begun_of r) (begun_of s) h.before l found.0 h.read found.1 found.2;
-      onward = λ b all.
-        let on = subst (λ (ls : List (List ℕ)). AreRead (begun_of r) ls b) e (h.onward b all) in
-        subst (λ (x : Begun). AreRead x (lines next) b) (sym (only on.0 on.1)) on.2 }
+        good = good;
+        before = h.before ++ l ∷ [];
+        parts = h.parts ∙ ap (λ (ls : List (List ℕ)). h.before ++ ls) e ∙ sym (append_assoc h.before (l ∷ []) (lines next));
+        count_is = omega (arith, length-append h.before (l ∷ []));
+        room = omega arith;
+        read = read_more nothing (begun_of r) (begun_of s) h.before l found.0 h.read found.1 found.2;
+        onward = λ b all.
+            let on = subst (λ (ls : List (List ℕ)). AreRead (begun_of r) ls b) e (h.onward b all) in
+            subst (λ (x : Begun). AreRead x (lines next) b) (sym (only on.0 on.1)) on.2;
+      }
 
   told_of : (e : KernelFault) → IsSoFar text rest count r → length text ≤ byte_limit → lines rest ≡ l ∷ lines next → IsTold (begun_of r) l (count + 1) e → IsRefusal text e
   told_of _ h short e (fault f broken) =
       let place : length h.before + 1 ≡ count + 1 = ap (λ n. n + 1) (sym h.count_is) in
       refusal text (at_line (count + 1) f) (subst (λ (n : ℕ). IsKernelFault text (at_line n f)) place
-        (line h.before (lines next) l (begun_of r) f short (h.parts ∙ ap (λ (ls : List (List ℕ)). h.before ++ ls) e) h.read broken))
+      (line h.before (lines next) l (begun_of r) f short (h.parts ∙ ap (λ (ls : List (List ℕ)). h.before ++ ls) e) h.read broken))
   told_of _ h short e memory = tt
 
   pub next_told : (e : KernelFault) → IsSoFar text rest count r → length text ≤ byte_limit → lines rest ≡ l ∷ lines next → AnswersNext (begun_of r) l (count + 1) (Err e) → IsRefusal text e
@@ -128,16 +126,14 @@ whole text rest count r h none =
     let done : lines rest ≡ [] = ap lines (nil_at rest none) in
     let all : lines text ≡ h.before = h.parts ∙ ap (λ (ls : List (List ℕ)). h.before ++ ls) done ∙ append-nil h.before in
     record {
-    read = subst (λ (ls : List (List ℕ)). AreRead nothing ls (begun_of r)) (sym all) h.read;
-    count_is = h.count_is ∙ ap length (sym all);
-    only = λ b every. subst (λ (ls : List (List ℕ)). AreRead (begun_of r) ls b) done (h.onward b every) }
+      read = subst (λ (ls : List (List ℕ)). AreRead nothing ls (begun_of r)) (sym all) h.read;
+      count_is = h.count_is ∙ ap length (sym all);
+      only = λ b every. subst (λ (ls : List (List ℕ)). AreRead (begun_of r) ls b) done (h.onward b every);
+    }
 
 -- ---- the kernel
 some_same : {A : Type 0} (a b : A) → ◌≡◌ {A = Option A} (Some a) (Some b) → a ≡ b
 some_same a b h = cc
-
-first_of : LaneType × Term → LaneType
-first_of p = p.0
 
 pub same_meaning : (j k : Meaning) → all_of j ≡ all_of k → j ≡ k
 same_meaning j k h =

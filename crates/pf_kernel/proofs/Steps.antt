@@ -43,10 +43,6 @@ absent : {A : Type 0} (o : Option A) → is_some o ≡ false → o ≡ None
 absent None h = refl
 absent (Some x) h = absurd (cc)
 
-none_left : {A : Type 0} (xs : List A) → length xs ≡ 0 → xs ≡ []
-none_left [] h = refl
-none_left (x ∷ xs) h = absurd (omega arith)
-
 -- behind images alone there is nothing else
 pub record IsOpen (b : Begun) : Type 0 where
   pub defs : b.defs ≡ []
@@ -79,13 +75,14 @@ good_image b d h may named pixel range free few =
     let no_defs : map def_name b.defs ≡ [] = ap (map def_name) opened.defs in
     let all : all_names (names_in more) ≡ all_names (names_in b) ++ d.name ∷ [] = ap (λ xs. names_by xs (map def_name b.defs)) images ∙ one_image (map image_name b.images) (image_name d) (map def_name b.defs) no_defs in
     record {
-    called = named_by b.name b.images (and_left _ _ may) h.called (b.images ++ d ∷ []);
-    names = named_more (names_in b) (names_in more) d.name h.names named free all refl (omega arith) (omega arith) h.names.few_defs (subst (λ (xs : List ImageName). All (λ i. IsPixelType i.ty) xs) (sym images) (All-push (λ i. IsPixelType i.ty) (map image_name b.images) (image_name d) h.names.pixels pixel));
-    images = All-push IsDecl b.images d h.images range;
-    defs = subst (λ (ds : List Definition). AreDefinitions (names_behind (b.images ++ d ∷ []) b.taps []) ds) (sym opened.defs) tt;
-    nodes = h.nodes;
-    turn = h.turn;
-    out = subst (λ (o : Option (LaneType × Term)). MatchOption o (Unit {0}) (λ p. IsPixelType p.0 × IsTermOf (names_in more) p.0 p.1 × (1 ≤ length more.images))) (sym opened.out) tt }
+      called = named_by b.name b.images (and_left _ _ may) h.called (b.images ++ d ∷ []);
+      names = named_more (names_in b) (names_in more) d.name h.names named free all refl (omega arith) (omega arith) h.names.few_defs (subst (λ (xs : List ImageName). All (λ i. IsPixelType i.ty) xs) (sym images) (All-push (λ i. IsPixelType i.ty) (map image_name b.images) (image_name d) h.names.pixels pixel));
+      images = All-push IsDecl b.images d h.images range;
+      defs = subst (λ (ds : List Definition). AreDefinitions (names_behind (b.images ++ d ∷ []) b.taps []) ds) (sym opened.defs) tt;
+      nodes = h.nodes;
+      turn = h.turn;
+      out = subst (λ (o : Option (LaneType × Term)). MatchOption o (Unit {0}) (λ p. IsPixelType p.0 × IsTermOf (names_in more) p.0 p.1 × (1 ≤ length more.images))) (sym opened.out) tt;
+    }
 
 -- the names of one more image
 names_more : (r : Reading) (d : ImageDecl) (xs : List ImageDecl) (ns : List ImageName) → r.names ≡ names_in (begun_of r) → xs ≡ r.images ++ d ∷ [] → ns ≡ r.names.images ++ image_name d ∷ [] →
@@ -100,8 +97,9 @@ pub image_added : (r : Reading) (d : ImageDecl) (xs : List ImageDecl) (ns : List
     xs ≡ r.images ++ d ∷ [] → ns ≡ r.names.images ++ image_name d ∷ [] → IsReading (record { name = r.name; images = xs; names = record { images = ns; taps = r.names.taps; defs = r.names.defs }; defs = r.defs; out = r.out })
 image_added r d xs ns h may named pixel range free few e f =
     record {
-    good = subst (λ (ys : List ImageDecl). IsGood (record (begun_of r) { images = ys })) (sym e) (good_image (begun_of r) d h.good may named pixel range free few);
-    same = names_more r d xs ns h.same e f }
+      good = subst (λ (ys : List ImageDecl). IsGood (record (begun_of r) { images = ys })) (sym e) (good_image (begun_of r) d h.good may named pixel range free few);
+      same = names_more r d xs ns h.same e f;
+    }
 
 pub on_ok : {T E : Type 0} {P Q : Type 0} (r : Result T E) → (P → Q) → OnOk r P → OnOk r Q
 on_ok (Ok x) f h = f h

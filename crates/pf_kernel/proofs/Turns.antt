@@ -63,6 +63,7 @@ same_int n = both _ _ (self n) (self n) where
   both : (a b : Bool) → a ≡ true → b ≡ true → (a && b) ≡ true
   both true b h k = k
   both false b h k = absurd (cc)
+
   self : (n : ℤ) → int_le n n ≡ true
   self n = grind (arith, ints)
 

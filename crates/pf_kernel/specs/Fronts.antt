@@ -12,11 +12,6 @@ use Rattle.pf_kernel.specs.declared.front.Front.{Front}
 use Rattle.pf_kernel.specs.declared.front.Front.TheVariants.{Kernel as KernelFront, Image as ImageFront, Def as DefFront, Out as OutFront}
 use Rattle.pf_kernel.specs.Lines.{whole_range}
 
-abbrev pub is_wide : Bits → Bool
-is_wide Eight = false
-is_wide Sixteen = false
-is_wide ThirtyTwo = true
-
 abbrev pub is_pixel_by : Bool → Bits → Bool
 is_pixel_by true bits = false
 is_pixel_by false Eight = true

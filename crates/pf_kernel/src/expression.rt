@@ -13,13 +13,18 @@ ghost use Rattle.pf_kernel.specs.Kernels.{IsTermOf};
 ghost use Rattle.pf_kernel.specs.Lines.{expression_faults, mistyped, more_than, counted};
 
 use pf_ints::{Bits, LaneType, Name};
-use pf_terms::{DefName, Draft, Gives, ImageName, LimitKind, Names, ReadFault, Term, depth, nodes, read_draft, read_term};
+use pf_terms::{
+    DefName, Draft, Gives, ImageName, LimitKind, Names, ReadFault, Term, depth, nodes, read_draft,
+    read_term,
+};
 use std::alloc::{AllocError, Global};
 
 // How many definitions a kernel may have, how deep a term may be, and how many nodes all terms may
 // have.
 const MOST_DEFS: usize = 64;
+
 const MOST_DEPTH: u64 = 128;
+
 const MOST_NODES: u64 = 512;
 
 // The greatest count that a limit tells.
@@ -43,7 +48,12 @@ pub struct Measure {
 }
 
 /// The term of an expression. Its new taps are added at the end of the names' taps.
-pub fn read_expression(alloc: Global, text: &[u8], by: Measure, names: &mut Names) -> Result<Term, ReadFault>
+pub fn read_expression(
+    alloc: Global,
+    text: &[u8],
+    by: Measure,
+    names: &mut Names,
+) -> Result<Term, ReadFault>
     requires names { IsNames names.old }
     requires few { by.defs ≤ 65 }
     requires small { by.nodes ≤ 512 }
@@ -77,7 +87,9 @@ fn term_fault(term: &Term, by: Measure) -> Option<ReadFault>
     requires small { by.nodes ≤ 512 }
     ensures { result ≡ term_fault by.ty (stated_type term.now) by.defs (depth_of term.now) (by.nodes + node_count term.now) }
 {
-    mistyped(by.ty, stated_type(term)).or(too_many_defs(by.defs).or(too_deep(term).or(too_many_nodes(term, by.nodes))))
+    mistyped(by.ty, stated_type(term)).or(too_many_defs(by.defs).or(too_deep(term).or(
+        too_many_nodes(term, by.nodes),
+    )))
 }
 
 fn mistyped(want: LaneType, got: LaneType) -> Option<ReadFault>
@@ -147,7 +159,14 @@ fn told(alloc: Global, text: &[u8], by: Measure, names: &Names, fault: ReadFault
     }
 }
 
-fn limit_told(alloc: Global, text: &[u8], by: Measure, names: &Names, what: LimitKind, count: i64) -> ReadFault
+fn limit_told(
+    alloc: Global,
+    text: &[u8],
+    by: Measure,
+    names: &Names,
+    what: LimitKind,
+    count: i64,
+) -> ReadFault
     requires few { by.defs ≤ 65 }
     requires fault { IsRefused names.now text.now (Limit what count) }
     ensures { Tells names.now by.nodes by.ty by.defs text.now result }
@@ -166,7 +185,9 @@ fn limit_fault(ty: LaneType, got: LaneType, defs: usize, what: LimitKind, count:
     requires { defs ≤ 65 }
     ensures { limit_fault ty got defs what count ≡ Some result }
 {
-    mistyped(ty, got).or(defs_before(what, defs)).unwrap_or(ReadFault::Limit { what, count })
+    mistyped(ty, got)
+        .or(defs_before(what, defs))
+        .unwrap_or(ReadFault::Limit { what, count })
 }
 
 fn defs_before(what: LimitKind, defs: usize) -> Option<ReadFault>
@@ -188,7 +209,11 @@ fn draft_type(alloc: Global, names: &Names, draft: &Draft) -> Result<LaneType, A
         Draft::Named(name) => Ok(def_type(names.defs.as_slice(), name)),
         Draft::Placed(name, ..) => Ok(image_type(names.images.as_slice(), name)),
         Draft::Node {
-            op, less, ty, args, ..
+            op,
+            less,
+            ty,
+            args,
+            ..
         } => {
             let mut types = Vec::new(alloc);
             for arg in args.as_slice() {

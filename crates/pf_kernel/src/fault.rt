@@ -11,9 +11,15 @@ use std::alloc::{AllocError, AllocFailed};
 pub enum KernelFault {
     /// The line, up to and with the token at this column, begins no line that may stand there; or
     /// it ends there too early. A text that ends too early is told behind its last line.
-    Syntax { line: u32, column: u64 },
+    Syntax {
+        line: u32,
+        column: u64,
+    },
     /// A name that is unknown or that an image or a definition has already.
-    Name { line: u32, name: Name },
+    Name {
+        line: u32,
+        name: Name,
+    },
     /// A term of type `got` where `want` is asked for.
     Types {
         line: u32,
@@ -23,7 +29,10 @@ pub enum KernelFault {
     /// A limit that is passed, and the counted number: of images, taps, definitions and nodes that
     /// of all lines up to and with this one, of a depth that of the line's term. Of an amount or an
     /// offset it is the number itself.
-    Limit { what: LimitKind, count: i64 },
+    Limit {
+        what: LimitKind,
+        count: i64,
+    },
     /// Want of memory.
     Memory,
 }

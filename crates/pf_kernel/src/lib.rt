@@ -9,12 +9,9 @@ mod line;
 mod read;
 mod reading;
 mod size;
-#[cfg(test)]
-mod tests;
 mod write;
 
 pub use fault::KernelFault;
-pub use front::Front;
 pub use kernel::Kernel;
 pub use pf_terms::{Definition, Definitions, ImageDecl, ImageList};
 pub use read::read_kernel;

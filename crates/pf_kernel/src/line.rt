@@ -19,7 +19,9 @@ use crate::expression::{Measure, read_expression};
 use crate::front::{Front, front_by};
 use crate::reading::Reading;
 use pf_ints::{LaneType, Name};
-use pf_terms::{Definition, ImageDecl, Kind, LimitKind, LineWord, ReadFault, Term, Token, nodes, tokens};
+use pf_terms::{
+    Definition, ImageDecl, Kind, LimitKind, LineWord, ReadFault, Term, Token, nodes, tokens,
+};
 use std::alloc::Global;
 
 const MOST_IMAGES: usize = 8;
@@ -37,7 +39,12 @@ pub fn read_line(alloc: Global, reading: Reading, line: &[u8]) -> Result<Reading
     read_tokens(alloc, reading, text, tokens.as_slice())
 }
 
-fn read_tokens(alloc: Global, reading: Reading, text: &[u8], tokens: &[Token]) -> Result<Reading, ReadFault>
+fn read_tokens(
+    alloc: Global,
+    reading: Reading,
+    text: &[u8],
+    tokens: &[Token],
+) -> Result<Reading, ReadFault>
     requires good { IsReading reading }
     requires lexed { IsLexed 0 text.now tokens.now }
     requires short { length text.now < 2 ^ 32 }
@@ -56,7 +63,13 @@ fn read_tokens(alloc: Global, reading: Reading, text: &[u8], tokens: &[Token]) -
     }
 }
 
-fn read_front(alloc: Global, reading: Reading, front: Front, text: &[u8], tokens: &[Token]) -> Result<Reading, ReadFault>
+fn read_front(
+    alloc: Global,
+    reading: Reading,
+    front: Front,
+    text: &[u8],
+    tokens: &[Token],
+) -> Result<Reading, ReadFault>
     requires good { IsReading reading }
     requires lexed { IsLexed 0 text.now tokens.now }
     requires short { length text.now < 2 ^ 32 }
@@ -124,12 +137,18 @@ fn told_at(tokens: &[Token], n: usize) -> usize
 {
     match tokens {
         [
-            Token { kind: Kind::Line(LineWord::Image), .. },
+            Token {
+                kind: Kind::Line(LineWord::Image),
+                ..
+            },
             _,
             _,
             _,
-            Token { kind: Kind::Number(_), .. },
-            ..,
+            Token {
+                kind: Kind::Number(_),
+                ..
+            },
+            ..
         ] if n == 4 => 3,
         _ => n,
     }
@@ -195,7 +214,13 @@ fn read_image(reading: Reading, image: ImageDecl) -> Result<Reading, ReadFault>
     Ok(reading)
 }
 
-fn read_def(alloc: Global, reading: Reading, name: Name, ty: LaneType, text: &[u8]) -> Result<Reading, ReadFault>
+fn read_def(
+    alloc: Global,
+    reading: Reading,
+    name: Name,
+    ty: LaneType,
+    text: &[u8],
+) -> Result<Reading, ReadFault>
     requires good { IsReading reading }
     requires may { may_stand (begun_of reading) Def ≡ true }
     requires named { is_name name ≡ true }
@@ -220,7 +245,12 @@ fn read_def(alloc: Global, reading: Reading, name: Name, ty: LaneType, text: &[u
     }
 }
 
-fn read_out(alloc: Global, reading: Reading, ty: LaneType, text: &[u8]) -> Result<Reading, ReadFault>
+fn read_out(
+    alloc: Global,
+    reading: Reading,
+    ty: LaneType,
+    text: &[u8],
+) -> Result<Reading, ReadFault>
     requires good { IsReading reading }
     requires may { may_stand (begun_of reading) Out ≡ true }
     requires pixels { IsPixelType ty }
@@ -255,7 +285,11 @@ fn nodes_in(defs: &[Definition]) -> u64
 }
 
 // What was read of a term, unless its definition's name is taken. Syntax is told before a name.
-fn unless_taken(is_taken: bool, name: Name, read: Result<Term, ReadFault>) -> Result<Term, ReadFault>
+fn unless_taken(
+    is_taken: bool,
+    name: Name,
+    read: Result<Term, ReadFault>,
+) -> Result<Term, ReadFault>
     ensures { result ≡ unless_taken is_taken name read }
 {
     match read {

@@ -145,7 +145,9 @@ fn finish(reading: Reading, count: u32) -> Result<Kernel, KernelFault>
         out,
     } = reading;
     match (name, out) {
-        (Some(name), Some((out_ty, out))) => Ok(Kernel::new(name, images, names, defs, out_ty, out)),
+        (Some(name), Some((out_ty, out))) => Ok(Kernel::new(
+            name, images, names, defs, out_ty, out,
+        )),
         _ => Err(KernelFault::Syntax {
             line: count + 1,
             column: 1,

@@ -9,7 +9,10 @@ ghost use Rattle.pf_kernel.specs.Lines.{nothing, may_stand, is_taken, names_in, 
 ghost use Rattle.pf_kernel.specs.Readings.{begun_of, IsReading};
 
 use pf_ints::{LaneType, Name, Sequence};
-use pf_terms::{DefName, DefNames, Definition, Definitions, ImageDecl, ImageList, ImageName, ImageNames, LineWord, Names, TapList, Term};
+use pf_terms::{
+    DefName, DefNames, Definition, Definitions, ImageDecl, ImageList, ImageName, ImageNames,
+    LineWord, Names, TapList, Term,
+};
 use std::alloc::{AllocError, Global};
 
 /// What the first lines of a kernel's text say.

@@ -78,7 +78,12 @@ fn write_def(text: &mut Vec<u8>, def: &Definition, names: &Names) -> Result<(), 
     write_typed(text, def.ty, &def.term, names)
 }
 
-fn write_typed(text: &mut Vec<u8>, ty: LaneType, term: &Term, names: &Names) -> Result<(), AllocError>
+fn write_typed(
+    text: &mut Vec<u8>,
+    ty: LaneType,
+    term: &Term,
+    names: &Names,
+) -> Result<(), AllocError>
     requires { IsPrintable names.now term.now }
     ensures { OnOk result (text.new.items ≡ text.old.items ++ ended (typed_text names.now ty term.now)) }
 {

@@ -17,7 +17,7 @@ pub returns-in-Ok-clause-typed : goal.returns-in-Ok-clause-typed
 returns-in-Ok-clause-typed c =
     if_clean (λ t. IsTermOf c.read_term.new.names c.args.by.ty t) c.in-Ok.term _ c.judge.result c.judge.ensures
     (λ none. let is = clean c.args.by.ty (stated_type c.in-Ok.term) c.args.by.defs (depth_of c.in-Ok.term) (c.args.by.nodes + node_count c.in-Ok.term) none in
-      record { formed = c.in-Ok.ensures.typed; typed = is.same; named = c.in-Ok.ensures.named; depth = is.shallow })
+    record { formed = c.in-Ok.ensures.typed; typed = is.same; named = c.in-Ok.ensures.named; depth = is.shallow })
 
 pub returns-in-Ok-clause-room : goal.returns-in-Ok-clause-room
 returns-in-Ok-clause-room c =
