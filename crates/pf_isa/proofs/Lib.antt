@@ -13,3 +13,9 @@ mod WrittenHeads
 pub mod WrittenLaws
 pub mod MachineLaws
 pub mod RunLaws
+pub mod PlaceLaws
+pub mod CodeLineLaws
+pub mod CodeLaws
+pub mod CodeTexts
+pub mod CodeOnce
+pub mod JoinLaws

@@ -10,9 +10,11 @@ pub mod Heads
 pub mod Programs
 pub mod Texts
 pub mod TextFaults
+pub mod CodeReading
 pub mod Blocks
 pub mod Runs
 pub mod RowEnds
 pub mod Moved
 pub mod Spans
 pub mod Machines
+pub mod Places

@@ -4,9 +4,11 @@
 mod access;
 mod block;
 mod code;
+mod code_line;
 mod control;
 mod fault;
 mod isa;
+mod jumps;
 mod lines;
 mod machine;
 mod memory;

@@ -106,7 +106,8 @@ enum Gap {
     Open,
 }
 
-fn is_blank(byte: u8) -> bool
+/// Whether the byte is a space or a TAB.
+pub fn is_blank(byte: u8) -> bool
     ensures { result ≡ is_blank byte }
 {
     byte == b' ' || byte == b'\t'
