@@ -3,6 +3,7 @@ ghost use Rattle.pf_ints.specs.Images.{IsPixelType};
 use super::*;
 use pf_images::read_pgm;
 use pf_ints::{Bits, ImageSet, LaneType, Name, Sequence};
+use pf_kernel::read_kernel;
 use pf_terms::{ImageDecl, Tap};
 use std::alloc::Global;
 use std::test::Fail;
@@ -107,6 +108,45 @@ fn sets_are_judged(rt: HostRuntime) -> Result<(), Fail> {
     for (files, fault) in SETS {
         let set = set_of(rt.alloc(), files)?;
         assert!(rt; judge_set(&images, &taps, &set) == fault);
+    }
+    Ok(())
+}
+
+const SUM: &[u8] = b"kernel sum\nimage a u8\nout u8 = a[0,0] + 10u8\n";
+
+const BLUR: &[u8] =
+    b"kernel blur\nimage a u8\nout u8 = u8((u16(a[-1,0]) + 2u16*u16(a[0,0]) + u16(a[1,0]) + 2u16) >> 2)\n";
+
+const SOBEL: &[u8] = b"kernel sobel\nimage a u8
+def l u16 = u16(a[-1,-1]) + 2u16*u16(a[-1,0]) + u16(a[-1,1])
+def r u16 = u16(a[1,-1]) + 2u16*u16(a[1,0]) + u16(a[1,1])
+def t u16 = u16(a[-1,-1]) + 2u16*u16(a[0,-1]) + u16(a[1,-1])
+def b u16 = u16(a[-1,1]) + 2u16*u16(a[0,1]) + u16(a[1,1])
+out u8 = saturating_cast(u8, absd(l, r) + absd(t, b))
+";
+
+/// Kernels, an image for each, and the width and the pixels of the output.
+const KERNELS: [(&[u8], &[u8], u32, &[u16]); 3] = [
+    (SUM, b"P5 2 1 255 \xfa\x07", 2, &[4, 17]),
+    (BLUR, b"P5 3 1 255 \x0a\x14\x28", 1, &[23]),
+    (
+        SOBEL,
+        b"P5 4 3 255 \x00\x04\x08\x0c\x00\x04\x08\x0c\x00\x04\x08\x0c",
+        2,
+        &[32, 32],
+    ),
+];
+
+#[test]
+fn kernels_are_evaluated(rt: HostRuntime) -> Result<(), Fail> {
+    for (text, file, width, pixels) in KERNELS {
+        let kernel = read_kernel(rt.alloc(), text).ok().ok_or("a kernel")?;
+        let set = set_of(rt.alloc(), &[(file, false)])?;
+        let image = eval_images(rt.alloc(), &kernel, &set)
+            .ok()
+            .ok_or("an output")?;
+        assert_eq!(rt; image.width(), width);
+        assert_eq!(rt; image.pixels(), pixels);
     }
     Ok(())
 }
