@@ -4,6 +4,7 @@ use Rattle.std.specs.List.{AllZip}
 use Rattle.pf_ints.specs.declared.lane.LaneType.{LaneType}
 use Rattle.pf_ints.specs.Images.{Picture}
 use Rattle.pf_terms.specs.declared.kernel.ImageDecl.{ImageDecl}
+use Rattle.pf_images.specs.Counts.{Rose}
 use Rattle.pf_images.specs.Outside.{Contents}
 use Rattle.pf_images.specs.Pgm.{IsPgm}
 use Rattle.pf_isa.specs.declared.memory.Region.{Region}
@@ -42,3 +43,7 @@ pub record IsRunnable (r : Run) (files : Contents) : Type 0 where
   pub images : AllZip (IsImageThere files) (zip r.images program.head.images) pictures
   pub keeps : KeepsAll program.head.images program.head.taps pictures
   pub finishes : run_end table program pictures ≡ Finished regions
+
+-- a count of faults didn't rise
+abbrev pub IsCalm : ℕ → ℕ → Type 0
+IsCalm before after = Rose before after → ⊥
