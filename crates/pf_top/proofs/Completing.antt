@@ -1,5 +1,5 @@
 -- `run` does its work wherever it can.
-use Rattle.std.proofs.Common.{◌≡◌, ◌≢◌, ℕ, zero, suc, ◌+◌, ◌≤◌, ◌<◌, ◌⊎◌, inl, inr, take, zip, length, List, [], ◌∷◌, Option, Some, None, Result, Ok, Err, ◌∙◌, refl, sym, ap, subst, get_or, arith}
+use Rattle.std.proofs.Common.{◌≡◌, ℕ, zero, suc, ◌+◌, ◌≤◌, ◌<◌, ◌⊎◌, inl, inr, take, zip, length, List, [], ◌∷◌, Option, Some, None, Err, ◌∙◌, refl, sym, ap, subst, get_or, arith}
 use Rattle.std.specs.Prelude.{IsSomeAnd, slice_get}
 use Rattle.std.specs.List.{AllZip}
 use Rattle.std.proofs.lemmas.List.{take_all}
@@ -10,7 +10,6 @@ use Rattle.pf_terms.specs.declared.kernel.ImageDecl.{ImageDecl}
 use Rattle.pf_images.specs.Counts.{Rose}
 use Rattle.pf_images.specs.Outside.{Contents, Changes}
 use Rattle.pf_isa.specs.Programs.{Text}
-use Rattle.pf_isa.specs.Runs.{Finished, Failed}
 use Rattle.pf_neon.specs.declared.neon.Neon.{Neon}
 use Rattle.pf_neon.specs.declared.op.Form.{Form}
 use Rattle.pf_neon.specs.Neon.{table}
@@ -93,7 +92,7 @@ module _ (r : Run) (m : Contents) (can : IsRunnable r m) where
       let there = image_at (IsImageThere m) r.images can.program.head.images can.pictures n low can.count can.images in
       let same : there.0.1 ≡ d = let two : Some there.0.1 ≡ Some d = sym there.4 ∙ declared in cc in
       let named : Begins there.0.0 (image_limit + 1) (RefusesImage there.0.1.ty e) m =
-          subst (λ name. Begins name (image_limit + 1) (RefusesImage there.0.1.ty e) m) (sym there.3) (subst (λ x. Begins (get_or r.images n []) (image_limit + 1) (RefusesImage x.ty e) m) (sym same) refused) in
+      subst (λ name. Begins name (image_limit + 1) (RefusesImage there.0.1.ty e) m) (sym there.3) (subst (λ x. Begins (get_or r.images n []) (image_limit + 1) (RefusesImage x.ty e) m) (sym same) refused) in
       clash e there.0 there.1 named there.2
     where
       clash : (e : ImageRefusal) (w : List ℕ × ImageDecl) (q : Picture) → Begins w.0 (image_limit + 1) (RefusesImage w.1.ty e) m → IsImageThere m w q → ⊥
