@@ -7,6 +7,7 @@ pub mod Courses
 pub mod RunLists
 pub mod TextFiles
 pub mod Running
+pub mod Completing
 pub mod Tellable
 pub mod ImageLists
 pub mod Telling

@@ -5,6 +5,7 @@ pub mod LeastKernels
 pub mod Reading
 pub mod Headline
 pub mod Running
+pub mod Completeness
 pub mod RunStatuses
 pub mod RunSteps
 pub mod Selected

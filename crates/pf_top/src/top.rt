@@ -1,6 +1,8 @@
-ghost use Rattle.std.specs.Prelude.{◌≡◌, map, string_bytes};
+ghost use Rattle.std.specs.Prelude.{◌≡◌, ◌⊎◌, Some, map, string_bytes};
 ghost use Rattle.pf_top.specs.declared.run_verdict.RunVerdict.{RunVerdict};
 ghost use Rattle.pf_top.specs.declared.verdict.Verdict.{Verdict};
+ghost use Rattle.pf_images.specs.Outside.{Contents};
+ghost use Rattle.pf_top.specs.Completeness.{IsCalm, IsRunnable};
 ghost use Rattle.pf_top.specs.Courses.{seen};
 ghost use Rattle.pf_top.specs.Running.{Run, IsRun, RanTo};
 ghost use Rattle.pf_top.specs.RunStatuses.{run_due};
@@ -48,6 +50,13 @@ pub fn pitchfork<F: Files, S: Sink>(
         → (v : RunVerdict) × RanTo r (seen F.held F.faults F.calls files.old) v (seen F.held F.faults F.calls files.new)
         × Tells (run_due r v) (seen_output S.written S.faults S.calls out.old) result
         (seen_output S.written S.faults S.calls out.new) }
+
+    // `run` does its work, or memory is wanting, on a text and images such as it asks for on which
+    // all rows of its run return, where neither the store nor the output failed.
+    ensures completes { (r : Run) (held : Contents) → IsRun (map string_bytes words.now.items) r
+        → F.held files.old ≡ Some held → IsRunnable r held
+        → IsCalm (F.faults files.old) (F.faults files.new) → IsCalm (S.faults out.old) (S.faults out.new)
+        → (result ≡ 0) ⊎ (result ≡ 13) }
 {
     if let Some(words) = selection_of(words.as_slice()) {
         let verdict = select(alloc, &words, files);

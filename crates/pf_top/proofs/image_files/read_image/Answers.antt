@@ -1,4 +1,4 @@
-use Rattle.std.proofs.Common.{◌≡◌, ◌+◌, ap, subst}
+use Rattle.std.proofs.Common.{◌+◌, ap, subst}
 use Rattle.pf_top.specs.ImageFiles.{IsImageFile, RefusesImage, image_limit}
 use Rattle.pf_top.specs.Steps.{Finds}
 use Rattle.pf_top.proofs.Courses.{judged_room}

@@ -1,6 +1,8 @@
-use Rattle.std.proofs.Common.{◌≡◌}
+use Rattle.std.proofs.Common.{◌≡◌, subst, sym}
 use Rattle.pf_top.specs.Steps.{the_words}
 use Rattle.pf_top.specs.RunSteps.{the_run}
+use Rattle.pf_top.specs.Completeness.{IsRunnable}
+use Rattle.pf_top.proofs.Completing.{complete}
 use Rattle.pf_top.proofs.SameWords.{same_run}
 use Rattle.pf_top.proofs.top.pitchfork.Goals as goal
 
@@ -14,3 +16,8 @@ pub returns-in-Some-run_of-clause-runs : goal.returns-in-Some-run_of-clause-runs
 returns-in-Some-run_of-clause-runs g c = λ r is.
     let same : the_run c.in-Some-run_of.words ≡ r = same_run _ _ _ c.in-Some-run_of.ensures (rw c.as_slice-2.ensures.value is) in
     rw (← same) (c.run-verdict.result, c.run-verdict.ensures, c.tell_run_verdict.ensures)
+
+pub returns-in-Some-run_of-clause-completes : goal.returns-in-Some-run_of-clause-completes
+returns-in-Some-run_of-clause-completes g c = λ r held is told can calm quiet.
+    let same : the_run c.in-Some-run_of.words ≡ r = same_run _ _ _ c.in-Some-run_of.ensures (rw c.as_slice-2.ensures.value is) in
+    complete (the_run c.in-Some-run_of.words) held _ _ _ _ _ c.run-verdict.result told (subst (λ t. IsRunnable t held) (sym same) can) calm quiet c.run-verdict.ensures c.tell_run_verdict.ensures
