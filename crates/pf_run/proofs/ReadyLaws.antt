@@ -38,12 +38,12 @@ pub record Ready (h : Head) (pictures : List Picture) : Type 0 where
   pub places : IsPlaced h pictures (run_places h pictures) (blank_scratch h) (blank_output h pictures)
 
 -- the size of the first
-record SmallFirst (pictures : List Picture) : Type 0 where
-  wide : width_of pictures ≤ 8192
-  high : height_of pictures ≤ 8192
-  most : width_of pictures * height_of pictures ≤ 16777216
+pub record SmallFirst (pictures : List Picture) : Type 0 where
+  pub wide : width_of pictures ≤ 8192
+  pub high : height_of pictures ≤ 8192
+  pub most : width_of pictures * height_of pictures ≤ 16777216
 
-small_first : (pictures : List Picture) → All IsPicture pictures → SmallFirst pictures
+pub small_first : (pictures : List Picture) → All IsPicture pictures → SmallFirst pictures
 small_first [] are = record { wide = omega arith; high = omega arith; most = omega arith }
 small_first (p ∷ ps) are = let is = All-head IsPicture p ps are in record { wide = is.most_wide; high = is.most_high; most = is.most }
 
