@@ -1,5 +1,5 @@
 -- Lists of images beside their names and declarations.
-use Rattle.std.proofs.Common.{◌≡◌, ℕ, zero, suc, ◌+◌, List, [], ◌∷◌, ◌++◌, take, zip, map, min, length, ◌≤◌, Some, None, Result, Ok, Err, refl, arith, subst, sym, ap, get_or, ◌∙◌}
+use Rattle.std.proofs.Common.{◌≡◌, ℕ, zero, suc, ◌+◌, List, [], ◌∷◌, ◌++◌, take, zip, map, min, length, ◌≤◌, Some, Ok, Err, arith, subst, sym, ap, get_or, ◌∙◌}
 use Rattle.std.specs.Prelude.{slice_get}
 use Rattle.std.specs.List.{AllZip}
 use Rattle.std.specs.Option.{option_map}
@@ -13,9 +13,9 @@ use Rattle.pf_images.specs.Outside.{Contents, SameContents}
 use Rattle.pf_top.specs.declared.image_files.ImageRefusal.{ImageRefusal}
 use Rattle.pf_top.specs.declared.judging.Stop.{Stop}
 use Rattle.pf_top.specs.declared.judging.Stop.TheVariants.{Unread}
-use Rattle.pf_top.specs.Courses.{Store, Well, Wanting, Went, Begins, Judges, Judged, judging_course, later}
+use Rattle.pf_top.specs.Courses.{Store, Well, Went, Begins, Judges, Judged, judging_course}
 use Rattle.pf_top.specs.ImageFiles.{HoldsImage, HoldImages, IsImageFile, RefusesImage, image_limit, images_course}
-use Rattle.pf_top.proofs.Courses.{After, after_then, after_judged, judges_before, changes_weaker}
+use Rattle.pf_top.proofs.Courses.{After, after_then, after_judged, judges_before}
 
 pub zip_at : {A B : Type 0} (xs : List A) (ys : List B) (n : ℕ) (x : A) (y : B) → slice_get xs n ≡ Some x → slice_get ys n ≡ Some y → slice_get (zip xs ys) n ≡ Some (x, y)
 zip_at [] ys n x y e f = absurd (cc)
@@ -57,9 +57,9 @@ module _ {X : Type 0} (g : X → List ℕ) (names : List X) (decls : List ImageD
       → After (AllHeld (take (n + 1) (zip (map g names) decls)) (pictures ++ picture ∷ [])) (n + 1) b e
   images_next picture step =
       let went : After (AllHeld (take (n + 1) (zip (map g names) decls)) (pictures ++ picture ∷ [])) (1 + n) b e =
-          after_judged (IsImageFile d.ty) (RefusesImage d.ty) (AllHeld (take n (zip (map g names) decls)) pictures) (AllHeld (take (n + 1) (zip (map g names) decls)) (pictures ++ picture ∷ []))
-          name (image_limit + 1) n b c e picture
-          (λ m held this. all_zip_next (HoldsImage m) (zip (map g names) decls) pictures n (name, d) picture pair held this) before step in
+      after_judged (IsImageFile d.ty) (RefusesImage d.ty) (AllHeld (take n (zip (map g names) decls)) pictures) (AllHeld (take (n + 1) (zip (map g names) decls)) (pictures ++ picture ∷ []))
+      name (image_limit + 1) n b c e picture
+      (λ m held this. all_zip_next (HoldsImage m) (zip (map g names) decls) pictures n (name, d) picture pair held this) before step in
       let same : 1 + n ≡ n + 1 = omega arith in
       subst (λ k. After (AllHeld (take (n + 1) (zip (map g names) decls)) (pictures ++ picture ∷ [])) k b e) same went
 
@@ -68,9 +68,9 @@ module _ {X : Type 0} (g : X → List ℕ) (names : List X) (decls : List ImageD
       → Went (λ old new. HoldImages (zip (map g names) decls) (Err (record { image = n; stop = Unread Memory })) old × SameContents old new) (images_course (Err (record { image = n; stop = Unread Memory }))) b e
   images_lost picture step =
       let went : Went (λ old new. HoldImages (zip (map g names) decls) (Err (record { image = n; stop = Unread Memory })) old × SameContents old new) (Well (1 + n)) b e =
-          after_then (AllHeld (take n (zip (map g names) decls)) pictures) (Begins name (image_limit + 1) (IsImageFile d.ty picture))
-          (HoldImages (zip (map g names) decls) (Err (record { image = n; stop = Unread Memory }))) n (Well 1) b c e
-          (λ m o same held judged. (pictures, (name, d), held, pair, tt)) before step in
+      after_then (AllHeld (take n (zip (map g names) decls)) pictures) (Begins name (image_limit + 1) (IsImageFile d.ty picture))
+      (HoldImages (zip (map g names) decls) (Err (record { image = n; stop = Unread Memory }))) n (Well 1) b c e
+      (λ m o same held judged. (pictures, (name, d), held, pair, tt)) before step in
       record { contents = went.contents; faults = went.faults; calls = (1 + n, omega arith, went.calls) }
 
 -- all images were read
@@ -85,7 +85,7 @@ module _ {X : Type 0} (g : X → List ℕ) (names : List X) (decls : List ImageD
       let taken : length (take n decls) ≡ n = length-take-le n decls (omega (arith, count, most)) in
       let long : length pictures ≡ n = AllZip-long R (take n decls) pictures types ∙ taken in
       let first : Went (λ old new. AllZip (HoldsImage old) (zip (map g names) decls) pictures × SameContents old new) (Well n) b c =
-          subst (λ ws. After (AllHeld ws pictures) n b c) whole read in
+      subst (λ ws. After (AllHeld ws pictures) n b c) whole read in
       subst (λ k. Went (λ old new. AllZip (HoldsImage old) (zip (map g names) decls) pictures × SameContents old new) (Well k) b c) (sym long) first
 
   pub types_all : (R : ImageDecl → Picture → Type 0) → length names ≡ length decls → length names ≤ n → AllZip R (take n decls) pictures → AllZip R decls pictures

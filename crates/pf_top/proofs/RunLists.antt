@@ -1,5 +1,5 @@
 -- The words of a run as lists.
-use Rattle.std.proofs.Common.{◌≡◌, ℕ, zero, suc, false, ◌==◌, ◌+◌, ◌-◌, ◌≤◌, ◌<◌, List, [], ◌∷◌, ◌++◌, length, map, take, drop, get_or, refl, sym, ap, ◌∙◌, subst, arith}
+use Rattle.std.proofs.Common.{◌≡◌, ℕ, zero, suc, false, ◌==◌, ◌+◌, ◌-◌, ◌≤◌, ◌<◌, List, [], ◌∷◌, ◌++◌, length, map, take, drop, get_or, sym, ap, ◌∙◌, arith}
 use Rattle.std.proofs.lemmas.List.{take_more, take_all, length-map, map-append}
 
 last_item : {X : Type 0} (xs : List X) (c : X) → 1 ≤ length xs → c ≡ get_or xs (length xs - 1) c → xs ≡ take (length xs - 1) xs ++ c ∷ []

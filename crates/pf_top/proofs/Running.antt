@@ -1,9 +1,9 @@
 -- How the steps of `run` make the whole call.
-use Rattle.std.proofs.Common.{◌≡◌, ℕ, zero, suc, ◌+◌, ◌≤◌, ◌<◌, take, zip, length, min, List, [], ◌∷◌, Option, Some, None, Result, Ok, Err, ◌∙◌, refl, sym, ap, subst, get_or, arith}
-use Rattle.std.specs.Prelude.{IsSomeAnd, ⊤, slice_get, slice_index_or}
+use Rattle.std.proofs.Common.{◌≡◌, ℕ, zero, suc, ◌+◌, ◌≤◌, ◌<◌, take, zip, length, List, [], ◌∷◌, Some, None, Result, Ok, Err, ◌∙◌, refl, sym, ap, subst, arith}
+use Rattle.std.specs.Prelude.{⊤, slice_get}
 use Rattle.std.specs.List.{AllZip}
 use Rattle.std.proofs.lemmas.List.{take_all}
-use Rattle.std.proofs.lemmas.Option.{slice_get_within, get_or_from_slice_get}
+use Rattle.std.proofs.lemmas.Option.{get_or_from_slice_get}
 use Rattle.std.proofs.lemmas.Slice.Zip.{length-zip, AllZip-long}
 use Rattle.pf_ints.specs.Images.{Picture}
 use Rattle.pf_terms.specs.declared.kernel.ImageDecl.{ImageDecl}
@@ -24,9 +24,9 @@ use Rattle.pf_top.specs.declared.judging.Unwritten.TheVariants.{Failed as NotWri
 use Rattle.pf_top.specs.declared.run_verdict.RunFile.TheVariants.{Image}
 use Rattle.pf_top.specs.declared.run_verdict.RunVerdict.{RunVerdict}
 use Rattle.pf_top.specs.declared.run_verdict.RunVerdict.TheVariants.{Done, Missing, ReadFailed, TextRefused, Count, ImageRefused, NotRun, WriteFailed, Memory}
-use Rattle.pf_top.specs.Courses.{Store, Course, Well, Lacking, Failing, Wanting, Went, Begins, Judged, Judges, Written, later}
+use Rattle.pf_top.specs.Courses.{Store, Course, Well, Lacking, Failing, Wanting, Went, Begins, Judged, Written}
 use Rattle.pf_top.specs.ImageFiles.{HoldsImage, HoldImages, IsImageFile, RefusesImage, image_limit, images_course}
-use Rattle.pf_top.specs.Running.{Run, Holds, HoldsText, IsTextFile, RefusesText, IsAmong, RunLeads, RanTo, files_read, run_course, run_file_name, text_limit, fault_of}
+use Rattle.pf_top.specs.Running.{Run, Holds, HoldsText, IsTextFile, RefusesText, IsAmong, RunLeads, RanTo, files_read, run_course, run_file_name, text_limit}
 use Rattle.pf_top.specs.RunSteps.{image_stopped, run_unwritten, StopsAt}
 use Rattle.pf_top.proofs.Tellable.{image_among}
 use Rattle.pf_top.proofs.Courses.{After, after_none, after_then, after_judged, begins_before, changes_weaker, went_then, same_then, puts_then, puts_part_then}
@@ -86,13 +86,23 @@ module _ (r : Run) (p : Text Neon Form) (b c : Store) (one : Judged IsTextFile R
     image_stop (Refused e) step =
         ran r b d (ImageRefused n e) (Well (1 + n + 1)) within (ap Well count_up)
         (went_then _ (Lead (Refused e)) (RunLeads r (ImageRefused n e)) 1 (Well (1 + n)) b c d
-        (λ m o q f g. (p, g.0.0, g.0.1.1, holds m o n g.0.0 f.0 f.1 g.0.2, right_of_pair r.images p.head.images n g.0.1 g.0.3,
-        subst (λ name. Begins name (image_limit + 1) (RefusesImage g.0.1.1.ty e) m) (named g.0.1 g.0.3) (begins_before g.0.1.0 (image_limit + 1) (RefusesImage g.0.1.1.ty e) m o f.1 g.0.4), same_then m o q f.1 g.1)) has_text step)
+        (λ m o q f g. (
+          p,
+          g.0.0,
+          g.0.1.1,
+          holds m o n g.0.0 f.0 f.1 g.0.2,
+          right_of_pair r.images p.head.images n g.0.1 g.0.3,
+          subst (λ name. Begins name (image_limit + 1) (RefusesImage g.0.1.1.ty e) m) (named g.0.1 g.0.3) (begins_before g.0.1.0 (image_limit + 1) (RefusesImage g.0.1.1.ty e) m o f.1 g.0.4),
+          same_then m o q f.1 g.1,
+        )) has_text step)
     image_stop (Unread MissingFault) step =
         ran r b d (Missing (Image n)) (Lacking (1 + n + 1)) among (ap Lacking count_up)
         (went_then _ (Lead (Unread MissingFault)) (RunLeads r (Missing (Image n))) 1 (Lacking (1 + n)) b c d
-        (λ m o q f g. ((p, g.0.0, holds m o n g.0.0 f.0 f.1 g.0.2, within),
-        subst (λ name. m name ≡ None) (named g.0.1 g.0.3) (sym (f.1 g.0.1.0) ∙ g.0.4), same_then m o q f.1 g.1)) has_text step)
+        (λ m o q f g. (
+          (p, g.0.0, holds m o n g.0.0 f.0 f.1 g.0.2, within),
+          subst (λ name. m name ≡ None) (named g.0.1 g.0.3) (sym (f.1 g.0.1.0) ∙ g.0.4),
+          same_then m o q f.1 g.1,
+        )) has_text step)
     image_stop (Unread FailedFault) step =
         ran r b d (ReadFailed (Image n)) (Failing (1 + n + 1)) among (ap Failing count_up)
         (went_then _ (Lead (Unread FailedFault)) (RunLeads r (ReadFailed (Image n))) 1 (Failing (1 + n)) b c d
@@ -114,8 +124,8 @@ module _ (r : Run) (p : Text Neon Form) (b c : Store) (one : Judged IsTextFile R
     has_all : After All (files_read r) b d
     has_all =
         let went : After All (length pictures + 1) b d =
-            after_then (λ m. HoldsText r m p) (λ m. AllZip (HoldsImage m) (zip r.images p.head.images) pictures) All 1 (Well (length pictures)) b c d
-            (λ m o same text all. holds m o (length r.images) pictures text same (subst (λ w. AllZip (HoldsImage o) w pictures) (sym whole) all)) has_text two in
+        after_then (λ m. HoldsText r m p) (λ m. AllZip (HoldsImage m) (zip r.images p.head.images) pictures) All 1 (Well (length pictures)) b c d
+        (λ m o same text all. holds m o (length r.images) pictures text same (subst (λ w. AllZip (HoldsImage o) w pictures) (sym whole) all)) has_text two in
         subst (λ k. After All (k + 1) b d) long went
 
     pub not_run : (v : RunVerdict) → StopsAt p pictures v → RanTo r b v d

@@ -1,5 +1,5 @@
 -- How the steps of `select` make the whole call.
-use Rattle.std.proofs.Common.{◌≡◌, ◌≢◌, ◌↔◌, ℕ, suc, ◌+◌, ◌≤◌, take, List, Option, Some, None, Result, Ok, Err, ◌∙◌, refl, sym, ap, subst, arith}
+use Rattle.std.proofs.Common.{◌≡◌, ◌≢◌, ◌↔◌, ℕ, ◌+◌, ◌≤◌, take, List, Option, Some, None, Result, Ok, Err, ◌∙◌, refl, sym, ap, subst, arith}
 use Rattle.std.specs.Prelude.{IsSomeAnd, ⊤}
 use Rattle.pf_ints.specs.declared.target.Target.TheVariants.{Neon}
 use Rattle.pf_images.specs.declared.files.FilesFault.TheVariants.{Missing as MissingFault, Failed as FailedFault, Memory as MemoryFault}
@@ -13,12 +13,12 @@ use Rattle.pf_top.specs.declared.verdict.FileWord.TheVariants.{Kernel, Lift, Low
 use Rattle.pf_top.specs.declared.verdict.Verdict.{Verdict}
 use Rattle.pf_top.specs.declared.verdict.Verdict.TheVariants.{Done, TargetNotBuilt, NotBuilt, Missing, ReadFailed, WriteFailed, Memory}
 use Rattle.pf_top.specs.LeastKernels.{IsLeastKernel}
-use Rattle.pf_images.specs.Outside.{Contents, SameContents, Puts, PutsPart}
-use Rattle.pf_top.specs.Courses.{Store, Course, Well, Lacking, Failing, Wanting, Went, Begins, Judged, Written, later}
+use Rattle.pf_images.specs.Outside.{Contents, SameContents}
+use Rattle.pf_top.specs.Courses.{Store, Course, Well, Lacking, Failing, Wanting, Went, Judged, Written}
 use Rattle.pf_top.specs.Selected.{IsSelected}
 use Rattle.pf_top.specs.Selections.{Select, Came, Selects, Reaches, Fits, Leads, HasForm, OfJudged, file_name, place, limit, course}
 use Rattle.pf_top.specs.Steps.{at, stopped, unwritten}
-use Rattle.pf_top.proofs.Courses.{After, after_none, after_then, after_judged, begins_before, changes_weaker, went_then, same_then, puts_then, puts_part_then}
+use Rattle.pf_top.proofs.Courses.{After, after_none, after_judged, begins_before, changes_weaker, went_then, same_then, puts_then, puts_part_then}
 
 -- a verdict that no target gives
 other_verdict : (s : Select) (v : Verdict) → s.target ≡ Neon → v ≢ TargetNotBuilt → (v ≡ TargetNotBuilt) ↔ (s.target ≢ Neon)

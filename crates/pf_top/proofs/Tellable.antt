@@ -1,5 +1,5 @@
 -- The faults that a run may have on as many images as declared, of their types, and the images that they name.
-use Rattle.std.proofs.Common.{◌≡◌, ℕ, ℤ, ◌+◌, ◌<◌, arith, List, [], ◌∷◌, length, Result, Ok, Err, ◌⊎◌, inl, inr, sym}
+use Rattle.std.proofs.Common.{◌≡◌, ℕ, ℤ, ◌+◌, ◌<◌, arith, List, [], ◌∷◌, length, Err, inl, inr}
 use Rattle.std.specs.List.{AllZip}
 use Rattle.pf_ints.specs.Images.{Picture}
 use Rattle.pf_terms.specs.declared.kernel.ImageDecl.{ImageDecl}

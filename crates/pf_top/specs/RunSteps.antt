@@ -13,7 +13,6 @@ use Rattle.pf_run.specs.declared.fault.RunFault.TheVariants.{Text as TextAt, Set
 use Rattle.pf_run.specs.declared.fault.SetFault.TheVariants.{Count as SetCount, Kind as SetKind}
 use Rattle.pf_run.specs.Answers.{Ran}
 use Rattle.pf_top.specs.declared.image_files.ImageRefusal.{ImageRefusal}
-use Rattle.pf_top.specs.declared.image_files.ImageStop.{ImageStop}
 use Rattle.pf_top.specs.declared.judging.Stop.{Stop}
 use Rattle.pf_top.specs.declared.judging.Stop.TheVariants.{Unread, Refused}
 use Rattle.pf_top.specs.declared.judging.Unwritten.{Unwritten}

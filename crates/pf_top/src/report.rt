@@ -6,9 +6,9 @@ ghost use Rattle.pf_top.specs.Selections.{file_name};
 ghost use Rattle.pf_top.specs.Steps.{the_words, seen_output, piece_text};
 
 use crate::command::Selection;
+use crate::verdict::{FileWord, Verdict};
 use itoa::Buffer;
 use pf_images::{FilesFault, Sink};
-use crate::verdict::{FileWord, Verdict};
 use pf_ints::Memory;
 use pf_isa::push_number;
 use std::alloc::Global;
@@ -135,9 +135,21 @@ pub fn tell_verdict<S: Sink>(
     match verdict {
         Verdict::Done => 0,
         Verdict::TargetNotBuilt => tell_named(alloc, out, 8, b"not built: ", words.target.word()),
-        Verdict::NotBuilt(word) => tell_named(alloc, out, 8, b"not built: ", file_name(words, word)),
+        Verdict::NotBuilt(word) => tell_named(
+            alloc,
+            out,
+            8,
+            b"not built: ",
+            file_name(words, word),
+        ),
         Verdict::Missing(word) => tell_named(alloc, out, 3, b"no file: ", file_name(words, word)),
-        Verdict::ReadFailed(word) => tell_named(alloc, out, 3, b"read failed: ", file_name(words, word)),
+        Verdict::ReadFailed(word) => tell_named(
+            alloc,
+            out,
+            3,
+            b"read failed: ",
+            file_name(words, word),
+        ),
         Verdict::WriteFailed => tell_write_failed(alloc, out, words.out.as_bytes()),
         Verdict::Memory => tell_want(alloc, out),
     }

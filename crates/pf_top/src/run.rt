@@ -3,7 +3,7 @@
 ghost use Rattle.std.specs.Prelude.{◌≡◌, ◌<◌, ◌^◌, length};
 ghost use Rattle.std.specs.List.{AllZip};
 ghost use Rattle.pf_top.specs.Courses.{seen};
-ghost use Rattle.pf_top.specs.Running.{RanTo};
+ghost use Rattle.pf_top.specs.Running.{fault_of, RanTo};
 ghost use Rattle.pf_top.specs.RunSteps.{the_run, run_verdict_of, Counted, IsTellable, IsVerdictOf, Outputs};
 
 use crate::image_files::read_images;
@@ -31,41 +31,47 @@ fn judge_count(want: usize, got: usize) -> Result<(), RunVerdict>
     })
 }
 
+/// Why a program is not run, of what is wrong with as many images as declared, of their types.
+fn not_suited(fault: SetFault) -> NotRun
+    requires { IsTellable (RunFault.Set fault) }
+    ensures { RunFault.Set fault ≡ fault_of result }
+{
+    match fault {
+        SetFault::Size {
+            image,
+            width,
+            height,
+        } => NotRun::Size {
+            image,
+            width,
+            height,
+        },
+        SetFault::Pixel { image, x, y, value } => NotRun::Pixel { image, x, y, value },
+        SetFault::NoOutput => NotRun::NoOutput,
+        SetFault::Count { .. } | SetFault::Kind { .. } => unreachable!(),
+    }
+}
+
 /// What the call comes to where the program isn't run to its end.
 fn verdict_of(fault: RunFault) -> RunVerdict
     requires { IsTellable fault }
     ensures { IsVerdictOf fault result }
 {
-    let why = match fault {
-        RunFault::Set(SetFault::Size {
-            image,
-            width,
-            height,
-        }) => NotRun::Size {
-            image,
-            width,
-            height,
-        },
-        RunFault::Set(SetFault::Pixel { image, x, y, value }) => {
-            NotRun::Pixel { image, x, y, value }
-        }
-        RunFault::Set(SetFault::NoOutput) => NotRun::NoOutput,
-        RunFault::Text { .. } | RunFault::Set(SetFault::Count { .. } | SetFault::Kind { .. }) => {
-            unreachable!()
-        }
+    match fault {
+        RunFault::Set(fault) => RunVerdict::NotRun(not_suited(fault)),
         RunFault::Outside {
             at,
             address,
             length,
-        } => NotRun::Outside {
+        } => RunVerdict::NotRun(NotRun::Outside {
             at,
             address,
             length,
-        },
-        RunFault::Spent { steps } => NotRun::Spent { steps },
-        RunFault::Memory => return RunVerdict::Memory,
-    };
-    RunVerdict::NotRun(why)
+        }),
+        RunFault::Spent { steps } => RunVerdict::NotRun(NotRun::Spent { steps }),
+        RunFault::Text { .. } => unreachable!(),
+        RunFault::Memory => RunVerdict::Memory,
+    }
 }
 
 /// The PGM file of what the program leaves of the images.
@@ -89,11 +95,7 @@ fn output_of(
 
 /// Reads and judges the text and then the images in the order of the words, each before the next is
 /// read, runs the text on the images, and writes what it leaves.
-fn run_files<F: Files>(
-    alloc: Global,
-    words: &RunWords<'_>,
-    files: &mut F,
-) -> Result<(), RunVerdict>
+fn run_files<F: Files>(alloc: Global, words: &RunWords<'_>, files: &mut F) -> Result<(), RunVerdict>
     ensures { RanTo (the_run words.now) (seen F.held F.faults F.calls files.old) (run_verdict_of result)
         (seen F.held F.faults F.calls files.new) }
 {

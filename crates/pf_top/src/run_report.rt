@@ -35,7 +35,12 @@ fn tell_text<S: Sink>(alloc: Global, out: &mut S, name: &[u8], refusal: TextRefu
         (seen_output S.written S.faults S.calls out.new) }
 {
     match refusal {
-        TextRefusal::TooLong => tell(alloc, out, 10, &[Piece::Word(name), Piece::Word(b":0: limit")]),
+        TextRefusal::TooLong => tell(
+            alloc,
+            out,
+            10,
+            &[Piece::Word(name), Piece::Word(b":0: limit")],
+        ),
         TextRefusal::NotBuilt(target) => tell(
             alloc,
             out,
@@ -155,19 +160,44 @@ fn tell_not_run<S: Sink>(alloc: Global, out: &mut S, words: &RunWords<'_>, why: 
         (seen_output S.written S.faults S.calls out.new) }
 {
     match why {
-        NotRun::Size { image, width, height } => {
-            tell_size(alloc, out, file_name(words, RunFile::Image(image as usize)), width, height)
+        NotRun::Size {
+            image,
+            width,
+            height,
+        } => {
+            tell_size(
+                alloc,
+                out,
+                file_name(words, RunFile::Image(image as usize)),
+                width,
+                height,
+            )
         }
         NotRun::Pixel { image, x, y, value } => {
-            tell_pixel(alloc, out, file_name(words, RunFile::Image(image as usize)), x, y, value)
+            tell_pixel(
+                alloc,
+                out,
+                file_name(words, RunFile::Image(image as usize)),
+                x,
+                y,
+                value,
+            )
         }
         NotRun::NoOutput => tell(alloc, out, 9, &[Piece::Word(b"no output pixel")]),
-        NotRun::Outside { at, address, length } => tell_outside(alloc, out, at, address, length),
+        NotRun::Outside {
+            at,
+            address,
+            length,
+        } => tell_outside(alloc, out, at, address, length),
         NotRun::Spent { steps } => tell(
             alloc,
             out,
             12,
-            &[Piece::Word(b"spent: "), Piece::Number(steps), Piece::Word(b" steps")],
+            &[
+                Piece::Word(b"spent: "),
+                Piece::Number(steps),
+                Piece::Word(b" steps"),
+            ],
         ),
     }
 }
@@ -204,7 +234,13 @@ pub fn tell_run_verdict<S: Sink>(
 {
     match verdict {
         RunVerdict::Done => 0,
-        RunVerdict::Missing(file) => tell_named(alloc, out, 3, b"no file: ", file_name(words, file)),
+        RunVerdict::Missing(file) => tell_named(
+            alloc,
+            out,
+            3,
+            b"no file: ",
+            file_name(words, file),
+        ),
         RunVerdict::ReadFailed(file) => {
             tell_named(alloc, out, 3, b"read failed: ", file_name(words, file))
         }

@@ -6,22 +6,28 @@ use std::process::Abort;
 use std::test::Fail;
 
 /// A text that copies an image of 16 columns.
-const COPY: &[u8] = b".target neon\n.image a u8 0 255\n.tap a 0 0\n.out u8\n.scratch 192\n.lifted out u8 = a[0,0]\n.cost 0\nldr x5, [x0, #0]\nldr q0, [x5, #0]\nldr x5, [x0, #8]\nstr q0, [x5, #0]\nret\n";
+const COPY: &[u8] =
+    b".target neon\n.image a u8 0 255\n.tap a 0 0\n.out u8\n.scratch 192\n.lifted out u8 = a[0,0]\n.cost 0\nldr x5, [x0, #0]\nldr q0, [x5, #0]\nldr x5, [x0, #8]\nstr q0, [x5, #0]\nret\n";
 
 /// The same with a line behind its end that says nothing.
-const BOGUS: &[u8] = b".target neon\n.image a u8 0 255\n.tap a 0 0\n.out u8\n.scratch 192\n.lifted out u8 = a[0,0]\n.cost 0\nldr x5, [x0, #0]\nldr q0, [x5, #0]\nldr x5, [x0, #8]\nstr q0, [x5, #0]\nret\nbogus\n";
+const BOGUS: &[u8] =
+    b".target neon\n.image a u8 0 255\n.tap a 0 0\n.out u8\n.scratch 192\n.lifted out u8 = a[0,0]\n.cost 0\nldr x5, [x0, #0]\nldr q0, [x5, #0]\nldr x5, [x0, #8]\nstr q0, [x5, #0]\nret\nbogus\n";
 
 /// A text that never returns.
-const ROUND: &[u8] = b".target neon\n.image a u8 0 255\n.tap a 0 0\n.out u8\n.scratch 192\n.lifted out u8 = a[0,0]\n.cost 0\ntop:\nb top\n";
+const ROUND: &[u8] =
+    b".target neon\n.image a u8 0 255\n.tap a 0 0\n.out u8\n.scratch 192\n.lifted out u8 = a[0,0]\n.cost 0\ntop:\nb top\n";
 
 /// A text that leaves the output as it is, for an image of u16.
-const WIDE: &[u8] = b".target neon\n.image a u16 0 65535\n.tap a 0 0\n.out u16\n.scratch 192\n.lifted out u16 = a[0,0]\n.cost 0\nret\n";
+const WIDE: &[u8] =
+    b".target neon\n.image a u16 0 65535\n.tap a 0 0\n.out u16\n.scratch 192\n.lifted out u16 = a[0,0]\n.cost 0\nret\n";
 
 /// The same for an image of u8 whose pixels are at most 100.
-const SMALL: &[u8] = b".target neon\n.image a u8 0 100\n.tap a 0 0\n.out u8\n.scratch 192\n.lifted out u8 = a[0,0]\n.cost 0\nret\n";
+const SMALL: &[u8] =
+    b".target neon\n.image a u8 0 100\n.tap a 0 0\n.out u8\n.scratch 192\n.lifted out u8 = a[0,0]\n.cost 0\nret\n";
 
 /// The same for the pixels on the left and on the right.
-const SIDES: &[u8] = b".target neon\n.image a u8 0 255\n.tap a -1 0\n.tap a 1 0\n.out u8\n.scratch 192\n.lifted out u8 = min(a[-1,0], a[1,0])\n.cost 0\nret\n";
+const SIDES: &[u8] =
+    b".target neon\n.image a u8 0 255\n.tap a -1 0\n.tap a 1 0\n.out u8\n.scratch 192\n.lifted out u8 = min(a[-1,0], a[1,0])\n.cost 0\nret\n";
 
 /// A run of a text on one image, and what it has to answer, to put and to write.
 #[derive(Clone, Copy)]
@@ -184,7 +190,10 @@ fn select_and_run<R: Abort + AllocGlobal>(
     hold(alloc, &mut files, "a.pgm", left)?;
     hold(alloc, &mut files, "b.pgm", right)?;
     let mut out = MemSink::new(alloc);
-    let select = texts(alloc, &["select", "neon", "m.kern", "e.rules", "min.rules", "m.s"])?;
+    let select = texts(
+        alloc,
+        &["select", "neon", "m.kern", "e.rules", "min.rules", "m.s"],
+    )?;
     assert_eq!(rt; pitchfork(alloc, &select, &mut files, &mut out), 0);
     let run = texts(alloc, &["run", "m.s", "a.pgm", "b.pgm", "o.pgm"])?;
     assert_eq!(rt; pitchfork(alloc, &run, &mut files, &mut out), 0);
@@ -225,7 +234,10 @@ struct Shifts {
 
 /// A pixel of the image of this seed.
 fn pixel(seed: u32, x: u32, y: u32) -> u8 {
-    let sum = x.wrapping_mul(seed).wrapping_add(y.wrapping_mul(11)).wrapping_add(seed);
+    let sum = x
+        .wrapping_mul(seed)
+        .wrapping_add(y.wrapping_mul(11))
+        .wrapping_add(seed);
     (sum % 256) as u8
 }
 
@@ -293,7 +305,8 @@ fn runs_at_every_width(rt: HostRuntime) -> Result<(), Fail> {
 }
 
 /// A text of no code for two images.
-const TWO: &[u8] = b".target neon\n.image a u8 0 255\n.image b u8 0 255\n.tap a 0 0\n.tap b 0 0\n.out u8\n.scratch 224\n.lifted out u8 = min(a[0,0], b[0,0])\n.cost 0\nret\n";
+const TWO: &[u8] =
+    b".target neon\n.image a u8 0 255\n.image b u8 0 255\n.tap a 0 0\n.tap b 0 0\n.out u8\n.scratch 224\n.lifted out u8 = min(a[0,0], b[0,0])\n.cost 0\nret\n";
 
 /// A call over two images, and what it has to answer and to put.
 #[derive(Clone, Copy)]
@@ -400,6 +413,9 @@ fn refuses_a_long_file(rt: HostRuntime) -> Result<(), Fail> {
     let mut out = MemSink::new(alloc);
     let words = texts(alloc, &["run", "c.s", "a.pgm", "o.pgm"])?;
     assert_eq!(rt; pitchfork(alloc, &words, &mut files, &mut out), 9);
-    assert_eq!(rt; out.written.as_slice(), b"a.pgm: byte 33619968: limit\n".as_slice());
+    assert_eq!(rt;
+        out.written.as_slice(),
+        b"a.pgm: byte 33619968: limit\n".as_slice()
+    );
     Ok(())
 }

@@ -37,9 +37,15 @@ pub enum NotRun {
     /// The output has no pixel.
     NoOutput,
     /// An instruction, counted from 1, loads or stores bytes that no region allows.
-    Outside { at: u64, address: u64, length: u32 },
+    Outside {
+        at: u64,
+        address: u64,
+        length: u32,
+    },
     /// A row took all its steps without a return.
-    Spent { steps: u64 },
+    Spent {
+        steps: u64,
+    },
 }
 
 /// What a call of `run` comes to.

@@ -6,11 +6,11 @@ ghost use Rattle.pf_top.specs.Selections.{limit, lift_text, lower_text, HasForm,
 ghost use Rattle.pf_top.specs.Steps.{the_words, at, verdict_of};
 
 use crate::command::Selection;
-use pf_images::{Files, FilesFault};
 use crate::judging::{Stop, read_front, write_file};
 use crate::least::{LeastKernel, read_least};
 use crate::selected::text_of;
 use crate::verdict::{FileWord, Verdict};
+use pf_images::{Files, FilesFault};
 use pf_ints::Target;
 use std::alloc::Global;
 
@@ -42,11 +42,7 @@ fn most_judged(word: FileWord) -> u64
 }
 
 /// The kernel of a file.
-fn kernel_of<F: Files>(
-    alloc: Global,
-    files: &mut F,
-    name: &str,
-) -> Result<LeastKernel, Stop<()>>
+fn kernel_of<F: Files>(alloc: Global, files: &mut F, name: &str) -> Result<LeastKernel, Stop<()>>
     ensures judged { Judged (λ kernel bytes. IsLeastKernel bytes kernel) (λ _ bytes. HasForm Kernel bytes → ⊥)
         name.now (limit Kernel + 1)
         (seen F.held F.faults F.calls files.old) result (seen F.held F.faults F.calls files.new) }

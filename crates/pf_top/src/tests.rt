@@ -5,7 +5,8 @@ use std::alloc::Global;
 use std::process::Abort;
 use std::test::Fail;
 
-pub(crate) const KERNEL: &[u8] = b"kernel m\nimage a u8\nimage b u8\nout u8 = min(a[0,0], b[0,0])\n";
+pub(crate) const KERNEL: &[u8] =
+    b"kernel m\nimage a u8\nimage b u8\nout u8 = min(a[0,0], b[0,0])\n";
 
 pub(crate) const LIFT: &[u8] = b"rules 1 lift\n";
 
@@ -35,7 +36,12 @@ const WELL: Case = Case {
     calls: 4,
 };
 
-pub(crate) fn hold(alloc: Global, files: &mut MemFiles, name: &str, bytes: &[u8]) -> Result<(), Fail> {
+pub(crate) fn hold(
+    alloc: Global,
+    files: &mut MemFiles,
+    name: &str,
+    bytes: &[u8],
+) -> Result<(), Fail> {
     let name = String::from_str(alloc, name)?;
     let bytes = Sequence::from_slice(alloc, bytes)?;
     files.held.insert(name, bytes)?;

@@ -1,4 +1,4 @@
-use Rattle.std.proofs.Common.{◌≡◌, ◌≤◌, length, rules}
+use Rattle.std.proofs.Common.{◌≤◌, length, rules}
 use Rattle.pf_top.specs.ImageFiles.{image_limit}
 use Rattle.pf_top.proofs.image_files.image_of.Goals as goal
 

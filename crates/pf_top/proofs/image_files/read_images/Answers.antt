@@ -1,4 +1,4 @@
-use Rattle.std.proofs.Common.{◌≡◌, ◌+◌, ◌<◌, [], ◌∷◌, ◌++◌, Some, Err, Ok, refl, length, get_or, subst, arith, sym, rules}
+use Rattle.std.proofs.Common.{◌≡◌, ◌<◌, [], ◌∷◌, ◌++◌, refl, length, subst}
 use Rattle.std.proofs.lemmas.Option.{slice_get_read, slice_get-get_or}
 use Rattle.pf_top.proofs.ImageLists.{all_zip_next, images_stop, images_next, images_lost, images_all}
 use Rattle.pf_top.proofs.image_files.read_images.Goals as goal

@@ -1,4 +1,4 @@
-use Rattle.std.proofs.Common.{◌≡◌, ◌∙◌, string_bytes, rules, length, sym}
+use Rattle.std.proofs.Common.{◌≡◌, string_bytes, rules}
 use Rattle.std.specs.Prelude.{codes}
 use Rattle.pf_top.proofs.RunLists.{run_items, run_texts, some_texts}
 use Rattle.pf_top.proofs.run_words.run_of.Goals as goal

@@ -1,4 +1,4 @@
-use Rattle.std.proofs.Common.{◌≡◌, ◌≤◌, length, rules}
+use Rattle.std.proofs.Common.{◌≤◌, length, rules}
 use Rattle.pf_neon.specs.Forms.{IsForm}
 use Rattle.pf_neon.specs.Neon.{table}
 use Rattle.pf_top.specs.Running.{text_limit}
