@@ -6,6 +6,7 @@ pub mod SixWords
 pub mod Courses
 pub mod RunLists
 pub mod TextFiles
+pub mod KernelFiles
 pub mod Running
 pub mod Tellable
 pub mod ImageLists

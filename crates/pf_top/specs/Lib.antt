@@ -4,6 +4,7 @@ pub mod Least
 pub mod LeastKernels
 pub mod Reading
 pub mod Headline
+pub mod KernelFiles
 pub mod Running
 pub mod RunStatuses
 pub mod RunSteps
@@ -11,3 +12,4 @@ pub mod Selected
 pub mod Selections
 pub mod Statuses
 pub mod Steps
+pub mod TextFiles
