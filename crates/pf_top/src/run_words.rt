@@ -20,7 +20,10 @@ pub fn run_of<'a>(command: &str, words: &'a [String]) -> Option<RunWords<'a>>
     let [run, text, images @ .., out] = words else {
         return None;
     };
-    if run.as_str() != command || images.is_empty() {
+    if run.as_str() != command {
+        return None;
+    }
+    if images.is_empty() {
         return None;
     }
     Some(RunWords {

@@ -12,5 +12,13 @@ returns-in-Some-run_of-clause-usage g c = λ none_select none_run. absurd (none_
 
 pub returns-in-Some-run_of-clause-runs : goal.returns-in-Some-run_of-clause-runs
 returns-in-Some-run_of-clause-runs g c = λ r is.
-    let same : the_run c.in-Some-run_of.words ≡ r = same_run _ _ _ c.in-Some-run_of.ensures (rw c.as_slice-2.ensures.value is) in
+    let same : the_run c.in-Some-run_of.words ≡ r = same_run _ _ _ _ c.in-Some-run_of.ensures (rw c.as_slice-2.ensures.value is) in
     rw (← same) (c.run-verdict.result, c.run-verdict.ensures, c.tell_run_verdict.ensures)
+
+pub returns-in-Some-run_of-2-clause-usage : goal.returns-in-Some-run_of-2-clause-usage
+returns-in-Some-run_of-2-clause-usage g c = λ none_select none_run none_eval. absurd (none_eval (the_run c.in-Some-run_of-2.words) (rw (← c.as_slice-3.ensures.value) c.in-Some-run_of-2.ensures))
+
+pub returns-in-Some-run_of-2-clause-evals : goal.returns-in-Some-run_of-2-clause-evals
+returns-in-Some-run_of-2-clause-evals g c = λ r is.
+    let same : the_run c.in-Some-run_of-2.words ≡ r = same_run _ _ _ _ c.in-Some-run_of-2.ensures (rw c.as_slice-3.ensures.value is) in
+    rw (← same) (c.eval-verdict.result, c.eval-verdict.ensures, c.tell_run_verdict-in-Some-run_of-2.ensures)
