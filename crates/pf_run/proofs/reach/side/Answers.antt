@@ -1,8 +1,8 @@
-use Rattle.std.proofs.Common.{◌≡◌, ◌≤◌, rules, to_z-of_z, arith}
+use Rattle.std.proofs.Common.{◌≡◌, rules, to_z-of_z, arith}
 use Rattle.std.specs.Prelude.{unsigned_abs}
 use Rattle.pf_run.specs.Reach.{extent}
 use Rattle.pf_run.proofs.PlacedLaws.{extent_within}
-use Rattle.pf_run.proofs.plan.side.Goals as goal
+use Rattle.pf_run.proofs.reach.side.Goals as goal
 
 pub overflow_cast-result : goal.overflow_cast-result
 overflow_cast-result c =
