@@ -1,14 +1,12 @@
 -- Environments that serve a kernel's terms.
-use Rattle.std.proofs.Common.{◌≡◌, refl, sym, ◌∙◌, ap, subst, ℕ, suc, ◌+◌, ◌*◌, ◌<◌, ◌≤◌, Bool, true, false, List, [], ◌∷◌, ◌++◌, length, map, take, drop, get_or, All, arith, length-append, append_assoc}
+use Rattle.std.proofs.Common.{◌≡◌, refl, sym, ◌∙◌, ap, subst, ℕ, ◌+◌, ◌*◌, ◌<◌, ◌≤◌, Bool, true, false, List, [], ◌∷◌, ◌++◌, length, map, take, drop, get_or, All, arith, length-append}
 use Rattle.std.specs.Prelude.{ℤ, pos, nat_lt, ◌&&◌, ◌+ℤ◌, ◌-ℤ◌, ◌≤ℤ◌, int_le, unsigned_abs, zip}
-use Rattle.std.proofs.Math.ListN.{get_or-append}
 use Rattle.std.proofs.lemmas.Bool.Decides.{nat_tests}
 use Rattle.std.proofs.lemmas.Int.{ints}
 use Rattle.pf_ints.specs.Lanes.{IsIn, least, greatest}
 use Rattle.pf_ints.specs.declared.lane.LaneType.{LaneType}
 use Rattle.pf_terms.specs.declared.names.DefName.{DefName}
 use Rattle.pf_terms.specs.declared.names.Names.{Names}
-use Rattle.pf_terms.specs.declared.op.Op.{Op}
 use Rattle.pf_terms.specs.declared.term.Env.{Env}
 use Rattle.pf_terms.specs.declared.term.Leaf.{Leaf as LeafOf}
 use Rattle.pf_terms.specs.declared.term.Leaf.TheVariants.{Tap, Const, Def}
@@ -16,7 +14,7 @@ use Rattle.pf_terms.specs.declared.term.Term.{Term, roll-Term, map-Term}
 use Rattle.pf_terms.specs.declared.term.Term.TheOpen.{Term-F}
 use Rattle.pf_terms.specs.declared.term.Term.TheOpen.Term-F.{Leaf, Node}
 use Rattle.pf_terms.specs.declared.term.Term.TheFolds.{fold-roll-Term, ind-Term}
-use Rattle.pf_terms.specs.Terms.{same_type, all_true, is_in, is_env_of, is_env_leaf, env_step}
+use Rattle.pf_terms.specs.Terms.{all_true, is_in, is_env_of, is_env_leaf, env_step}
 use Rattle.pf_terms.specs.TermTexts.{is_named, is_named_leaf, is_named_tap, named_step, no_tap, no_image, no_def}
 use Rattle.pf_terms.proofs.NodeRanges.{same_type_is}
 use Rattle.std.proofs.lemmas.List.{get_or_append_left, get_or_at, get_or-map, length-map, take_more, drop_more, take_all, drop_all, map-append}
@@ -24,14 +22,14 @@ use Rattle.std.proofs.lemmas.List.Elements.{All-nil, All-cons, All-get_or, All-f
 use Rattle.std.proofs.lemmas.Slice.Zip.{get_or-zip, length-zip}
 use Rattle.std.proofs.lemmas.Nat.{column_fits}
 use Rattle.std.proofs.lemmas.Int.{int_min_is, int_max_is}
-use Rattle.pf_ints.specs.Images.{Picture, IsPicture, pixel}
+use Rattle.pf_ints.specs.Images.{Picture, IsPicture}
 use Rattle.pf_terms.specs.declared.kernel.Definition.{Definition}
 use Rattle.pf_terms.specs.declared.kernel.ImageDecl.{ImageDecl}
 use Rattle.pf_terms.specs.declared.names.Tap.{Tap as TapOf}
 use Rattle.pf_terms.specs.KernelNames.{IsNearTap}
-use Rattle.pf_terms.specs.Kernels.{Source, Keeps, KeepsRange, no_picture, lowest, highest, left_reach, right_reach, up_reach, down_reach, width_of, height_of, out_width, out_height, tap_column, tap_row, tap_value, tap_values, def_values, env_of}
+use Rattle.pf_terms.specs.Kernels.{Source, Keeps, KeepsRange, no_picture, left_reach, right_reach, up_reach, down_reach, width_of, height_of, tap_column, tap_row, tap_value, tap_values, def_values}
 use Rattle.pf_terms.specs.Terms.{Val, IsWellTyped, stated_type}
-use Rattle.pf_kernel.specs.Kernels.{Meaning, IsKernelOf, IsTermOf, AreDefinitions, names_behind, names_of, def_name, image_name}
+use Rattle.pf_kernel.specs.Kernels.{AreDefinitions, names_behind, def_name, image_name}
 use Rattle.pf_run.specs.declared.eval.Reach.{Reach}
 use Rattle.pf_run.specs.declared.reach.Axis.{Axis}
 use Rattle.pf_run.specs.declared.reach.Axis.TheVariants.{Columns, Rows}

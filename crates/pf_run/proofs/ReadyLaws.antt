@@ -1,5 +1,5 @@
 -- Images that are such as a program asks for, and what follows of their sizes.
-use Rattle.std.proofs.Common.{◌≡◌, ℕ, ◌+◌, ◌*◌, ◌<◌, ◌≤◌, ◌^◌, List, [], ◌∷◌, ◌++◌, length, get_or, map, All, refl, sym, ap, subst, ◌∙◌, arith}
+use Rattle.std.proofs.Common.{◌≡◌, ◌*◌, ◌<◌, ◌≤◌, ◌^◌, List, [], ◌∷◌, length, All, refl, sym, ap, subst, ◌∙◌, arith}
 use Rattle.std.specs.Prelude.{pos, ◌≤ℤ◌, unsigned_abs}
 use Rattle.std.proofs.lemmas.Int.{ints}
 use Rattle.std.proofs.lemmas.Nat.{mul-le}
@@ -12,7 +12,7 @@ use Rattle.pf_terms.specs.declared.names.Tap.{Tap}
 use Rattle.pf_terms.specs.Kernels.{Source, Keeps, no_picture, left_reach, up_reach, width_of, height_of, out_width, out_height}
 use Rattle.pf_isa.specs.declared.program.Head.{Head}
 use Rattle.pf_isa.specs.Heads.{IsHead, IsTap}
-use Rattle.pf_isa.specs.Runs.{Places, IsPlaced, columns, rows, output_size}
+use Rattle.pf_isa.specs.Runs.{Places, IsPlaced, columns, rows}
 use Rattle.pf_run.specs.declared.plan.Plan.{Plan}
 use Rattle.pf_run.specs.Rows.{IsPlan}
 use Rattle.pf_run.specs.Placement.{places_of, run_places, blank_scratch, blank_output}

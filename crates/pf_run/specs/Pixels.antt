@@ -1,11 +1,9 @@
 -- The environment of a kernel's terms at one pixel.
-use Rattle.std.specs.Prelude.{◌≡◌, ℕ, pos, ◌+ℤ◌, ◌-ℤ◌, ◌≤ℤ◌, ◌<◌, ◌≤◌, ◌*◌, List, ℤ, length, map, true, unsigned_abs, slice_index_or}
-use Rattle.pf_ints.specs.Lanes.{IsIn}
+use Rattle.std.specs.Prelude.{◌≡◌, ℕ, pos, ◌<◌, ◌≤◌, ◌*◌, List, ℤ, length, true, unsigned_abs, slice_index_or}
 use Rattle.pf_ints.specs.Images.{Picture}
 use Rattle.pf_terms.specs.declared.names.ImageName.{ImageName}
 use Rattle.pf_terms.specs.declared.names.DefName.{DefName}
 use Rattle.pf_terms.specs.declared.names.Tap.{Tap}
-use Rattle.pf_terms.specs.declared.term.Env.{Env}
 use Rattle.pf_terms.specs.Kernels.{Source, out_value, left_reach, up_reach, out_width, out_height, no_picture, tap_column, tap_row}
 use Rattle.pf_terms.specs.Terms.{is_in}
 use Rattle.pf_terms.specs.TermTexts.{no_image, no_tap, no_def}

@@ -13,3 +13,9 @@ pub mod Complete
 pub mod Sound
 pub mod Advancing
 pub mod FirstFaults
+pub mod ReadBackTexts
+pub mod ReadBackWords
+pub mod ReadBackNodes
+pub mod ReadBackLeaves
+pub mod ReadBackTerms
+pub mod ReadBackMeanings

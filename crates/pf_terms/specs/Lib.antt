@@ -11,3 +11,4 @@ pub mod Limits
 pub mod Drafts
 pub mod KernelNames
 pub mod Meanings
+pub mod ReadBack

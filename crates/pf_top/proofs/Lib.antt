@@ -8,6 +8,8 @@ pub mod RunLists
 pub mod TextFiles
 pub mod KernelFiles
 pub mod Running
+pub mod Completing
+pub mod Fits
 pub mod Tellable
 pub mod ImageLists
 pub mod Telling

@@ -1,6 +1,7 @@
 -- The files of kernels, and what they make of images.
-use Rattle.std.specs.Prelude.{List, ℕ, Option, Some, None, IsSomeAnd, Result, Ok, Err}
+use Rattle.std.specs.Prelude.{◌≡◌, List, ℕ, Option, Some, None, IsSomeAnd, Result, Ok, Err}
 use Rattle.pf_ints.specs.Images.{Picture}
+use Rattle.pf_terms.specs.Kernels.{Keeps}
 use Rattle.pf_kernel.specs.declared.fault.KernelFault.{KernelFault}
 use Rattle.pf_kernel.specs.declared.fault.KernelFault.TheVariants.{Syntax as SyntaxAt, Name as NameAt, Types as TypesAt, Limit as LimitOf}
 use Rattle.pf_kernel.specs.Kernels.{Meaning}
@@ -15,9 +16,9 @@ use Rattle.pf_top.specs.declared.run_verdict.NotRun.{NotRun}
 use Rattle.pf_top.specs.declared.run_verdict.NotRun.TheVariants.{Size, Pixel, NoOutput, Outside, Spent}
 use Rattle.pf_top.specs.Running.{Language}
 
--- the bytes are a text of this kernel, which has its limit
+-- the bytes are a text of this kernel and of no other, within the limit
 abbrev pub IsKernelFile : Meaning → List ℕ → Type 0
-IsKernelFile k bytes = IsKernel bytes k
+IsKernelFile k bytes = IsKernel bytes k × ((j : Meaning) → IsKernel bytes j → k ≡ j)
 
 -- the first fault of bytes that are a text of no kernel
 abbrev pub kernel_fault : KernelRefusal → KernelFault
@@ -45,4 +46,4 @@ Evaluates k pictures (Err e) = IsSomeAnd (set_fault e) (λ fault. Evaluated k.so
 
 -- the texts that are evaluated
 abbrev pub kernels : Language Meaning KernelRefusal
-kernels = record { most = byte_limit; Means = IsKernelFile; Refuses = RefusesKernel; decls = λ k. k.source.images; Ends = Evaluates }
+kernels = record { most = byte_limit; Spells = λ k bytes. IsKernel bytes k; Means = IsKernelFile; Refuses = RefusesKernel; decls = λ k. k.source.images; Ends = Evaluates; Works = λ k pictures. Keeps k.source pictures }

@@ -6,6 +6,7 @@ pub mod Reading
 pub mod Headline
 pub mod KernelFiles
 pub mod Running
+pub mod Completeness
 pub mod RunStatuses
 pub mod RunSteps
 pub mod Selected

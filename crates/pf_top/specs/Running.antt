@@ -34,6 +34,8 @@ pub record Language (P R : Type 0) : Type 1 where
   -- the most bytes of a text. Of a file the bytes up to one past them are judged
   pub most : ℕ
   -- the bytes are a text of this meaning
+  pub Spells : P → List ℕ → Type 0
+  -- they are, and a text of no other
   pub Means : P → List ℕ → Type 0
   -- they are none, for this reason
   pub Refuses : R → List ℕ → Type 0
@@ -41,6 +43,8 @@ pub record Language (P R : Type 0) : Type 1 where
   pub decls : P → List ImageDecl
   -- the image that it makes of images, or why there is none
   pub Ends : P → List Picture → Result Picture NotRun → Type 0
+  -- it makes one of these
+  pub Works : P → List Picture → Type 0
 
 -- ---- what the files hold
 

@@ -4,7 +4,9 @@ use Rattle.std.specs.Str.Lines.{lines}
 use Rattle.pf_ints.specs.declared.target.Target.{Target}
 use Rattle.pf_ints.specs.declared.target.Target.TheVariants.{Neon as OnNeon}
 use Rattle.pf_ints.specs.Images.{Picture}
+use Rattle.pf_isa.specs.declared.memory.Region.{Region}
 use Rattle.pf_isa.specs.Programs.{Text}
+use Rattle.pf_isa.specs.Runs.{Finished}
 use Rattle.pf_isa.specs.Texts.{IsText}
 use Rattle.pf_isa.specs.TextFaults.{IsFor, IsTextFault}
 use Rattle.pf_neon.specs.declared.neon.Neon.{Neon}
@@ -14,7 +16,8 @@ use Rattle.pf_neon.specs.Neon.{table}
 use Rattle.pf_run.specs.declared.fault.RunFault.{RunFault}
 use Rattle.pf_run.specs.declared.fault.RunFault.TheVariants.{Set, Outside as RunOutside, Spent as RunSpent}
 use Rattle.pf_run.specs.declared.fault.SetFault.TheVariants.{Size as SetSize, Pixel as SetPixel, NoOutput as SetNoOutput}
-use Rattle.pf_run.specs.Answers.{Ran}
+use Rattle.pf_run.specs.Answers.{Ran, run_end}
+use Rattle.pf_run.specs.Sets.{KeepsAll}
 use Rattle.pf_top.specs.declared.run_verdict.NotRun.{NotRun}
 use Rattle.pf_top.specs.declared.run_verdict.NotRun.TheVariants.{Size, Pixel, NoOutput, Outside, Spent}
 use Rattle.pf_top.specs.declared.text_file.TextRefusal.{TextRefusal}
@@ -26,8 +29,12 @@ unfoldable pub text_limit : ℕ
 text_limit = 2 ^ 31 - 1
 
 -- the bytes are a text of this program for neon, within the limit
+abbrev pub IsSomeText : Text Neon Form → List ℕ → Type 0
+IsSomeText p bytes = (length bytes ≤ text_limit) × IsText table IsForm bytes p
+
+-- the bytes are a text of this program for neon and of no other, within the limit
 abbrev pub IsTextFile : Text Neon Form → List ℕ → Type 0
-IsTextFile p bytes = (length bytes ≤ text_limit) × IsText table IsForm bytes p
+IsTextFile p bytes = (length bytes ≤ text_limit) × IsText table IsForm bytes p × ((q : Text Neon Form) → IsText table IsForm bytes q → p ≡ q)
 
 -- the bytes are a text of no program for neon
 abbrev pub IsNoText : List ℕ → Type 0
@@ -52,6 +59,10 @@ abbrev pub Leaves : Text Neon Form → List Picture → Result Picture NotRun �
 Leaves p pictures (Ok o) = Ran table p pictures (Ok o)
 Leaves p pictures (Err e) = Ran table p pictures (Err (fault_of e))
 
+-- the images are such as the program asks for, and all rows of its run return
+abbrev pub Returns : Text Neon Form → List Picture → Type 0
+Returns p pictures = (regions : List Region) × KeepsAll p.head.images p.head.taps pictures × (run_end table p pictures ≡ Finished regions)
+
 -- the texts that are run
 abbrev pub programs : Language (Text Neon Form) TextRefusal
-programs = record { most = text_limit; Means = IsTextFile; Refuses = RefusesText; decls = λ p. p.head.images; Ends = Leaves }
+programs = record { most = text_limit; Spells = IsSomeText; Means = IsTextFile; Refuses = RefusesText; decls = λ p. p.head.images; Ends = Leaves; Works = Returns }

@@ -1,8 +1,10 @@
-ghost use Rattle.std.specs.Prelude.{◌≡◌, codes, map, string_bytes};
+ghost use Rattle.std.specs.Prelude.{◌≡◌, ◌⊎◌, Some, codes, map, string_bytes};
 ghost use Rattle.pf_top.specs.declared.kernel_file.KernelRefusal.{KernelRefusal};
 ghost use Rattle.pf_top.specs.declared.run_verdict.RunVerdict.{RunVerdict};
 ghost use Rattle.pf_top.specs.declared.text_file.TextRefusal.{TextRefusal};
 ghost use Rattle.pf_top.specs.declared.verdict.Verdict.{Verdict};
+ghost use Rattle.pf_images.specs.Outside.{Contents};
+ghost use Rattle.pf_top.specs.Completeness.{IsCalm, IsRunnable};
 ghost use Rattle.pf_top.specs.Courses.{seen};
 ghost use Rattle.pf_top.specs.KernelFiles.{kernels};
 ghost use Rattle.pf_top.specs.Running.{Run, IsRun, RanTo};
@@ -61,6 +63,19 @@ pub fn pitchfork<F: Files, S: Sink>(
         → (v : RunVerdict KernelRefusal) × RanTo kernels e (seen F.held F.faults F.calls files.old) v (seen F.held F.faults F.calls files.new)
         × Tells (run_due kernel_due e v) (seen_output S.written S.faults S.calls out.old) result
         (seen_output S.written S.faults S.calls out.new) }
+
+    // `run` does its work, or memory is wanting, on a text and images such as it asks for on which
+    // all rows of its run return, where neither the store nor the output failed.
+    ensures completes { (r : Run) (held : Contents) → IsRun (codes "run") (map string_bytes words.now.items) r
+        → F.held files.old ≡ Some held → IsRunnable programs r held
+        → IsCalm (F.faults files.old) (F.faults files.new) → IsCalm (S.faults out.old) (S.faults out.new)
+        → (result ≡ 0) ⊎ (result ≡ 13) }
+
+    // `eval` does its work, or memory is wanting, on a kernel and images such as it asks for.
+    ensures completes_eval { (e : Run) (held : Contents) → IsRun (codes "eval") (map string_bytes words.now.items) e
+        → F.held files.old ≡ Some held → IsRunnable kernels e held
+        → IsCalm (F.faults files.old) (F.faults files.new) → IsCalm (S.faults out.old) (S.faults out.new)
+        → (result ≡ 0) ⊎ (result ≡ 13) }
 {
     if let Some(words) = selection_of(words.as_slice()) {
         let verdict = select(alloc, &words, files);

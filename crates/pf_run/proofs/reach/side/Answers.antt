@@ -1,4 +1,4 @@
-use Rattle.std.proofs.Common.{◌≡◌, ◌≤◌, rules, to_z-of_z, arith}
+use Rattle.std.proofs.Common.{◌≡◌, rules, to_z-of_z, arith}
 use Rattle.std.specs.Prelude.{unsigned_abs}
 use Rattle.pf_run.specs.Reach.{extent}
 use Rattle.pf_run.proofs.PlacedLaws.{extent_within}
