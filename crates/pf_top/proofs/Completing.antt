@@ -1,4 +1,4 @@
--- `run` does its work wherever it can.
+-- `run` and `eval` do their work wherever they can.
 use Rattle.std.proofs.Common.{◌≡◌, ℕ, zero, suc, ◌+◌, ◌≤◌, ◌<◌, ◌⊎◌, inl, inr, take, zip, length, List, [], ◌∷◌, Option, Some, None, Err, ◌∙◌, refl, sym, ap, subst, get_or, arith}
 use Rattle.std.specs.Prelude.{IsSomeAnd, slice_get}
 use Rattle.std.specs.List.{AllZip}
@@ -9,30 +9,27 @@ use Rattle.pf_ints.specs.Images.{Picture}
 use Rattle.pf_terms.specs.declared.kernel.ImageDecl.{ImageDecl}
 use Rattle.pf_images.specs.Counts.{Rose}
 use Rattle.pf_images.specs.Outside.{Contents, Changes}
-use Rattle.pf_isa.specs.Programs.{Text}
-use Rattle.pf_neon.specs.declared.neon.Neon.{Neon}
-use Rattle.pf_neon.specs.declared.op.Form.{Form}
-use Rattle.pf_neon.specs.Neon.{table}
-use Rattle.pf_run.specs.Answers.{Ran}
 use Rattle.pf_top.specs.declared.image_files.ImageRefusal.{ImageRefusal}
 use Rattle.pf_top.specs.declared.image_files.ImageRefusal.TheVariants.{TooLong as ImageTooLong, At as ImageAt}
 use Rattle.pf_top.specs.declared.run_verdict.NotRun.{NotRun}
-use Rattle.pf_top.specs.declared.run_verdict.NotRun.TheVariants.{Size, Pixel, NoOutput, Outside, Spent}
 use Rattle.pf_top.specs.declared.run_verdict.RunFile.TheVariants.{Text as TextFile, Image}
 use Rattle.pf_top.specs.declared.run_verdict.RunVerdict.{RunVerdict}
 use Rattle.pf_top.specs.declared.run_verdict.RunVerdict.TheVariants.{Done, Missing, ReadFailed, TextRefused, Count, ImageRefused, NotRun as Prevented, WriteFailed, Memory}
-use Rattle.pf_top.specs.declared.text_file.TextRefusal.{TextRefusal}
-use Rattle.pf_top.specs.declared.text_file.TextRefusal.TheVariants.{TooLong, NotBuilt, At}
-use Rattle.pf_top.specs.Completeness.{IsSomeText, IsSomeImage, IsImageThere, IsRunnable}
+use Rattle.pf_top.specs.Completeness.{IsSomeImage, IsImageThere, IsRunnable}
 use Rattle.pf_top.specs.Courses.{Store, Begins}
 use Rattle.pf_top.specs.ImageFiles.{HoldsImage, IsImageFile, RefusesImage, image_limit}
-use Rattle.pf_top.specs.Least.{least_source}
-use Rattle.pf_top.specs.Running.{Run, Holds, HoldsText, IsTextFile, RefusesText, RunLeads, RanTo, fault_of, text_limit}
+use Rattle.pf_top.specs.Running.{Language, Run, Holds, HoldsText, RunLeads, RanTo}
 use Rattle.pf_top.specs.RunStatuses.{run_due}
-use Rattle.pf_top.specs.Statuses.{Output, Told, Tells, wanting}
+use Rattle.pf_top.specs.Statuses.{Due, Output, Told, Tells, wanting}
+
+-- what is spelled has one meaning and is not refused, and what works is not prevented
+pub record IsFit {P R : Type 0} (l : Language P R) : Type 0 where
+  pub same : (p q : P) (bytes : List ℕ) → l.Means p bytes → l.Spells q bytes → p ≡ q
+  pub not_refused : (e : R) (p : P) (bytes : List ℕ) → l.Refuses e bytes → l.Spells p bytes → ⊥
+  pub not_prevented : (e : NotRun) (p : P) (pictures : List Picture) → l.Works p pictures → l.Ends p pictures (Err e) → ⊥
 
 -- the verdicts whose causes are in the files
-abbrev IsRefusal : RunVerdict → Type 0
+abbrev IsRefusal : {R : Type 0} → RunVerdict R → Type 0
 IsRefusal Done = ⊥
 IsRefusal (ReadFailed w) = ⊥
 IsRefusal WriteFailed = ⊥
@@ -74,22 +71,16 @@ same_pictures m (w ∷ ws) (p ∷ ps) (q ∷ qs) held there =
     let rest : ps ≡ qs = same_pictures m ws ps qs held.1 there.1 in
     rw (first, rest) refl
 
-module _ (r : Run) (m : Contents) (can : IsRunnable r m) where
-  same_program : (p : Text Neon Form) → HoldsText r m p → p ≡ can.program
-  same_program p held = let facts = both (m r.text) (text_limit + 1) (IsTextFile p) (IsSomeText can.program) held can.text in facts.1.2 can.program facts.2.1
+module _ {P R : Type 0} (l : Language P R) (fit : IsFit l) (r : Run) (m : Contents) (can : IsRunnable l r m) where
+  same_meaning : (p : P) → HoldsText l r m p → p ≡ can.meaning
+  same_meaning p held = let facts = both (m r.text) (l.most + 1) (l.Means p) (l.Spells can.meaning) held can.text in fit.same p can.meaning facts.0 facts.1 facts.2
 
-  no_text_refusal : (e : TextRefusal) → Begins r.text (text_limit + 1) (RefusesText e) m → ⊥
-  no_text_refusal TooLong refused =
-      let facts = both (m r.text) (text_limit + 1) (RefusesText TooLong) (IsSomeText can.program) refused can.text in
-      let over : text_limit < length facts.0 = facts.1 in
-      let within : length facts.0 ≤ text_limit = facts.2.0 in
-      omega (arith, over, within)
-  no_text_refusal (NotBuilt target) refused = let facts = both (m r.text) (text_limit + 1) (RefusesText (NotBuilt target)) (IsSomeText can.program) refused can.text in facts.1.1 can.program facts.2.1
-  no_text_refusal (At line kind) refused = let facts = both (m r.text) (text_limit + 1) (RefusesText (At line kind)) (IsSomeText can.program) refused can.text in facts.1.1 can.program facts.2.1
+  no_text_refusal : (e : R) → Begins r.text (l.most + 1) (l.Refuses e) m → ⊥
+  no_text_refusal e refused = let facts = both (m r.text) (l.most + 1) (l.Refuses e) (l.Spells can.meaning) refused can.text in fit.not_refused e can.meaning facts.0 facts.1 facts.2
 
-  no_image_refusal : (n : ℕ) (e : ImageRefusal) (d : ImageDecl) → n < length r.images → slice_get can.program.head.images n ≡ Some d → Begins (get_or r.images n []) (image_limit + 1) (RefusesImage d.ty e) m → ⊥
+  no_image_refusal : (n : ℕ) (e : ImageRefusal) (d : ImageDecl) → n < length r.images → slice_get (l.decls can.meaning) n ≡ Some d → Begins (get_or r.images n []) (image_limit + 1) (RefusesImage d.ty e) m → ⊥
   no_image_refusal n e d low declared refused =
-      let there = image_at (IsImageThere m) r.images can.program.head.images can.pictures n low can.count can.images in
+      let there = image_at (IsImageThere m) r.images (l.decls can.meaning) can.pictures n low can.count can.images in
       let same : there.0.1 ≡ d = let two : Some there.0.1 ≡ Some d = sym there.4 ∙ declared in cc in
       let named : Begins there.0.0 (image_limit + 1) (RefusesImage there.0.1.ty e) m =
       subst (λ name. Begins name (image_limit + 1) (RefusesImage there.0.1.ty e) m) (sym there.3) (subst (λ x. Begins (get_or r.images n []) (image_limit + 1) (RefusesImage x.ty e) m) (sym same) refused) in
@@ -103,48 +94,41 @@ module _ (r : Run) (m : Contents) (can : IsRunnable r m) where
           omega (arith, over, within)
       clash (ImageAt at kind) w q refused held = let facts = both (m w.0) (image_limit + 1) (RefusesImage w.1.ty (ImageAt at kind)) (IsSomeImage w.1.ty q) refused held in facts.1.1 q facts.2.1
 
-  not_prevented : (e : NotRun) → Ran table can.program can.pictures (Err (fault_of e)) → ⊥
-  not_prevented (Size image width height) ran = ran.0 (least_source can.program.head 0 0) refl refl (can.keeps (least_source can.program.head 0 0) refl refl)
-  not_prevented (Pixel image x y value) ran = ran.0 (least_source can.program.head 0 0) refl refl (can.keeps (least_source can.program.head 0 0) refl refl)
-  not_prevented NoOutput ran = ran.0 (least_source can.program.head 0 0) refl refl (can.keeps (least_source can.program.head 0 0) refl refl)
-  not_prevented (Outside at address count) ran = let fails = ran.1.2 in let ends = can.finishes in absurd (cc)
-  not_prevented (Spent steps) ran = let fails = ran.1.2 in let ends = can.finishes in absurd (cc)
-
-  prevented : (e : NotRun) (p : Text Neon Form) (pictures : List Picture) → Holds r m (length r.images) p pictures → Ran table p pictures (Err (fault_of e)) → ⊥
+  prevented : (e : NotRun) (p : P) (pictures : List Picture) → Holds l r m (length r.images) p pictures → l.Ends p pictures (Err e) → ⊥
   prevented e p pictures holds ran =
-      let same : p ≡ can.program = same_program p holds.text in
-      let zipped = length-zip r.images p.head.images in
-      let whole : take (length r.images) (zip r.images p.head.images) ≡ zip r.images p.head.images = take_all (length r.images) (zip r.images p.head.images) (omega (arith, zipped)) in
-      let held : AllZip (HoldsImage m) (zip r.images p.head.images) pictures = subst (λ ws. AllZip (HoldsImage m) ws pictures) whole holds.images in
-      let here : AllZip (HoldsImage m) (zip r.images can.program.head.images) pictures = subst (λ (q : Text Neon Form). AllZip (HoldsImage m) (zip r.images q.head.images) pictures) same held in
-      let all : pictures ≡ can.pictures = same_pictures m (zip r.images can.program.head.images) pictures can.pictures here can.images in
-      not_prevented e (subst (λ (q : Text Neon Form). Ran table q can.pictures (Err (fault_of e))) same (subst (λ ps. Ran table p ps (Err (fault_of e))) all ran))
+      let same : p ≡ can.meaning = same_meaning p holds.text in
+      let zipped = length-zip r.images (l.decls p) in
+      let whole : take (length r.images) (zip r.images (l.decls p)) ≡ zip r.images (l.decls p) = take_all (length r.images) (zip r.images (l.decls p)) (omega (arith, zipped)) in
+      let held : AllZip (HoldsImage m) (zip r.images (l.decls p)) pictures = subst (λ ws. AllZip (HoldsImage m) ws pictures) whole holds.images in
+      let here : AllZip (HoldsImage m) (zip r.images (l.decls can.meaning)) pictures = subst (λ (q : P). AllZip (HoldsImage m) (zip r.images (l.decls q)) pictures) same held in
+      let all : pictures ≡ can.pictures = same_pictures m (zip r.images (l.decls can.meaning)) pictures can.pictures here can.images in
+      fit.not_prevented e can.meaning can.pictures can.works (subst (λ (q : P). l.Ends q can.pictures (Err e)) same (subst (λ ps. l.Ends p ps (Err e)) all ran))
 
   -- no refusal has its cause in the files
-  no_refusal : (v : RunVerdict) (n : Contents) → IsRefusal v → RunLeads r v m n → ⊥
+  no_refusal : (v : RunVerdict R) (n : Contents) → IsRefusal v → RunLeads l r v m n → ⊥
   no_refusal Done n refusal leads = refusal
-  no_refusal (Missing TextFile) n refusal leads = not_missing (m r.text) (λ all. IsSomeText can.program (take (text_limit + 1) all)) leads.1 can.text
+  no_refusal (Missing TextFile) n refusal leads = not_missing (m r.text) (λ all. l.Spells can.meaning (take (l.most + 1) all)) leads.1 can.text
   no_refusal (Missing (Image k)) n refusal leads =
-      let there = image_at (IsImageThere m) r.images can.program.head.images can.pictures k leads.0.3 can.count can.images in
+      let there = image_at (IsImageThere m) r.images (l.decls can.meaning) can.pictures k leads.0.3 can.count can.images in
       not_missing (m there.0.0) (λ all. IsSomeImage there.0.1.ty there.1 (take (image_limit + 1) all)) (ap m there.3 ∙ leads.1) there.2
   no_refusal (ReadFailed w) n refusal leads = refusal
   no_refusal (TextRefused e) n refusal leads = no_text_refusal e leads.0
   no_refusal (Count want got) n refusal leads =
-      let same : leads.0 ≡ can.program = same_program leads.0 leads.1 in
-      let heads : length leads.0.head.images ≡ length can.program.head.images = ap (λ (p : Text Neon Form). length p.head.images) same in
+      let same : leads.0 ≡ can.meaning = same_meaning leads.0 leads.1 in
+      let heads : length (l.decls leads.0) ≡ length (l.decls can.meaning) = ap (λ (p : P). length (l.decls p)) same in
       leads.4 (leads.2 ∙ heads ∙ sym can.count ∙ sym leads.3)
   no_refusal (ImageRefused k e) n refusal leads =
-      let same : leads.0 ≡ can.program = same_program leads.0 leads.3.text in
-      let declared : slice_get can.program.head.images k ≡ Some leads.2 = subst (λ (p : Text Neon Form). slice_get p.head.images k ≡ Some leads.2) same leads.4 in
-      let within : k < length can.program.head.images = slice_get_within can.program.head.images k leads.2 declared in
+      let same : leads.0 ≡ can.meaning = same_meaning leads.0 leads.3.text in
+      let declared : slice_get (l.decls can.meaning) k ≡ Some leads.2 = subst (λ (p : P). slice_get (l.decls p) k ≡ Some leads.2) same leads.4 in
+      let within : k < length (l.decls can.meaning) = slice_get_within (l.decls can.meaning) k leads.2 declared in
       let count = can.count in
       no_image_refusal k e leads.2 (omega (arith, within, count)) declared leads.5
   no_refusal (Prevented e) n refusal leads = prevented e leads.0.0 leads.0.1 leads.0.2 leads.0.3
   no_refusal WriteFailed n refusal leads = refusal
   no_refusal Memory n refusal leads = refusal
 
-  refuted : (b a : Store) (v : RunVerdict) → b.held ≡ Some m → IsRefusal v → RanTo r b v a → ⊥
-  refuted b a v is refusal ran = let change = led (RunLeads r v) b.held a.held m is ran.went.contents in no_refusal v change.0 refusal change.1
+  refuted : (b a : Store) (v : RunVerdict R) → b.held ≡ Some m → IsRefusal v → RanTo l r b v a → ⊥
+  refuted b a v is refusal ran = let change = led (RunLeads l r v) b.held a.held m is ran.went.contents in no_refusal v change.0 refusal change.1
 
 -- where memory is wanting the answer is 13, or the output failed
 poor : (ob oa : Output) (answer : ℕ) → (Rose ob.faults oa.faults → ⊥) → Told wanting ob answer oa → answer ≡ 13
@@ -153,14 +137,14 @@ poor ob oa answer calm (inl said) = said.status
 poor ob oa answer calm (inr (inl failed)) = absurd (calm failed.faults)
 poor ob oa answer calm (inr (inr wanted)) = wanted.status
 
-pub complete : (r : Run) (m : Contents) (b a : Store) (ob oa : Output) (answer : ℕ) (v : RunVerdict) → b.held ≡ Some m → IsRunnable r m → (Rose b.faults a.faults → ⊥) → (Rose ob.faults oa.faults → ⊥)
-    → RanTo r b v a → Tells (run_due r v) ob answer oa → (answer ≡ 0) ⊎ (answer ≡ 13)
-complete r m b a ob oa answer Done is can calm quiet ran told = inl told.0
-complete r m b a ob oa answer (Missing w) is can calm quiet ran told = absurd (refuted r m can b a (Missing w) is tt ran)
-complete r m b a ob oa answer (ReadFailed w) is can calm quiet ran told = absurd (calm ran.went.faults)
-complete r m b a ob oa answer (TextRefused e) is can calm quiet ran told = absurd (refuted r m can b a (TextRefused e) is tt ran)
-complete r m b a ob oa answer (Count want got) is can calm quiet ran told = absurd (refuted r m can b a (Count want got) is tt ran)
-complete r m b a ob oa answer (ImageRefused n e) is can calm quiet ran told = absurd (refuted r m can b a (ImageRefused n e) is tt ran)
-complete r m b a ob oa answer (Prevented e) is can calm quiet ran told = absurd (refuted r m can b a (Prevented e) is tt ran)
-complete r m b a ob oa answer WriteFailed is can calm quiet ran told = absurd (calm ran.went.faults)
-complete r m b a ob oa answer Memory is can calm quiet ran told = inr (poor ob oa answer quiet told)
+pub complete : {P R : Type 0} (l : Language P R) (fit : IsFit l) (refused : List ℕ → R → Due) (r : Run) (m : Contents) (b a : Store) (ob oa : Output) (answer : ℕ) (v : RunVerdict R) → b.held ≡ Some m → IsRunnable l r m → (Rose b.faults a.faults → ⊥) → (Rose ob.faults oa.faults → ⊥)
+    → RanTo l r b v a → Tells (run_due refused r v) ob answer oa → (answer ≡ 0) ⊎ (answer ≡ 13)
+complete l fit refused r m b a ob oa answer Done is can calm quiet ran told = inl told.0
+complete l fit refused r m b a ob oa answer (Missing w) is can calm quiet ran told = absurd (refuted l fit r m can b a (Missing w) is tt ran)
+complete l fit refused r m b a ob oa answer (ReadFailed w) is can calm quiet ran told = absurd (calm ran.went.faults)
+complete l fit refused r m b a ob oa answer (TextRefused e) is can calm quiet ran told = absurd (refuted l fit r m can b a (TextRefused e) is tt ran)
+complete l fit refused r m b a ob oa answer (Count want got) is can calm quiet ran told = absurd (refuted l fit r m can b a (Count want got) is tt ran)
+complete l fit refused r m b a ob oa answer (ImageRefused n e) is can calm quiet ran told = absurd (refuted l fit r m can b a (ImageRefused n e) is tt ran)
+complete l fit refused r m b a ob oa answer (Prevented e) is can calm quiet ran told = absurd (refuted l fit r m can b a (Prevented e) is tt ran)
+complete l fit refused r m b a ob oa answer WriteFailed is can calm quiet ran told = absurd (calm ran.went.faults)
+complete l fit refused r m b a ob oa answer Memory is can calm quiet ran told = inr (poor ob oa answer quiet told)

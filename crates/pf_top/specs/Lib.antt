@@ -4,6 +4,7 @@ pub mod Least
 pub mod LeastKernels
 pub mod Reading
 pub mod Headline
+pub mod KernelFiles
 pub mod Running
 pub mod Completeness
 pub mod RunStatuses
@@ -12,3 +13,4 @@ pub mod Selected
 pub mod Selections
 pub mod Statuses
 pub mod Steps
+pub mod TextFiles

@@ -1,11 +1,15 @@
--- The statuses of `run` and the lines that it puts.
+-- The statuses of `run` and `eval` and the lines that they put.
 use Rattle.std.specs.Prelude.{ℕ, ℤ, List, [], ◌∷◌, codes, decimal, Option, Some, None}
 use Rattle.std.specs.Fmt.{signed_decimal}
 use Rattle.pf_ints.specs.Targets.{target_word}
 use Rattle.pf_images.specs.Words.{kind_word}
+use Rattle.pf_terms.specs.Limits.{limit_word}
+use Rattle.pf_terms.specs.TermTexts.{type_word}
 use Rattle.pf_isa.specs.TextFaults.{kind_word as text_kind_word}
 use Rattle.pf_top.specs.declared.image_files.ImageRefusal.{ImageRefusal}
 use Rattle.pf_top.specs.declared.image_files.ImageRefusal.TheVariants.{TooLong as ImageTooLong, At as ImageAt}
+use Rattle.pf_top.specs.declared.kernel_file.KernelRefusal.{KernelRefusal}
+use Rattle.pf_top.specs.declared.kernel_file.KernelRefusal.TheVariants.{Syntax, Name, Types, Limit}
 use Rattle.pf_top.specs.declared.run_verdict.NotRun.{NotRun}
 use Rattle.pf_top.specs.declared.run_verdict.NotRun.TheVariants.{Size, Pixel, NoOutput, Outside, Spent}
 use Rattle.pf_top.specs.declared.run_verdict.RunFile.TheVariants.{Image}
@@ -21,6 +25,13 @@ abbrev pub text_due : List ℕ → TextRefusal → Due
 text_due name TooLong = due 10 (line_of (name ∷ codes ":0: limit" ∷ []))
 text_due name (NotBuilt target) = due 8 (line_of (codes "not built: " ∷ target_word target ∷ []))
 text_due name (At at kind) = due 10 (line_of (name ∷ codes ":" ∷ decimal at ∷ codes ": " ∷ text_kind_word kind ∷ []))
+
+-- a kernel that is refused: 5, with the line of the fault, or the limit that is passed and the counted number
+abbrev pub kernel_due : List ℕ → KernelRefusal → Due
+kernel_due name (Syntax at column) = due 5 (line_of (name ∷ codes ":" ∷ decimal at ∷ codes ": syntax at column " ∷ decimal column ∷ []))
+kernel_due name (Name at other) = due 5 (line_of (name ∷ codes ":" ∷ decimal at ∷ codes ": name " ∷ other ∷ []))
+kernel_due name (Types at want got) = due 5 (line_of (name ∷ codes ":" ∷ decimal at ∷ codes ": types: want " ∷ type_word want ∷ codes ", got " ∷ type_word got ∷ []))
+kernel_due name (Limit what count) = due 5 (line_of (name ∷ codes ": limit " ∷ limit_word what ∷ codes " is " ∷ signed_decimal count ∷ []))
 
 -- the file of an image that is refused
 abbrev pub image_due : List ℕ → ImageRefusal → Due
@@ -48,14 +59,14 @@ not_run_due r NoOutput = due 9 (line_of (codes "no output pixel" ∷ []))
 not_run_due r (Outside at address length) = outside_due at address length
 not_run_due r (Spent steps) = due 12 (line_of (codes "spent: " ∷ decimal steps ∷ codes " steps" ∷ []))
 
--- what is due at each verdict of `run`; nothing is put on success
-abbrev pub run_due : Run → RunVerdict → Option Due
-run_due r Done = None
-run_due r (Missing w) = Some (due 3 (line_of (codes "no file: " ∷ run_file_name r w ∷ [])))
-run_due r (ReadFailed w) = Some (due 3 (line_of (codes "read failed: " ∷ run_file_name r w ∷ [])))
-run_due r (TextRefused e) = Some (text_due r.text e)
-run_due r (Count want got) = Some (count_due want got)
-run_due r (ImageRefused n e) = Some (image_due (run_file_name r (Image n)) e)
-run_due r (Prevented e) = Some (not_run_due r e)
-run_due r WriteFailed = Some (write_failed r.out)
-run_due r Memory = Some wanting
+-- what is due at each verdict of `run` or `eval`, by what is due for a text that is refused; nothing is put on success
+abbrev pub run_due : {R : Type 0} → (List ℕ → R → Due) → Run → RunVerdict R → Option Due
+run_due refused r Done = None
+run_due refused r (Missing w) = Some (due 3 (line_of (codes "no file: " ∷ run_file_name r w ∷ [])))
+run_due refused r (ReadFailed w) = Some (due 3 (line_of (codes "read failed: " ∷ run_file_name r w ∷ [])))
+run_due refused r (TextRefused e) = Some (refused r.text e)
+run_due refused r (Count want got) = Some (count_due want got)
+run_due refused r (ImageRefused n e) = Some (image_due (run_file_name r (Image n)) e)
+run_due refused r (Prevented e) = Some (not_run_due r e)
+run_due refused r WriteFailed = Some (write_failed r.out)
+run_due refused r Memory = Some wanting

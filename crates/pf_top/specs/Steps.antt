@@ -1,6 +1,7 @@
 -- The code's values as the definitions see them, and what the steps of `select` come to.
 use Rattle.std.specs.Prelude.{◌≡◌, ℕ, List, Option, Result, Ok, Err, ⊤, decimal}
 use Rattle.std.specs.Fmt.{signed_decimal}
+use Rattle.pf_terms.specs.TermTexts.{type_word}
 use Rattle.pf_top.specs.declared.command.Selection.{Selection}
 use Rattle.pf_images.specs.declared.files.FilesFault.TheVariants.{Missing as MissingFault, Failed as FailedFault, Memory as MemoryFault}
 use Rattle.pf_top.specs.declared.judging.Stop.{Stop}
@@ -8,7 +9,7 @@ use Rattle.pf_top.specs.declared.judging.Stop.TheVariants.{Unread, Refused}
 use Rattle.pf_top.specs.declared.judging.Unwritten.{Unwritten}
 use Rattle.pf_top.specs.declared.judging.Unwritten.TheVariants.{Failed as NotWritten, Memory as NoMemory}
 use Rattle.pf_top.specs.declared.report.Piece.{Piece}
-use Rattle.pf_top.specs.declared.report.Piece.TheVariants.{Word, Number, Whole}
+use Rattle.pf_top.specs.declared.report.Piece.TheVariants.{Word, Number, Whole, TypeWord}
 use Rattle.pf_top.specs.declared.verdict.FileWord.{FileWord}
 use Rattle.pf_top.specs.declared.verdict.Verdict.{Verdict}
 use Rattle.pf_top.specs.declared.verdict.Verdict.TheVariants.{Done, NotBuilt, Missing, ReadFailed, WriteFailed, Memory}
@@ -55,3 +56,4 @@ abbrev pub piece_text : Piece → List ℕ
 piece_text (Word word) = word.now
 piece_text (Number n) = decimal n
 piece_text (Whole n) = signed_decimal n
+piece_text (TypeWord ty) = type_word ty

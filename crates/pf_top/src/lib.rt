@@ -2,8 +2,10 @@
 #![tactic(auto)]
 
 mod command;
+mod eval;
 mod image_files;
 mod judging;
+mod kernel_file;
 mod least;
 mod least_program;
 mod report;
@@ -21,6 +23,8 @@ pub use least::LeastKernel;
 pub use report::tell_want;
 pub use top::pitchfork;
 
+#[cfg(test)]
+mod eval_tests;
 #[cfg(test)]
 mod run_tests;
 #[cfg(test)]

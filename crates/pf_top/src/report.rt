@@ -9,16 +9,19 @@ use crate::command::Selection;
 use crate::verdict::{FileWord, Verdict};
 use itoa::Buffer;
 use pf_images::{FilesFault, Sink};
-use pf_ints::Memory;
+use pf_ints::{LaneType, Memory};
 use pf_isa::push_number;
+use pf_terms::write_type;
 use std::alloc::Global;
 
-/// A piece of a line: a word, or a number in decimal digits, behind `-` where it is negative.
+/// A piece of a line: a word, a number in decimal digits, behind `-` where it is negative, or the
+/// word of a type.
 #[derive(Clone, Copy)]
 pub enum Piece<'a> {
     Word(&'a [u8]),
     Number(u64),
     Whole(i128),
+    TypeWord(LaneType),
 }
 
 fn push_whole(line: &mut Vec<u8>, n: i128) -> Result<(), Memory>
@@ -35,6 +38,7 @@ fn push_piece(line: &mut Vec<u8>, piece: Piece<'_>) -> Result<(), Memory>
         Piece::Word(word) => line.extend_from_slice(word),
         Piece::Number(n) => push_number(line, n),
         Piece::Whole(n) => push_whole(line, n),
+        Piece::TypeWord(ty) => write_type(line, ty),
     }
 }
 
