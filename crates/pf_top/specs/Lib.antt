@@ -1,13 +1,14 @@
 pub mod Courses
 pub mod ImageFiles
 pub mod Least
-pub mod LeastKernels
-pub mod Reading
 pub mod Headline
+pub mod KernelFiles
+pub mod KernelStatuses
 pub mod Running
 pub mod RunStatuses
 pub mod RunSteps
 pub mod Selected
 pub mod Selections
+pub mod SelectStatuses
 pub mod Statuses
 pub mod Steps

@@ -1,24 +1,24 @@
 ghost use Rattle.std.specs.Prelude.{◌≡◌, [], ◌∷◌, ◌++◌, map, IfOk, OnOk};
 ghost use Rattle.std.specs.Fmt.{signed_decimal};
 ghost use Rattle.pf_images.specs.Counts.{raised};
-ghost use Rattle.pf_top.specs.Statuses.{due, line_of, memory_line, wanting, write_failed, usage, select_due, Told, Tells};
-ghost use Rattle.pf_top.specs.Selections.{file_name};
-ghost use Rattle.pf_top.specs.Steps.{the_words, seen_output, piece_text};
+ghost use Rattle.pf_top.specs.Statuses.{due, line_of, memory_line, wanting, write_failed, usage, Told};
+ghost use Rattle.pf_top.specs.Steps.{seen_output, piece_text};
 
-use crate::command::Selection;
-use crate::verdict::{FileWord, Verdict};
 use itoa::Buffer;
 use pf_images::{FilesFault, Sink};
-use pf_ints::Memory;
+use pf_ints::{LaneType, Memory};
 use pf_isa::push_number;
+use pf_terms::write_type;
 use std::alloc::Global;
 
-/// A piece of a line: a word, or a number in decimal digits, behind `-` where it is negative.
+/// A piece of a line: a word, a number in decimal digits, behind `-` where it is negative, or the
+/// word of a type.
 #[derive(Clone, Copy)]
 pub enum Piece<'a> {
     Word(&'a [u8]),
     Number(u64),
     Whole(i128),
+    TypeWord(LaneType),
 }
 
 fn push_whole(line: &mut Vec<u8>, n: i128) -> Result<(), Memory>
@@ -35,6 +35,7 @@ fn push_piece(line: &mut Vec<u8>, piece: Piece<'_>) -> Result<(), Memory>
         Piece::Word(word) => line.extend_from_slice(word),
         Piece::Number(n) => push_number(line, n),
         Piece::Whole(n) => push_whole(line, n),
+        Piece::TypeWord(ty) => write_type(line, ty),
     }
 }
 
@@ -101,17 +102,6 @@ pub fn tell_usage<S: Sink>(alloc: Global, out: &mut S) -> u8
     tell(alloc, out, 2, &[Piece::Word(line)])
 }
 
-/// The name of a file that is read.
-fn file_name<'a>(words: &Selection<'a>, word: FileWord) -> &'a [u8]
-    ensures { result.now ≡ file_name (the_words words.now) word }
-{
-    match word {
-        FileWord::Kernel => words.kernel.as_bytes(),
-        FileWord::Lift => words.lift.as_bytes(),
-        FileWord::Lower => words.lower.as_bytes(),
-    }
-}
-
 /// Puts the line of the words, and answers the status.
 pub fn tell_named<S: Sink>(alloc: Global, out: &mut S, status: u8, head: &[u8], name: &[u8]) -> u8
     ensures { Told (due status (line_of (head.now ∷ name.now ∷ [])))
@@ -119,38 +109,4 @@ pub fn tell_named<S: Sink>(alloc: Global, out: &mut S, status: u8, head: &[u8], 
         (seen_output S.written S.faults S.calls out.new) }
 {
     tell(alloc, out, status, &[Piece::Word(head), Piece::Word(name)])
-}
-
-/// Puts the line of the verdict where it has one, and answers the status.
-pub fn tell_verdict<S: Sink>(
-    alloc: Global,
-    words: &Selection<'_>,
-    verdict: Verdict,
-    out: &mut S,
-) -> u8
-    ensures { Tells (select_due (the_words words.now) verdict)
-        (seen_output S.written S.faults S.calls out.old) result
-        (seen_output S.written S.faults S.calls out.new) }
-{
-    match verdict {
-        Verdict::Done => 0,
-        Verdict::TargetNotBuilt => tell_named(alloc, out, 8, b"not built: ", words.target.word()),
-        Verdict::NotBuilt(word) => tell_named(
-            alloc,
-            out,
-            8,
-            b"not built: ",
-            file_name(words, word),
-        ),
-        Verdict::Missing(word) => tell_named(alloc, out, 3, b"no file: ", file_name(words, word)),
-        Verdict::ReadFailed(word) => tell_named(
-            alloc,
-            out,
-            3,
-            b"read failed: ",
-            file_name(words, word),
-        ),
-        Verdict::WriteFailed => tell_write_failed(alloc, out, words.out.as_bytes()),
-        Verdict::Memory => tell_want(alloc, out),
-    }
 }

@@ -5,15 +5,17 @@ ghost use Rattle.pf_top.specs.Courses.{seen};
 ghost use Rattle.pf_top.specs.Running.{Run, IsRun, RanTo};
 ghost use Rattle.pf_top.specs.RunStatuses.{run_due};
 ghost use Rattle.pf_top.specs.Selections.{Select, IsSelect, Came};
-ghost use Rattle.pf_top.specs.Statuses.{usage, select_due, Told, Tells};
+ghost use Rattle.pf_top.specs.SelectStatuses.{select_due};
+ghost use Rattle.pf_top.specs.Statuses.{usage, Told, Tells};
 ghost use Rattle.pf_top.specs.Steps.{seen_output};
 
 use crate::command::selection_of;
-use crate::report::{tell_usage, tell_verdict};
+use crate::report::tell_usage;
 use crate::run::run;
 use crate::run_report::tell_run_verdict;
 use crate::run_words::run_of;
 use crate::select::select;
+use crate::select_report::tell_verdict;
 use pf_images::{Files, Sink};
 use std::alloc::Global;
 
@@ -21,7 +23,7 @@ use std::alloc::Global;
 /// the status. `select T KERNEL LIFT LOWER OUT` writes the text of the kernel to OUT. `run TEXT
 /// IMG.. OUT` runs the text on the images and writes what it leaves to OUT as PGM. The statuses are
 /// 0 (done), 2 (the words are of no form), 3 (a file could not be read or is missing), 4 (a file or
-/// the output could not be written), 8 (not built), 9 (an image is refused), 10 (the text is
+/// the output could not be written), 5 (the kernel is refused), 8 (not built), 9 (an image is refused), 10 (the text is
 /// refused), 11 (an instruction loads or stores where it may not), 12 (a row took all its steps) and
 /// 13 (memory is wanting).
 pub fn pitchfork<F: Files, S: Sink>(
