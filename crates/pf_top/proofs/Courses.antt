@@ -97,7 +97,7 @@ after_then Q R S k course b c d f first next = went_then _ _ _ k course b c d (�
 pub after_judged : {A R : Type 0} (P : A → List ℕ → Type 0) (E : R → List ℕ → Type 0) (Q S : Contents → Type 0) (name : List ℕ) (most k : ℕ) (b c d : Store) (x : A) → ((m : Contents) → Q m → Begins name most (P x) m → S m) → After Q k b c → Judged P E name most c (Ok x) d → After S (1 + k) b d
 after_judged P E Q S name most k b c d x f first next = after_then Q (Begins name most (P x)) S k (Well 1) b c d (λ m n same q fact. f m q (begins_before name most (P x) m n same fact)) first next
 
-weaker_begins : (name : List ℕ) (most : ℕ) (P Q : List ℕ → Type 0) (files : Contents) → ((front : List ℕ) → P front → Q front) → Begins name most P files → Begins name most Q files
+pub weaker_begins : (name : List ℕ) (most : ℕ) (P Q : List ℕ → Type 0) (files : Contents) → ((front : List ℕ) → P front → Q front) → Begins name most P files → Begins name most Q files
 weaker_begins name most P Q files f = weaker (files name)
   where
     weaker : (held : Option (List ℕ)) → IsSomeAnd held (λ all. P (take most all)) → IsSomeAnd held (λ all. Q (take most all))

@@ -1,12 +1,15 @@
 -- The head of a selected text is one that a text may have.
-use Rattle.std.proofs.Common.{◌≡◌, ◌≢◌, refl, sym, ap, ◌∙◌, ℕ, zero, suc, ◌<◌, ◌≤◌, ℤ, Bool, true, false, cond, List, [], ◌∷◌, length, map, arith, rules, All}
-use Rattle.std.specs.Prelude.{codes, Ok}
-use Rattle.std.specs.List.{AllPairs}
-use Rattle.std.proofs.lemmas.Bool.Decides.{Decides-eqb, Decides-int_eq}
-use Rattle.std.proofs.lemmas.Int.{ints}
-use Rattle.std.proofs.lemmas.List.Elements.{All-from_recursion}
+use Rattle.std.proofs.Common.{◌≡◌, ◌≢◌, refl, sym, ap, subst, ◌∙◌, ℕ, zero, suc, ◌<◌, ◌≤◌, Bool, true, false, List, [], ◌∷◌, ◌++◌, length, map, get_or, arith, rules, All}
+use Rattle.std.specs.Prelude.{codes, ◌+◌, ◌&&◌, nat_lt, sum, IsTrue}
+use Rattle.std.specs.List.{AllPairs, AllByRecursion as ByRecursion}
+use Rattle.std.proofs.lemmas.Bool.Decides.{nat_tests}
+use Rattle.std.proofs.lemmas.List.{append-nil, length-map}
+use Rattle.std.proofs.lemmas.List.Elements.{All-from_recursion, All-push, recursion_from_All}
+use Rattle.std.proofs.lemmas.List.Kept.{AllPairs-cons}
 use Rattle.pf_ints.specs.Images.{IsPixelType}
 use Rattle.pf_ints.specs.Words.{is_name, is_reserved}
+use Rattle.pf_terms.specs.declared.kernel.Definition.{Definition}
+use Rattle.pf_terms.specs.declared.kernel.ImageDecl.{ImageDecl}
 use Rattle.pf_terms.specs.declared.names.Names.{Names}
 use Rattle.pf_terms.specs.declared.names.Tap.{Tap}
 use Rattle.pf_terms.specs.declared.op.Op.TheVariants.{Min}
@@ -16,18 +19,16 @@ use Rattle.pf_terms.specs.declared.term.Term.TheVariants.{Leaf, rolls-Leaf, roll
 use Rattle.pf_terms.specs.declared.term.Term.TheOpen.{Term-F}
 use Rattle.pf_terms.specs.declared.term.Term.TheOpen.Term-F.{Leaf as LeafLayer, Node as NodeLayer}
 use Rattle.pf_terms.specs.declared.term.Term.TheFolds.{fold-Term, fold-roll-Term}
-use Rattle.pf_terms.specs.Terms.{IsWellTyped, stated_type, stated_step, node_count, nodes_step, depth_of, depth_step, formed_step, typing_step}
-use Rattle.pf_terms.specs.TermTexts.{is_named, named_step, is_named_leaf, is_named_tap}
-use Rattle.pf_isa.specs.Heads.{IsDecl, IsTap, names_of, image_name}
-use Rattle.pf_top.specs.Least.{byte_type, least_term, HasTaps}
-use Rattle.pf_top.specs.declared.least.LeastKernel.{LeastKernel}
-use Rattle.pf_top.specs.LeastKernels.{IsProper}
-use Rattle.pf_top.specs.Selected.{image_decl, images_of, same_tap, taps_of, second_tap, head_of}
+use Rattle.pf_terms.specs.KernelNames.{all_names, IsNearTap}
+use Rattle.pf_terms.specs.Kernels.{Source}
+use Rattle.pf_terms.specs.Terms.{node_count}
+use Rattle.pf_terms.specs.TermTexts.{is_named, named_step, is_named_leaf}
+use Rattle.pf_isa.specs.Heads.{IsHead, IsDecl, IsTap}
+use Rattle.pf_kernel.specs.Kernels.{Meaning, IsKernelOf, IsTermOf, names_of, names_behind, image_name, def_name, terms_of, IsDecl as IsRange}
+use Rattle.pf_top.specs.Least.{byte_type, tap_term, least_term, IsLeastOf, HasTaps}
+use Rattle.pf_top.specs.Selected.{head_of}
 
--- ---- folds of a tap, and of the lesser of two
-abbrev tap_term : ℕ → Term
-tap_term n = Leaf (TapLeaf n) byte_type
-
+-- ---- a fold of a tap, and of the lesser of two
 fold_tap : {A : Type 0} (step : Term-F A → A) (n : ℕ) → fold-Term A step (tap_term n) ≡ step (LeafLayer (TapLeaf n) byte_type)
 fold_tap {A = A} step n = ap (fold-Term A step) (sym (rolls-Leaf (TapLeaf n) byte_type)) ∙ fold-roll-Term A step (LeafLayer (TapLeaf n) byte_type)
 
@@ -38,28 +39,25 @@ fold_least {A = A} step m n =
     ∙ ap (λ a. step (NodeLayer Min byte_type 0 (a ∷ fold-Term A step (tap_term n) ∷ []))) (fold_tap step m)
     ∙ ap (λ b. step (NodeLayer Min byte_type 0 (step (LeafLayer (TapLeaf m) byte_type) ∷ b ∷ []))) (fold_tap step n)
 
-stated : (m n : ℕ) → stated_type (least_term m n) ≡ byte_type
-stated m n = fold_least (λ layer. stated_step layer) m n
+both_true : (b c : Bool) → b && (c && true) ≡ true → (b ≡ true) × (c ≡ true)
+both_true true true e = (refl, refl)
+both_true true false e = absurd (cc)
+both_true false c e = absurd (cc)
 
-typed : (m n : ℕ) → IsWellTyped (least_term m n)
-typed m n = record { formed = fold_least formed_step m n; typed = fold_least typing_step m n ∙ ap (λ t. Ok t) (sym (stated m n)) }
+first_true : (b c : Bool) → b && c ≡ true → b ≡ true
+first_true true c e = refl
+first_true false c e = absurd (cc)
 
-nodes : (m n : ℕ) → node_count (least_term m n) ≡ 3
-nodes m n = fold_least nodes_step m n
+leaf_within : (names : Names) (n : ℕ) → is_named_leaf names (TapLeaf n) byte_type ≡ true → n < length names.taps
+leaf_within names n named = let low : nat_lt n (length names.taps) ≡ true = first_true _ _ named in grind (arith, nat_tests)
 
-depth : (m n : ℕ) → depth_of (least_term m n) ≡ 2
-depth m n = fold_least depth_step m n
-
--- both taps have their names
-named : (names : Names) (m n : ℕ) → is_named_leaf names (TapLeaf m) byte_type ≡ true → is_named_leaf names (TapLeaf n) byte_type ≡ true → is_named names (least_term m n) ≡ true
-named names m n h k = fold_least (named_step names) m n ∙ rw (h, k) refl
+-- both taps of the lesser of two are there
+taps_within : (names : Names) (m n : ℕ) → is_named names (least_term m n) ≡ true → (m < length names.taps) × (n < length names.taps)
+taps_within names m n named =
+    let both = both_true (is_named_leaf names (TapLeaf m) byte_type) (is_named_leaf names (TapLeaf n) byte_type) (sym (fold_least (named_step names) m n) ∙ named) in
+    (leaf_within names m both.0, leaf_within names n both.1)
 
 -- ---- the head's parts
-byte_pixels : IsPixelType byte_type
-byte_pixels = record { unsigned = refl; narrow = omega arith }
-
-decl : (name : List ℕ) → is_name name ≡ true → IsDecl (image_decl name)
-decl name h = record { name = search rules; ty = byte_pixels; ordered = omega arith; inside = record { low = omega (arith, ints); high = omega (arith, ints) } }
 
 -- no name is `out`
 out_reserved : is_name (codes "out") ≡ false
@@ -69,109 +67,101 @@ out_reserved = refl
 not_out : (name : List ℕ) → is_name name ≡ true → name ≢ codes "out"
 not_out name h e = let same : true ≡ false = sym h ∙ ap is_name e ∙ out_reserved in cc
 
--- three things, each apart from the others
-three_apart : {X : Type 0} (a b c : X) → a ≢ b → a ≢ c → b ≢ c → AllPairs (λ x y. x ≢ y) (a ∷ b ∷ c ∷ [])
-three_apart a b c ab ac bc zero (suc zero) d h m = ab
-three_apart a b c ab ac bc zero (suc (suc zero)) d h m = ac
-three_apart a b c ab ac bc (suc zero) (suc (suc zero)) d h m = bc
-three_apart a b c ab ac bc zero zero d h m = absurd (omega arith)
-three_apart a b c ab ac bc (suc zero) zero d h m = absurd (omega arith)
-three_apart a b c ab ac bc (suc zero) (suc zero) d h m = absurd (omega arith)
-three_apart a b c ab ac bc (suc (suc i)) (suc (suc zero)) d h m = absurd (omega arith)
-three_apart a b c ab ac bc (suc (suc i)) (suc zero) d h m = absurd (omega arith)
-three_apart a b c ab ac bc (suc (suc i)) zero d h m = absurd (omega arith)
-three_apart a b c ab ac bc i (suc (suc (suc j))) d h m = absurd (omega arith)
-
 one_alone : {X : Type 0} (a : X) → AllPairs (λ x y. x ≢ y) (a ∷ [])
 one_alone a i j d h m = absurd (omega arith)
 
-two_apart : {X : Type 0} (a b : X) → a ≢ b → AllPairs (λ x y. x ≢ y) (a ∷ b ∷ [])
-two_apart a b ab zero (suc zero) d h m = ab
-two_apart a b ab zero zero d h m = absurd (omega arith)
-two_apart a b ab (suc i) zero d h m = absurd (omega arith)
-two_apart a b ab (suc i) (suc zero) d h m = absurd (omega arith)
-two_apart a b ab i (suc (suc j)) d h m = absurd (omega arith)
+-- one more thing behind others that it is none of
+push_apart : {X : Type 0} (xs : List X) (y : X) → AllPairs (λ s t. s ≢ t) xs → All (λ s. s ≢ y) xs → AllPairs (λ s t. s ≢ t) (xs ++ y ∷ [])
+push_apart [] y apart others = one_alone y
+push_apart (x ∷ xs) y apart others =
+    AllPairs-cons (λ s t. s ≢ t) x (xs ++ y ∷ [])
+    (All-push (λ t. x ≢ t) xs y (λ k d h. apart 0 (suc k) d (omega arith) (omega arith)) (others 0 x (omega arith)))
+    (push_apart xs y (λ i j d h m. apart (suc i) (suc j) d (omega arith) (omega arith)) (λ k d h. others (suc k) d (omega arith)))
 
--- ---- the taps
-itself : (t : Tap) → same_tap t t ≡ true
-itself t = rw ((Decides-eqb t.image t.image).1 refl, (Decides-int_eq t.dx t.dx).1 refl, (Decides-int_eq t.dy t.dy).1 refl) refl
+same_names : (ds : List ImageDecl) → map (λ i. i.name) (map image_name ds) ≡ map (λ d. d.name) ds
+same_names [] = refl
+same_names (d ∷ ds) = ap (λ names. d.name ∷ names) (same_names ds)
 
-unlike : (t u : Tap) → same_tap t u ≡ false → t ≢ u
-unlike t u other same = let yes : same_tap t u ≡ true = ap (same_tap t) (sym same) ∙ itself t in cc
+true_name : (name : List ℕ) → is_name name ≡ true → IsTrue (is_name name)
+true_name name h = search rules
 
--- what depends on whether the operands are one tap
-pub record HasOperands (k : LeastKernel) (taps : List Tap) (number : ℕ) : Type 0 where
-  pub few : length taps ≤ 2
-  pub some : 1 ≤ length taps
-  pub second : number < length taps
-  pub near : All (IsTap 2) taps
-  pub distinct : AllPairs (λ t u. t ≢ u) taps
-  pub first_named : is_named_leaf (names_of (images_of k) taps) (TapLeaf 0) byte_type ≡ true
-  pub second_named : is_named_leaf (names_of (images_of k) taps) (TapLeaf number) byte_type ≡ true
+decls_of : (ds : List ImageDecl) → ByRecursion IsRange ds → ByRecursion (λ i. IsPixelType i.ty) (map image_name ds) → ByRecursion (λ s. is_name s ≡ true) (map (λ d. d.name) ds) → ByRecursion IsDecl ds
+decls_of [] ranges pixels names = tt
+decls_of (d ∷ ds) ranges pixels names =
+    (record { name = true_name d.name names.0; ty = pixels.0; ordered = ranges.0.ordered; inside = ranges.0.inside }, decls_of ds ranges.1 pixels.1 names.1)
 
-named_image : (k : LeastKernel) (image : ℕ) (dx dy : ℤ) → image < 2 → is_named_tap (map image_name (images_of k)) (record { image = image; dx = dx; dy = dy }) byte_type ≡ true
-named_image k zero dx dy known = refl
-named_image k (suc zero) dx dy known = refl
-named_image k (suc (suc image)) dx dy known = absurd (omega arith)
+near_tap : (count : ℕ) (t : Tap) → IsNearTap count t → IsTap count t
+near_tap count t near = record { image = near.image; left = near.across.low; right = near.across.high; up = near.down.low; down = near.down.high }
 
-named_tap : (k : LeastKernel) (t : Tap) → IsTap 2 t → is_named_tap (map image_name (images_of k)) t byte_type ≡ true
-named_tap k t near = named_image k t.image t.dx t.dy near.image
+module _ (k : Meaning) (kernel : IsKernelOf k) (none : k.source.defs ≡ []) where
+  abbrev s : Source
+  s = k.source
 
-operands_of : (k : LeastKernel) → IsProper k → (one : Bool) → same_tap k.left k.right ≡ one → HasOperands k (cond one (k.left ∷ []) (k.left ∷ k.right ∷ [])) (cond one 0 1)
-operands_of k proper true is = record {
-  few = omega arith;
-  some = omega arith;
-  second = omega arith;
-  near = All-from_recursion (IsTap 2) (k.left ∷ []) (proper.left, tt);
-  distinct = one_alone k.left;
-  first_named = named_tap k k.left proper.left;
-  second_named = named_tap k k.left proper.left;
-}
-operands_of k proper false is = record {
-  few = omega arith;
-  some = omega arith;
-  second = omega arith;
-  near = All-from_recursion (IsTap 2) (k.left ∷ k.right ∷ []) (proper.left, (proper.right, tt));
-  distinct = two_apart k.left k.right (unlike k.left k.right is);
-  first_named = named_tap k k.left proper.left;
-  second_named = named_tap k k.right proper.right;
-}
+  abbrev image_names : List (List ℕ)
+  image_names = map (λ (d : ImageDecl). d.name) s.images
 
-operands : (k : LeastKernel) → IsProper k → HasOperands k (taps_of k.left k.right) (second_tap k.left k.right)
-operands k proper = operands_of k proper (same_tap k.left k.right) refl
+  abbrev names : Names
+  names = names_behind s.images s.taps []
 
-pub head_taps : (k : LeastKernel) → IsProper k → HasTaps (head_of k) 0 (second_tap k.left k.right)
-head_taps k proper =
-    let o = operands k proper in
-    let few = o.few in
-    record {
-      head = record {
-        some_images = omega arith;
-        few_images = omega arith;
-        images = All-from_recursion IsDecl (images_of k) (decl k.first proper.first, (decl k.second proper.second, tt));
-        few_taps = omega arith;
-        taps = o.near;
-        distinct_taps = o.distinct;
-        out_ty = byte_pixels;
-        scratch = omega arith;
+  all_images : all_names (names_of s) ≡ image_names
+  all_images = ap (λ (ds : List Definition). map (λ i. i.name) (map image_name s.images) ++ map (λ d. d.name) (map def_name ds)) none ∙ append-nil _ ∙ same_names s.images
+
+  named : All (λ n. is_name n ≡ true) image_names
+  named = subst (All (λ n. is_name n ≡ true)) all_images kernel.names.named
+
+  apart : AllPairs (λ n m. n ≢ m) (image_names ++ codes "out" ∷ [])
+  apart = push_apart image_names (codes "out") (subst (AllPairs (λ n m. n ≢ m)) all_images kernel.names.distinct_names) (λ i d h. not_out _ (named i d h))
+
+  decls : All IsDecl s.images
+  decls = All-from_recursion IsDecl s.images (decls_of s.images (recursion_from_All _ _ kernel.images) (recursion_from_All _ _ kernel.names.pixels) (recursion_from_All _ _ named))
+
+  count : length (map image_name s.images) ≡ length s.images
+  count = length-map s.images image_name
+
+  same_behind : names_of s ≡ names
+  same_behind = ap (λ (ds : List Definition). record { images = map image_name s.images; taps = s.taps; defs = map def_name ds }) none
+
+  out_of : IsTermOf names s.out_ty s.out
+  out_of = subst (λ n. IsTermOf n s.out_ty s.out) same_behind kernel.out
+
+  nodes : sum (map node_count (terms_of s)) ≡ 0 + node_count s.out
+  nodes = ap (λ (ds : List Definition). sum (map node_count (map (λ d. d.term) ds ++ s.out ∷ []))) none
+
+  few : length s.taps ≤ 64
+  few = kernel.names.few_taps
+
+  head_is : IsHead (head_of s)
+  head_is =
+      let deep = out_of.depth in
+      let many = kernel.nodes in
+      let images = kernel.names.few_images in
+      record {
+        some_images = kernel.some_images;
+        few_images = omega (arith, count, images);
+        images = decls;
+        few_taps = few;
+        taps = λ i d h. near_tap (length s.images) (get_or s.taps i d) (subst (λ n. IsNearTap n (get_or s.taps i d)) count (kernel.names.near i d h));
+        distinct_taps = kernel.names.distinct_taps;
+        out_ty = kernel.out_ty;
+        scratch = omega (arith, few);
         few_lifted = omega arith;
-        lifted = (
-          record {
-            typed = typed 0 (second_tap k.left k.right);
-            ty = stated 0 (second_tap k.left k.right);
-            named = named (names_of (images_of k) (taps_of k.left k.right)) 0 (second_tap k.left k.right) o.first_named o.second_named;
-            depth = omega (arith, depth 0 (second_tap k.left k.right));
-          },
-          tt,
-        );
+        lifted = (record { typed = out_of.formed; ty = out_of.typed; named = out_of.named; depth = omega (arith, deep) }, tt);
         lifted_names = refl;
-        nodes = omega (arith, nodes 0 (second_tap k.left k.right));
-        distinct_names = three_apart k.first k.second (codes "out") proper.different (not_out k.first proper.first) (not_out k.second proper.second);
+        nodes = omega (arith, nodes, many);
+        distinct_names = apart;
         cost = omega arith;
-      };
-      images = All-from_recursion (λ d. d.ty ≡ byte_type) (images_of k) (refl, (refl, tt));
-      out_ty = refl;
+      }
+
+-- the head of a kernel that is the lesser of two taps
+pub head_taps : (k : Meaning) (first second : ℕ) → IsKernelOf k → IsLeastOf k.source first second → HasTaps (head_of k.source) first second
+head_taps k first second kernel least =
+    let named = subst (λ t. is_named (names_behind k.source.images k.source.taps []) t ≡ true) least.out (out_of k kernel least.defs).named in
+    let within = taps_within (names_behind k.source.images k.source.taps []) first second named in
+    record {
+      head = head_is k kernel least.defs;
+      images = least.images;
+      out_ty = least.out_ty;
       scratch = refl;
-      first_tap = o.some;
-      second_tap = o.second;
+      first_tap = within.0;
+      second_tap = within.1;
     }

@@ -1,6 +1,3 @@
-pub mod Readings
-pub mod Offsets
-pub mod LeastLaws
 pub mod Selecting
 pub mod SixWords
 pub mod Courses

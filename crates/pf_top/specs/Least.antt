@@ -24,13 +24,23 @@ use Rattle.pf_rows.specs.RowCode.{scratch_bytes}
 abbrev pub byte_type : LaneType
 byte_type = record { signed = false; bits = Eight }
 
+abbrev pub tap_term : ℕ → Term
+tap_term n = Leaf (Tap n) byte_type
+
 -- the lesser of two taps
 abbrev pub least_term : ℕ → ℕ → Term
-least_term first second = Node Min byte_type 0 (Leaf (Tap first) byte_type ∷ Leaf (Tap second) byte_type ∷ [])
+least_term first second = Node Min byte_type 0 (tap_term first ∷ tap_term second ∷ [])
 
 -- the kernel that has a head's images and taps, and the lesser of two of them as its output
 abbrev pub least_source : Head → ℕ → ℕ → Source
 least_source h first second = record { images = h.images; taps = h.taps; defs = []; out_ty = byte_type; out = least_term first second }
+
+-- what a kernel says is the lesser of two of its taps, numbers `first` and `second`, and all is u8
+pub record IsLeastOf (s : Source) (first second : ℕ) : Type 0 where
+  pub images : All (λ d. d.ty ≡ byte_type) s.images
+  pub defs : s.defs ≡ []
+  pub out_ty : s.out_ty ≡ byte_type
+  pub out : s.out ≡ least_term first second
 
 -- both taps are loaded, and the lesser of each two bytes is stored
 abbrev pub least_block : ℕ → ℕ → List (Item Form)

@@ -3,13 +3,9 @@ use Rattle.std.specs.Prelude.{ℕ, ℤ, List, [], ◌∷◌, codes, decimal, Opt
 use Rattle.std.specs.Fmt.{signed_decimal}
 use Rattle.pf_ints.specs.Targets.{target_word}
 use Rattle.pf_images.specs.Words.{kind_word}
-use Rattle.pf_terms.specs.Limits.{limit_word}
-use Rattle.pf_terms.specs.TermTexts.{type_word}
 use Rattle.pf_isa.specs.TextFaults.{kind_word as text_kind_word}
 use Rattle.pf_top.specs.declared.image_files.ImageRefusal.{ImageRefusal}
 use Rattle.pf_top.specs.declared.image_files.ImageRefusal.TheVariants.{TooLong as ImageTooLong, At as ImageAt}
-use Rattle.pf_top.specs.declared.kernel_file.KernelRefusal.{KernelRefusal}
-use Rattle.pf_top.specs.declared.kernel_file.KernelRefusal.TheVariants.{Syntax, Name, Types, Limit}
 use Rattle.pf_top.specs.declared.run_verdict.NotRun.{NotRun}
 use Rattle.pf_top.specs.declared.run_verdict.NotRun.TheVariants.{Size, Pixel, NoOutput, Outside, Spent}
 use Rattle.pf_top.specs.declared.run_verdict.RunFile.TheVariants.{Image}
@@ -25,13 +21,6 @@ abbrev pub text_due : List ℕ → TextRefusal → Due
 text_due name TooLong = due 10 (line_of (name ∷ codes ":0: limit" ∷ []))
 text_due name (NotBuilt target) = due 8 (line_of (codes "not built: " ∷ target_word target ∷ []))
 text_due name (At at kind) = due 10 (line_of (name ∷ codes ":" ∷ decimal at ∷ codes ": " ∷ text_kind_word kind ∷ []))
-
--- a kernel that is refused: 5, with the line of the fault, or the limit that is passed and the counted number
-abbrev pub kernel_due : List ℕ → KernelRefusal → Due
-kernel_due name (Syntax at column) = due 5 (line_of (name ∷ codes ":" ∷ decimal at ∷ codes ": syntax at column " ∷ decimal column ∷ []))
-kernel_due name (Name at other) = due 5 (line_of (name ∷ codes ":" ∷ decimal at ∷ codes ": name " ∷ other ∷ []))
-kernel_due name (Types at want got) = due 5 (line_of (name ∷ codes ":" ∷ decimal at ∷ codes ": types: want " ∷ type_word want ∷ codes ", got " ∷ type_word got ∷ []))
-kernel_due name (Limit what count) = due 5 (line_of (name ∷ codes ": limit " ∷ limit_word what ∷ codes " is " ∷ signed_decimal count ∷ []))
 
 -- the file of an image that is refused
 abbrev pub image_due : List ℕ → ImageRefusal → Due

@@ -4,15 +4,18 @@ use Rattle.std.specs.List.{concat}
 use Rattle.pf_ints.specs.declared.target.Target.{Target}
 use Rattle.pf_ints.specs.declared.target.Target.TheVariants.{Neon}
 use Rattle.pf_ints.specs.Targets.{target_word}
-use Rattle.pf_top.specs.declared.least.LeastKernel.{LeastKernel}
+use Rattle.pf_kernel.specs.Kernels.{Meaning}
+use Rattle.pf_kernel.specs.Texts.{byte_limit}
 use Rattle.pf_top.specs.declared.verdict.FileWord.{FileWord}
 use Rattle.pf_top.specs.declared.verdict.FileWord.TheVariants.{Kernel, Lift, Lower}
 use Rattle.pf_top.specs.declared.verdict.Verdict.{Verdict}
-use Rattle.pf_top.specs.declared.verdict.Verdict.TheVariants.{Done, TargetNotBuilt, NotBuilt, Missing, ReadFailed, WriteFailed, Memory}
-use Rattle.pf_top.specs.LeastKernels.{IsLeastKernel, line_end}
+use Rattle.pf_top.specs.declared.verdict.Verdict.TheVariants.{Done, TargetNotBuilt, KernelRefused, NotBuilt, Missing, ReadFailed, WriteFailed, Memory}
+use Rattle.pf_top.specs.KernelFiles.{IsKernelFile, RefusesKernel}
+use Rattle.pf_top.specs.Least.{IsLeastOf}
 use Rattle.pf_images.specs.Outside.{Contents, SameContents, Puts, PutsPart}
 use Rattle.pf_top.specs.Courses.{Store, Course, Well, Lacking, Failing, Wanting, Went, Begins}
 use Rattle.pf_top.specs.Selected.{IsSelected}
+use Rattle.pf_top.specs.Statuses.{line_end}
 
 -- the words behind `select`
 pub record Select : Type 0 where
@@ -48,17 +51,30 @@ lower_text = concat (
     ∷ codes "right @min(x, y)" ∷ line_end
     ∷ codes "end" ∷ line_end ∷ [])
 
--- the most bytes of a file: 65,536 of a kernel, 1,048,576 of rules
-unfoldable pub limit : FileWord → ℕ
-limit Kernel = 65536
-limit Lift = 1048576
-limit Lower = 1048576
+-- the most bytes of a file of rules, and of each file
+unfoldable pub rule_limit : ℕ
+rule_limit = 1048576
+
+abbrev pub limit : FileWord → ℕ
+limit Kernel = byte_limit
+limit Lift = rule_limit
+limit Lower = rule_limit
+
+-- a text is selected for this kernel: it is the lesser of two taps
+abbrev pub IsBuilt : Meaning → Type 0
+IsBuilt k = (first second : ℕ) × IsLeastOf k.source first second
 
 -- the bytes of a file that are judged are those up to one past its limit: they have the form that is asked of it
 abbrev pub HasForm : FileWord → List ℕ → Type 0
-HasForm Kernel bytes = (k : LeastKernel) × IsLeastKernel bytes k
+HasForm Kernel bytes = (k : Meaning) × IsKernelFile k bytes × IsBuilt k
 HasForm Lift bytes = bytes ≡ lift_text
 HasForm Lower bytes = bytes ≡ lower_text
+
+-- they are not what is built: a text of another kernel, or other rules
+abbrev pub IsOther : FileWord → List ℕ → Type 0
+IsOther Kernel bytes = (k : Meaning) × IsKernelFile k bytes × (IsBuilt k → ⊥)
+IsOther Lift bytes = bytes ≡ lift_text → ⊥
+IsOther Lower bytes = bytes ≡ lower_text → ⊥
 
 -- the file is there, and Q holds of its judged bytes
 abbrev pub OfJudged : Select → FileWord → (List ℕ → Type 0) → Contents → Type 0
@@ -68,9 +84,9 @@ OfJudged s w Q files = Begins (file_name s w) (limit w + 1) Q files
 abbrev pub Fits : Select → Contents → FileWord → Type 0
 Fits s files w = OfJudged s w (HasForm w) files
 
--- the file is there and does not have its form
+-- the file is there and is not what is built
 abbrev pub Differs : Select → Contents → FileWord → Type 0
-Differs s files w = OfJudged s w (λ bytes. HasForm w bytes → ⊥) files
+Differs s files w = OfJudged s w (IsOther w) files
 
 -- the files that are judged before this one have their forms
 abbrev pub Reaches : Select → Contents → FileWord → Type 0
@@ -80,16 +96,17 @@ Reaches s files Lower = Fits s files Kernel × Fits s files Lift
 
 -- the text is one for the kernel that the kernel file spells, and the rule files have their forms
 pub record Selects (s : Select) (files : Contents) (bytes : List ℕ) : Type 0 where
-  pub kernel : LeastKernel
-  pub spelled : OfJudged s Kernel (λ judged. IsLeastKernel judged kernel) files
+  pub kernel : Meaning
+  pub spelled : OfJudged s Kernel (IsKernelFile kernel) files
   pub lift : Fits s files Lift
   pub lower : Fits s files Lower
-  pub selected : IsSelected kernel bytes
+  pub selected : IsSelected kernel.source bytes
 
 -- what the store held where the call came to this verdict, and what it holds after it
 abbrev pub Leads : Select → Verdict → Contents → Contents → Type 0
 Leads s Done old new = (text : List ℕ) × Selects s old text × Puts s.out text old new
 Leads s TargetNotBuilt old new = SameContents old new
+Leads s (KernelRefused e) old new = OfJudged s Kernel (RefusesKernel e) old × SameContents old new
 Leads s (NotBuilt w) old new = Reaches s old w × Differs s old w × SameContents old new
 Leads s (Missing w) old new = Reaches s old w × (old (file_name s w) ≡ None) × SameContents old new
 Leads s (ReadFailed w) old new = Reaches s old w × SameContents old new
@@ -106,6 +123,7 @@ place Lower = 3
 abbrev pub course : Verdict → Course
 course Done = Well 4
 course TargetNotBuilt = Well 0
+course (KernelRefused e) = Well 1
 course (NotBuilt w) = Well (place w)
 course (Missing w) = Lacking (place w)
 course (ReadFailed w) = Failing (place w)

@@ -1,13 +1,8 @@
 -- The statuses of the program and the lines that it puts.
 use Rattle.std.specs.Prelude.{◌≡◌, ℕ, List, [], ◌∷◌, ◌++◌, codes, Option, Some, None, ◌⊎◌}
-use Rattle.pf_ints.specs.Targets.{target_word}
-use Rattle.pf_top.specs.declared.verdict.Verdict.{Verdict}
-use Rattle.pf_top.specs.declared.verdict.Verdict.TheVariants.{Done, TargetNotBuilt, NotBuilt, Missing, ReadFailed, WriteFailed, Memory}
 use Rattle.pf_images.specs.Counts.{raised, Rose}
-use Rattle.pf_top.specs.LeastKernels.{line_end}
 use Rattle.pf_images.specs.Outside.{Changes, Appends, AppendsPart}
 use Rattle.pf_top.specs.Courses.{RaisedUpTo}
-use Rattle.pf_top.specs.Selections.{Select, file_name}
 
 -- what is due: a status with its line, and the status and the line where memory is wanting for it
 pub record Due : Type 0 where
@@ -15,6 +10,10 @@ pub record Due : Type 0 where
   pub line : List ℕ
   pub poor_status : ℕ
   pub poor_line : List ℕ
+
+-- LF
+abbrev pub line_end : List ℕ
+line_end = 10 ∷ []
 
 unfoldable pub memory_line : List ℕ
 memory_line = codes "out of memory" ++ line_end
@@ -75,13 +74,3 @@ Told d before answer after = Said d before answer after ⊎ OutputFailed d befor
 abbrev pub Tells : Option Due → Output → ℕ → Output → Type 0
 Tells None before answer after = (answer ≡ 0) × (after ≡ before)
 Tells (Some d) before answer after = Told d before answer after
-
--- what is due at each verdict of `select`
-abbrev pub select_due : Select → Verdict → Option Due
-select_due s Done = None
-select_due s TargetNotBuilt = Some (due 8 (line_of (codes "not built: " ∷ target_word s.target ∷ [])))
-select_due s (NotBuilt w) = Some (due 8 (line_of (codes "not built: " ∷ file_name s w ∷ [])))
-select_due s (Missing w) = Some (due 3 (line_of (codes "no file: " ∷ file_name s w ∷ [])))
-select_due s (ReadFailed w) = Some (due 3 (line_of (codes "read failed: " ∷ file_name s w ∷ [])))
-select_due s WriteFailed = Some (write_failed s.out)
-select_due s Memory = Some wanting

@@ -6,20 +6,21 @@ mod eval;
 mod image_files;
 mod judging;
 mod kernel_file;
-mod least;
+mod kernel_report;
 mod least_program;
+mod operands;
 mod report;
 mod run;
 mod run_report;
 mod run_verdict;
 mod run_words;
 mod select;
+mod select_report;
 mod selected;
 mod text_file;
 mod top;
 mod verdict;
 
-pub use least::LeastKernel;
 pub use report::tell_want;
 pub use top::pitchfork;
 

@@ -1,12 +1,9 @@
 ghost use Rattle.std.specs.Prelude.{◌≡◌, [], ◌∷◌, ◌++◌, map, IfOk, OnOk};
 ghost use Rattle.std.specs.Fmt.{signed_decimal};
 ghost use Rattle.pf_images.specs.Counts.{raised};
-ghost use Rattle.pf_top.specs.Statuses.{due, line_of, memory_line, wanting, write_failed, usage, select_due, Told, Tells};
-ghost use Rattle.pf_top.specs.Selections.{file_name};
-ghost use Rattle.pf_top.specs.Steps.{the_words, seen_output, piece_text};
+ghost use Rattle.pf_top.specs.Statuses.{due, line_of, memory_line, wanting, write_failed, usage, Told};
+ghost use Rattle.pf_top.specs.Steps.{seen_output, piece_text};
 
-use crate::command::Selection;
-use crate::verdict::{FileWord, Verdict};
 use itoa::Buffer;
 use pf_images::{FilesFault, Sink};
 use pf_ints::{LaneType, Memory};
@@ -105,17 +102,6 @@ pub fn tell_usage<S: Sink>(alloc: Global, out: &mut S) -> u8
     tell(alloc, out, 2, &[Piece::Word(line)])
 }
 
-/// The name of a file that is read.
-fn file_name<'a>(words: &Selection<'a>, word: FileWord) -> &'a [u8]
-    ensures { result.now ≡ file_name (the_words words.now) word }
-{
-    match word {
-        FileWord::Kernel => words.kernel.as_bytes(),
-        FileWord::Lift => words.lift.as_bytes(),
-        FileWord::Lower => words.lower.as_bytes(),
-    }
-}
-
 /// Puts the line of the words, and answers the status.
 pub fn tell_named<S: Sink>(alloc: Global, out: &mut S, status: u8, head: &[u8], name: &[u8]) -> u8
     ensures { Told (due status (line_of (head.now ∷ name.now ∷ [])))
@@ -123,38 +109,4 @@ pub fn tell_named<S: Sink>(alloc: Global, out: &mut S, status: u8, head: &[u8], 
         (seen_output S.written S.faults S.calls out.new) }
 {
     tell(alloc, out, status, &[Piece::Word(head), Piece::Word(name)])
-}
-
-/// Puts the line of the verdict where it has one, and answers the status.
-pub fn tell_verdict<S: Sink>(
-    alloc: Global,
-    words: &Selection<'_>,
-    verdict: Verdict,
-    out: &mut S,
-) -> u8
-    ensures { Tells (select_due (the_words words.now) verdict)
-        (seen_output S.written S.faults S.calls out.old) result
-        (seen_output S.written S.faults S.calls out.new) }
-{
-    match verdict {
-        Verdict::Done => 0,
-        Verdict::TargetNotBuilt => tell_named(alloc, out, 8, b"not built: ", words.target.word()),
-        Verdict::NotBuilt(word) => tell_named(
-            alloc,
-            out,
-            8,
-            b"not built: ",
-            file_name(words, word),
-        ),
-        Verdict::Missing(word) => tell_named(alloc, out, 3, b"no file: ", file_name(words, word)),
-        Verdict::ReadFailed(word) => tell_named(
-            alloc,
-            out,
-            3,
-            b"read failed: ",
-            file_name(words, word),
-        ),
-        Verdict::WriteFailed => tell_write_failed(alloc, out, words.out.as_bytes()),
-        Verdict::Memory => tell_want(alloc, out),
-    }
 }

@@ -1,13 +1,13 @@
-ghost use Rattle.std.specs.Prelude.{◌≡◌, ◌+◌, IfOk};
-ghost use Rattle.pf_top.specs.declared.verdict.FileWord.TheVariants.{Kernel, Lift, Lower};
-ghost use Rattle.pf_top.specs.LeastKernels.{IsLeastKernel, IsProper};
+ghost use Rattle.std.specs.Prelude.{◌≡◌, ◌+◌};
+ghost use Rattle.pf_top.specs.declared.verdict.FileWord.TheVariants.{Lift, Lower};
 ghost use Rattle.pf_top.specs.Courses.{seen, Judged};
-ghost use Rattle.pf_top.specs.Selections.{limit, lift_text, lower_text, HasForm, Came};
-ghost use Rattle.pf_top.specs.Steps.{the_words, at, verdict_of};
+ghost use Rattle.pf_top.specs.Selections.{lift_text, lower_text, rule_limit, limit, HasForm, IsOther, Came};
+ghost use Rattle.pf_top.specs.Steps.{the_words, unread_at, at, at_kernel, verdict_of};
 
 use crate::command::Selection;
 use crate::judging::{Stop, read_front, write_file};
-use crate::least::{LeastKernel, read_least};
+use crate::kernel_file::{KernelRefusal, read_kernel_file};
+use crate::operands::operands_of;
 use crate::selected::text_of;
 use crate::verdict::{FileWord, Verdict};
 use pf_images::{Files, FilesFault};
@@ -30,38 +30,21 @@ fn lower_text() -> &'static [u8]
     b"rules 1 neon\nrule least\nwidths 8 16 32\nvar x u1\nvar y u1\nleft min(x, y)\nright @min(x, y)\nend\n"
 }
 
-/// How many bytes of a file are judged at most: one more than its limit.
-#[tactic(auto, unfolding(crate::specs::Selections::limit))]
-fn most_judged(word: FileWord) -> u64
-    ensures { result ≡ limit word + 1 }
+/// How many bytes of a rule file are judged at most: one more than its limit.
+#[tactic(auto, unfolding(crate::specs::Selections::rule_limit))]
+fn most_judged() -> u64
+    ensures { result ≡ rule_limit + 1 }
 {
-    match word {
-        FileWord::Kernel => 65_537,
-        FileWord::Lift | FileWord::Lower => 1_048_577,
-    }
-}
-
-/// The kernel of a file.
-fn kernel_of<F: Files>(alloc: Global, files: &mut F, name: &str) -> Result<LeastKernel, Stop<()>>
-    ensures judged { Judged (λ kernel bytes. IsLeastKernel bytes kernel) (λ _ bytes. HasForm Kernel bytes → ⊥)
-        name.now (limit Kernel + 1)
-        (seen F.held F.faults F.calls files.old) result (seen F.held F.faults F.calls files.new) }
-    ensures proper { IfOk result IsProper }
-{
-    let text = read_front(alloc, files, name, most_judged(FileWord::Kernel))?;
-    match read_least(text.as_slice()) {
-        Some(kernel) => Ok(kernel),
-        None => Err(Stop::Refused(())),
-    }
+    1_048_577
 }
 
 /// Judges the file of the lifting rules.
 fn judge_lift<F: Files>(alloc: Global, files: &mut F, name: &str) -> Result<(), Stop<()>>
-    ensures { Judged (λ _ bytes. HasForm Lift bytes) (λ _ bytes. HasForm Lift bytes → ⊥)
+    ensures { Judged (λ _ bytes. HasForm Lift bytes) (λ _ bytes. IsOther Lift bytes)
         name.now (limit Lift + 1)
         (seen F.held F.faults F.calls files.old) result (seen F.held F.faults F.calls files.new) }
 {
-    let text = read_front(alloc, files, name, most_judged(FileWord::Lift))?;
+    let text = read_front(alloc, files, name, most_judged())?;
     if text.as_slice() != lift_text() {
         return Err(Stop::Refused(()));
     }
@@ -70,15 +53,26 @@ fn judge_lift<F: Files>(alloc: Global, files: &mut F, name: &str) -> Result<(), 
 
 /// Judges the file of the lowering rules.
 fn judge_lower<F: Files>(alloc: Global, files: &mut F, name: &str) -> Result<(), Stop<()>>
-    ensures { Judged (λ _ bytes. HasForm Lower bytes) (λ _ bytes. HasForm Lower bytes → ⊥)
+    ensures { Judged (λ _ bytes. HasForm Lower bytes) (λ _ bytes. IsOther Lower bytes)
         name.now (limit Lower + 1)
         (seen F.held F.faults F.calls files.old) result (seen F.held F.faults F.calls files.new) }
 {
-    let text = read_front(alloc, files, name, most_judged(FileWord::Lower))?;
+    let text = read_front(alloc, files, name, most_judged())?;
     if text.as_slice() != lower_text() {
         return Err(Stop::Refused(()));
     }
     Ok(())
+}
+
+/// The verdict where the file of this word was not read.
+fn unread_at(word: FileWord, fault: FilesFault) -> Verdict
+    ensures { result ≡ unread_at word fault }
+{
+    match fault {
+        FilesFault::Missing => Verdict::Missing(word),
+        FilesFault::Failed => Verdict::ReadFailed(word),
+        FilesFault::Memory => Verdict::Memory,
+    }
 }
 
 /// What judging the file of this word came to, for the whole call.
@@ -87,10 +81,19 @@ fn at<A>(word: FileWord, judged: Result<A, Stop<()>>) -> Result<A, Verdict>
 {
     match judged {
         Ok(good) => Ok(good),
-        Err(Stop::Unread(FilesFault::Missing)) => Err(Verdict::Missing(word)),
-        Err(Stop::Unread(FilesFault::Failed)) => Err(Verdict::ReadFailed(word)),
-        Err(Stop::Unread(FilesFault::Memory)) => Err(Verdict::Memory),
+        Err(Stop::Unread(fault)) => Err(unread_at(word, fault)),
         Err(Stop::Refused(())) => Err(Verdict::NotBuilt(word)),
+    }
+}
+
+/// The same of the kernel's file.
+fn at_kernel<A>(judged: Result<A, Stop<KernelRefusal>>) -> Result<A, Verdict>
+    ensures { result ≡ at_kernel judged }
+{
+    match judged {
+        Ok(kernel) => Ok(kernel),
+        Err(Stop::Unread(fault)) => Err(unread_at(FileWord::Kernel, fault)),
+        Err(Stop::Refused(refusal)) => Err(Verdict::KernelRefused(refusal)),
     }
 }
 
@@ -103,10 +106,13 @@ fn run<F: Files>(alloc: Global, words: &Selection<'_>, files: &mut F) -> Result<
     if words.target != Target::Neon {
         return Err(Verdict::TargetNotBuilt);
     }
-    let kernel = at(FileWord::Kernel, kernel_of(alloc, files, words.kernel))?;
+    let kernel = at_kernel(read_kernel_file(alloc, files, words.kernel))?;
+    let Some(operands) = operands_of(&kernel) else {
+        return Err(Verdict::NotBuilt(FileWord::Kernel));
+    };
     at(FileWord::Lift, judge_lift(alloc, files, words.lift))?;
     at(FileWord::Lower, judge_lower(alloc, files, words.lower))?;
-    let text = text_of(alloc, &kernel)?;
+    let text = text_of(alloc, &kernel, operands)?;
     write_file(alloc, files, words.out, text.as_slice())?;
     Ok(())
 }

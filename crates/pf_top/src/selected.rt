@@ -1,92 +1,16 @@
-ghost use Rattle.std.specs.Prelude.{◌≡◌, ◌+◌, ◌*◌, ◌/◌, ◌≤◌, ◌==◌, [], ◌∷◌, codes, IfOk};
+ghost use Rattle.std.specs.Prelude.{◌≡◌, ◌+◌, ◌*◌, ◌/◌, ◌≤◌, [], ◌∷◌, codes, length, IfOk};
 ghost use Rattle.pf_rows.specs.RowCode.{scratch_bytes};
-ghost use Rattle.pf_top.specs.Least.{byte_type, least_term};
-ghost use Rattle.pf_top.specs.LeastKernels.{IsProper};
-ghost use Rattle.pf_top.specs.Selected.{IsSelected, image_decl, images_of, same_tap, taps_of, second_tap, output_of, head_of};
+ghost use Rattle.pf_top.specs.Least.{IsLeastOf};
+ghost use Rattle.pf_top.specs.Selected.{IsSelected, output_of, head_of};
 
-use crate::least::LeastKernel;
 use crate::least_program::least_program;
-use pf_ints::{Bits, LaneType, Memory, Name, Sequence};
+use crate::operands::Operands;
+use pf_ints::{Duplicate, Memory, Name, Sequence};
 use pf_isa::{Head, write_text};
+use pf_kernel::Kernel;
 use pf_neon::Neon;
-use pf_terms::{Definition, Definitions, ImageDecl, ImageList, Leaf, Op, Tap, TapList, Term};
-use sqlite_items::Items;
+use pf_terms::{Definition, Definitions};
 use std::alloc::Global;
-
-/// The type of the pixels of all images so far.
-const BYTE: LaneType = LaneType {
-    signed: false,
-    bits: Bits::Eight,
-};
-
-fn image_decl(name: Name) -> ImageDecl
-    ensures { result ≡ image_decl name }
-{
-    ImageDecl {
-        name,
-        ty: BYTE,
-        lo: 0,
-        hi: 255,
-    }
-}
-
-fn images_of(alloc: Global, kernel: &LeastKernel) -> Result<ImageList, Memory>
-    ensures { IfOk result (λ images. images ≡ images_of kernel.now) }
-{
-    let mut images = Sequence::new(alloc);
-    images.push(image_decl(kernel.first))?;
-    images.push(image_decl(kernel.second))?;
-    Ok(images)
-}
-
-fn is_one_tap(left: Tap, right: Tap) -> bool
-    ensures { result ≡ same_tap left right }
-{
-    left.image == right.image && left.dx == right.dx && left.dy == right.dy
-}
-
-fn second_tap(left: Tap, right: Tap) -> u8
-    ensures { result ≡ second_tap left right }
-{
-    if is_one_tap(left, right) { 0 } else { 1 }
-}
-
-/// The taps, each once, in the order of their first use.
-fn taps_of(alloc: Global, left: Tap, right: Tap) -> Result<TapList, Memory>
-    ensures { IfOk result (λ taps. taps ≡ taps_of left right) }
-{
-    let mut taps = Sequence::new(alloc);
-    taps.push(left)?;
-    if is_one_tap(left, right) {
-        return Ok(taps);
-    }
-    taps.push(right)?;
-    Ok(taps)
-}
-
-fn tap_term(tap: u8) -> Term
-    ensures { result ≡ Term.Leaf (Leaf.Tap tap) byte_type }
-{
-    Term::Leaf {
-        leaf: Leaf::Tap(tap),
-        ty: BYTE,
-    }
-}
-
-/// The lesser of two taps.
-fn least_term(alloc: Global, first: u8, second: u8) -> Result<Term, Memory>
-    ensures { IfOk result (λ term. term ≡ least_term first second) }
-{
-    let mut args = Items::new(alloc);
-    args.push(tap_term(first))?;
-    args.push(tap_term(second))?;
-    Ok(Term::Node {
-        op: Op::Min,
-        ty: BYTE,
-        k: 0,
-        args,
-    })
-}
 
 /// Bytes of scratch for so many taps: a table of their addresses and the output's, in pieces of 16
 /// entries, and two vectors for each of these.
@@ -103,40 +27,41 @@ fn output_name() -> Name
     Name::new(b"out").unwrap()
 }
 
-fn lifted_of(alloc: Global, kernel: &LeastKernel) -> Result<Definitions, Memory>
-    ensures { IfOk result (λ lifted. lifted ≡ output_of kernel.now ∷ []) }
+fn lifted_of(alloc: Global, kernel: &Kernel) -> Result<Definitions, Memory>
+    ensures { IfOk result (λ lifted. lifted ≡ output_of kernel.now.source ∷ []) }
 {
     let mut lifted = Sequence::new(alloc);
     lifted.push(Definition {
         name: output_name(),
-        ty: BYTE,
-        term: least_term(alloc, 0, second_tap(kernel.left, kernel.right))?,
+        ty: kernel.out_ty(),
+        term: kernel.out().copy(alloc)?,
     })?;
     Ok(lifted)
 }
 
-fn head_of(alloc: Global, kernel: &LeastKernel) -> Result<Head, Memory>
-    ensures { IfOk result (λ head. head ≡ head_of kernel.now) }
+fn head_of(alloc: Global, kernel: &Kernel) -> Result<Head, Memory>
+    ensures { IfOk result (λ head. head ≡ head_of kernel.now.source) }
 {
-    let taps = taps_of(alloc, kernel.left, kernel.right)?;
+    let taps = kernel.names().taps.copy(alloc)?;
     let scratch = scratch_of(taps.len() as u32);
     Ok(Head {
-        images: images_of(alloc, kernel)?,
+        images: kernel.images().copy(alloc)?,
         taps,
-        out_ty: BYTE,
+        out_ty: kernel.out_ty(),
         scratch,
         lifted: lifted_of(alloc, kernel)?,
         cost: 1,
     })
 }
 
-/// The text that is selected for the kernel.
-pub fn text_of(alloc: Global, kernel: &LeastKernel) -> Result<Vec<u8>, Memory>
-    requires { IsProper kernel.now }
-    ensures { IfOk result (λ text. IsSelected kernel.now text.items) }
+/// The text that is selected for a kernel that is the lesser of these two taps.
+pub fn text_of(alloc: Global, kernel: &Kernel, operands: Operands) -> Result<Vec<u8>, Memory>
+    requires { IsLeastOf kernel.now.source operands.first operands.second }
+    ensures { IfOk result (λ text. IsSelected kernel.now.source text.items) }
 {
+    let _names = kernel.names();
     let head = head_of(alloc, kernel)?;
-    let program = least_program(alloc, head, 0, second_tap(kernel.left, kernel.right))?;
+    let program = least_program(alloc, head, operands.first, operands.second)?;
     let text = write_text::<Neon>(alloc, &program)?;
     Ok(text)
 }

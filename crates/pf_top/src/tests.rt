@@ -118,6 +118,13 @@ fn judges_each_file_before_the_next(rt: HostRuntime) -> Result<(), Fail> {
         },
         Case {
             kernel: b"kernel m\n",
+            status: 5,
+            put: b"m.kern:2: syntax at column 1\n",
+            calls: 1,
+            ..WELL
+        },
+        Case {
+            kernel: b"kernel m\nimage a u8\nout u8 = max(a[0,0], a[1,0])\n",
             status: 8,
             put: b"not built: m.kern\n",
             calls: 1,
@@ -145,17 +152,59 @@ fn judges_each_file_before_the_next(rt: HostRuntime) -> Result<(), Fail> {
 }
 
 #[test]
-fn takes_pixels_at_printed_offsets(rt: HostRuntime) -> Result<(), Fail> {
-    let case = Case {
-        kernel: b"kernel m\nimage a u8\nimage b u8\nout u8 = min(b[-64,10], a[7,-1])\n",
-        ..WELL
-    };
-    try_case(&rt, case)?;
+fn takes_every_spelling_of_its_kernels(rt: HostRuntime) -> Result<(), Fail> {
+    let kernels: [&[u8]; 4] = [
+        b"kernel m\nimage a u8\nimage b u8\nout u8 = min(b[-64,10], a[7,-1])\n",
+        b"# the lesser\r\nkernel m\r\n\r\nimage a u8 3 200\r\n out u8=min( a[-0,01] ,a[0,0] ) # twice",
+        b"kernel m\nimage a u8\nimage b u8 0 1\nimage c u8\nout u8 = min(c[0,0], a[0,0])\n",
+        b"kernel m\nimage a u8\nout u8 = (min(a[2,2], a[2,2]))\n",
+    ];
+    for kernel in kernels {
+        try_case(&rt, Case { kernel, ..WELL })?;
+    }
+    Ok(())
+}
+
+#[test]
+fn tells_why_a_kernel_is_refused(rt: HostRuntime) -> Result<(), Fail> {
+    let cases: [(&[u8], &[u8]); 4] = [
+        (
+            b"kernel m\nimage a u8\nout u8 = min(a[0,0] a[0,0])\n",
+            b"m.kern:3: syntax at column 21\n",
+        ),
+        (
+            b"kernel m\nimage a u8\nout u8 = min(a[0,0], b[0,0])\n",
+            b"m.kern:3: name b\n",
+        ),
+        (
+            b"kernel m\nimage a u8\nimage b u16\nout u8 = min(a[0,0], b[0,0])\n",
+            b"m.kern:4: types: want u8, got u16\n",
+        ),
+        (
+            b"kernel m\nimage a u8\nout u8 = min(a[0,0], a[0,-65])\n",
+            b"m.kern: limit offset is -65\n",
+        ),
+    ];
+    for (kernel, put) in cases {
+        let case = Case {
+            kernel,
+            status: 5,
+            put,
+            calls: 1,
+            ..WELL
+        };
+        try_case(&rt, case)?;
+    }
+    Ok(())
+}
+
+#[test]
+fn takes_no_other_kernel(rt: HostRuntime) -> Result<(), Fail> {
     let others: [&[u8]; 4] = [
-        b"kernel m\nimage a u8\nimage b u8\nout u8 = min(a[65,0], b[0,0])\n",
-        b"kernel m\nimage a u8\nimage b u8\nout u8 = min(a[0,0], b[0,-65])\n",
-        b"kernel m\nimage a u8\nimage b u8\nout u8 = min(a[-0,0], b[0,0])\n",
-        b"kernel m\nimage a u8\nimage b u8\nout u8 = min(a[0,01], b[0,0])\n",
+        b"kernel m\nimage a u8\nout u8 = a[0,0]\n",
+        b"kernel m\nimage a u8\nimage b u16\nout u8 = min(a[0,0], a[1,0])\n",
+        b"kernel m\nimage a u8\nout u8 = min(a[0,0], 3u8)\n",
+        b"kernel m\nimage a u8\ndef d u8 = a[0,0]\nout u8 = min(a[0,0], a[1,0])\n",
     ];
     for kernel in others {
         let case = Case {

@@ -7,20 +7,23 @@ ghost use Rattle.pf_images.specs.Outside.{Contents};
 ghost use Rattle.pf_top.specs.Completeness.{IsCalm, IsRunnable};
 ghost use Rattle.pf_top.specs.Courses.{seen};
 ghost use Rattle.pf_top.specs.KernelFiles.{kernels};
+ghost use Rattle.pf_top.specs.KernelStatuses.{kernel_due};
 ghost use Rattle.pf_top.specs.Running.{Run, IsRun, RanTo};
-ghost use Rattle.pf_top.specs.RunStatuses.{kernel_due, run_due, text_due};
+ghost use Rattle.pf_top.specs.RunStatuses.{run_due, text_due};
 ghost use Rattle.pf_top.specs.Selections.{Select, IsSelect, Came};
-ghost use Rattle.pf_top.specs.Statuses.{usage, select_due, Told, Tells};
+ghost use Rattle.pf_top.specs.SelectStatuses.{select_due};
+ghost use Rattle.pf_top.specs.Statuses.{usage, Told, Tells};
 ghost use Rattle.pf_top.specs.Steps.{seen_output};
 ghost use Rattle.pf_top.specs.TextFiles.{programs};
 
 use crate::command::selection_of;
 use crate::eval::eval;
-use crate::report::{tell_usage, tell_verdict};
+use crate::report::tell_usage;
 use crate::run::run;
 use crate::run_report::tell_run_verdict;
 use crate::run_words::run_of;
 use crate::select::select;
+use crate::select_report::tell_verdict;
 use pf_images::{Files, Sink};
 use std::alloc::Global;
 

@@ -1,6 +1,7 @@
 ghost use Rattle.std.specs.Prelude.{◌≡◌};
 
 use crate::judging::Unwritten;
+use crate::kernel_file::KernelRefusal;
 use std::alloc::AllocError;
 
 /// A word of `select` that names a file to be read.
@@ -12,13 +13,15 @@ pub enum FileWord {
 }
 
 /// What a call of `select` comes to.
-#[derive(Clone, Copy, Debug, PartialEq, Eq)]
+#[derive(Clone, Copy, Debug)]
 pub enum Verdict {
     /// The text was written.
     Done,
     /// No text is selected for the target.
     TargetNotBuilt,
-    /// The file does not have the form that is built.
+    /// The kernel's file is a text of no kernel.
+    KernelRefused(KernelRefusal),
+    /// The file is not what is built.
     NotBuilt(FileWord),
     /// There is no such file.
     Missing(FileWord),

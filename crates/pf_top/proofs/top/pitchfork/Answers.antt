@@ -3,7 +3,8 @@ use Rattle.pf_top.specs.Steps.{the_words}
 use Rattle.pf_top.specs.RunSteps.{the_run}
 use Rattle.pf_top.specs.Completeness.{IsRunnable}
 use Rattle.pf_top.specs.KernelFiles.{kernels}
-use Rattle.pf_top.specs.RunStatuses.{kernel_due, text_due}
+use Rattle.pf_top.specs.KernelStatuses.{kernel_due}
+use Rattle.pf_top.specs.RunStatuses.{text_due}
 use Rattle.pf_top.specs.TextFiles.{programs}
 use Rattle.pf_top.proofs.Completing.{complete}
 use Rattle.pf_top.proofs.Fits.{kernels_fit, programs_fit}

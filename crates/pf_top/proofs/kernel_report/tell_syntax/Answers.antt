@@ -1,4 +1,4 @@
-use Rattle.pf_top.proofs.run_report.tell_syntax.Goals as goal
+use Rattle.pf_top.proofs.kernel_report.tell_syntax.Goals as goal
 
 pub returns : goal.returns
 returns g c = rw (← c.from.ensures) c.tell.ensures

@@ -1,4 +1,4 @@
-use Rattle.pf_top.proofs.report.tell_verdict.Goals as goal
+use Rattle.pf_top.proofs.select_report.tell_verdict.Goals as goal
 
 pub returns-in-TargetNotBuilt : goal.returns-in-TargetNotBuilt
 returns-in-TargetNotBuilt g c = rw (c.in-TargetNotBuilt.is, ← c.word.ensures) c.tell_named.ensures
