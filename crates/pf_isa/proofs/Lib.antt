@@ -8,6 +8,15 @@ pub mod StepLaws
 pub mod RowLaws
 pub mod TextLaws
 pub mod LineLaws
+pub mod HeadWordLaws
+pub mod NameLaws
+pub mod WordLines
+pub mod HeadStepLaws
+pub mod HeadLineLaws
+pub mod ListLaws
+pub mod HeadChains
+pub mod HeadSaid
+pub mod ReadingLaws
 pub mod TermLaws
 mod WrittenHeads
 pub mod WrittenLaws

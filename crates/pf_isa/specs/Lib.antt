@@ -8,8 +8,10 @@ pub mod Memory
 pub mod Steps
 pub mod Heads
 pub mod Programs
+pub mod HeadWords
 pub mod Texts
 pub mod TextFaults
+pub mod HeadSteps
 pub mod CodeReading
 pub mod Blocks
 pub mod Runs

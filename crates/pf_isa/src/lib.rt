@@ -7,6 +7,7 @@ mod code;
 mod code_line;
 mod control;
 mod fault;
+mod head_words;
 mod isa;
 mod jumps;
 mod lines;
@@ -23,6 +24,7 @@ mod steps;
 mod target_line;
 mod text;
 mod tight;
+mod words;
 mod write;
 
 pub use access::Access;
