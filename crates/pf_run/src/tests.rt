@@ -3,6 +3,7 @@ ghost use Rattle.pf_ints.specs.Images.{IsPixelType};
 use super::*;
 use pf_images::read_pgm;
 use pf_ints::{Bits, ImageSet, LaneType, Name, Sequence};
+use pf_isa::TextKind;
 use pf_kernel::read_kernel;
 use pf_terms::{ImageDecl, Tap};
 use std::alloc::Global;
@@ -148,5 +149,63 @@ fn kernels_are_evaluated(rt: HostRuntime) -> Result<(), Fail> {
         assert_eq!(rt; image.width(), width);
         assert_eq!(rt; image.pixels(), pixels);
     }
+    Ok(())
+}
+
+/// A text that copies its image, in whole vectors.
+const COPY: &[u8] = b".target neon
+.image a u8 0 255
+.tap a 0 0
+.out u8
+.scratch 192
+.lifted out u8 = a[0,0]
+.cost 0
+ldr x5, [x0, #0]
+ldr q0, [x5, #0]
+ldr x5, [x0, #8]
+str q0, [x5, #0]
+ret
+";
+
+/// A text that goes round and round.
+const ROUND: &[u8] = b".target neon
+.image a u8 0 255
+.tap a 0 0
+.out u8
+.scratch 192
+.lifted out u8 = a[0,0]
+.cost 0
+top:
+b top
+";
+
+const SIXTEEN: &[u8] =
+    b"P5 16 1 255 \x00\x01\x02\x03\x04\x05\x06\x07\x08\x09\x0a\x0b\x0c\x0d\x0e\x0f";
+
+const FIFTEEN: &[u8] = b"P5 15 1 255 \x00\x01\x02\x03\x04\x05\x06\x07\x08\x09\x0a\x0b\x0c\x0d\x0e";
+
+#[test]
+fn texts_are_run(rt: HostRuntime) -> Result<(), Fail> {
+    let alloc = rt.alloc();
+    let set = set_of(alloc, &[(SIXTEEN, false)])?;
+    let image = run_images(alloc, COPY, &set).ok().ok_or("an output")?;
+    let numbers: [u16; 16] = [0, 1, 2, 3, 4, 5, 6, 7, 8, 9, 10, 11, 12, 13, 14, 15];
+    assert_eq!(rt; image.pixels(), numbers.as_slice());
+    let spent = run_images(alloc, ROUND, &set).err().ok_or("a fault")?;
+    assert!(rt; spent == RunFault::Spent { steps: 12336 });
+    let narrow = set_of(alloc, &[(FIFTEEN, false)])?;
+    let outside = run_images(alloc, COPY, &narrow).err().ok_or("a fault")?;
+    let (at, address, length) = (2, 81920, 16);
+    assert!(rt;
+        outside
+            == RunFault::Outside {
+                at,
+                address,
+                length
+            }
+    );
+    let empty = run_images(alloc, b"", &set).err().ok_or("a fault")?;
+    let (line, kind) = (1, TextKind::Target);
+    assert!(rt; empty == RunFault::Text { line, kind });
     Ok(())
 }
