@@ -183,17 +183,34 @@ fn tells_the_first_fault(rt: HostRuntime) -> Result<(), Fail> {
 #[test]
 fn tells_where_a_head_is_cut(rt: HostRuntime) -> Result<(), Fail> {
     let alloc = rt.alloc();
-    assert!(rt; target_of(HEAD) == Some(Target::Neon));
-    assert!(rt; target_of(b".target none\n").is_none());
     let mut line = 1;
-    let mut kind = TextKind::Target;
     for (i, byte) in HEAD.iter().enumerate() {
         if *byte == b'\n' && line < 7 {
-            let fault = read_text::<Neon>(alloc, &HEAD[..i]).err();
             line += 1;
-            kind = TextKind::Directive;
-            assert!(rt; fault == Some(TextFault::At { line, kind }), "{line}");
+            let fault = read_text::<Neon>(alloc, &HEAD[..i]).err();
+            let wanted = TextFault::At {
+                line,
+                kind: TextKind::Directive,
+            };
+            assert!(rt; fault == Some(wanted), "{line}");
         }
     }
     Ok(())
+}
+
+#[test]
+fn tells_the_target(rt: HostRuntime) {
+    assert!(rt; target_of(HEAD) == Some(Target::Neon));
+    assert!(rt; target_of(b" .target \thvx") == Some(Target::Hvx));
+    for text in [b"".as_slice(), b"\n", b".target none\n", b".targetneon"] {
+        assert!(rt; target_of(text).is_none());
+    }
+    for text in [b"".as_slice(), b".target avx2\n"] {
+        let fault = read_text::<Neon>(rt.alloc(), text).err();
+        let wanted = TextFault::At {
+            line: 1,
+            kind: TextKind::Target,
+        };
+        assert!(rt; fault == Some(wanted));
+    }
 }
