@@ -1,6 +1,6 @@
 -- The answer to a line with an expression, by the answer to the expression.
-use Rattle.std.proofs.Common.{◌≡◌, refl, sym, ◌∙◌, ap, subst, ℕ, ◌+◌, Bool, true, false, List, [], ◌∷◌, ◌++◌, length}
-use Rattle.std.specs.Prelude.{Option, Some, None, Result, Ok, Err}
+use Rattle.std.proofs.Common.{◌≡◌, refl, sym, ◌∙◌, ap, subst, ℕ, ◌+◌, Bool, true, false, List, ◌∷◌, length}
+use Rattle.std.specs.Prelude.{Option, Some, Result, Ok, Err}
 use Rattle.std.specs.Option.{option_or}
 use Rattle.pf_ints.specs.declared.lane.LaneType.{LaneType}
 use Rattle.pf_terms.specs.declared.draft.Draft.{Draft}
@@ -9,12 +9,11 @@ use Rattle.pf_terms.specs.declared.meaning.ReadFault.TheVariants.{Syntax, Name, 
 use Rattle.pf_terms.specs.declared.names.Names.{Names}
 use Rattle.pf_terms.specs.declared.term.Term.{Term}
 use Rattle.pf_terms.specs.Drafts.{IsDraftText}
-use Rattle.pf_terms.specs.Meanings.{first_some, names_after, term_of, IsTermOr}
-use Rattle.pf_kernel.specs.declared.front.Front.TheVariants.{Def as DefFront, Out as OutFront}
-use Rattle.pf_kernel.specs.declared.reading.Reading.{Reading}
+use Rattle.pf_terms.specs.Meanings.{first_some}
+use Rattle.pf_kernel.specs.declared.front.Front.TheVariants.{Def as DefFront}
 use Rattle.pf_kernel.specs.Expressions.{Judges}
-use Rattle.pf_kernel.specs.Lines.{Begun, names_in, nodes_in, taken, is_taken, if_so, expression_faults, Over, faults, with_said}
-use Rattle.pf_kernel.specs.Readings.{begun_of, AnswersText, IsBegunOr, unless_taken}
+use Rattle.pf_kernel.specs.Lines.{Begun, names_in, nodes_in, taken, is_taken, if_so, expression_faults, Over, faults}
+use Rattle.pf_kernel.specs.Readings.{AnswersText, unless_taken}
 
 -- nothing is told of a name that is free
 pub free_first : (b : Begun) (n : List ℕ) (rest : List (Option ReadFault)) → is_taken (names_in b) n ≡ false → first_some (taken b n ∷ rest) ≡ first_some rest

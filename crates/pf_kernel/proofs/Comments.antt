@@ -1,7 +1,7 @@
 -- A line up to its first comment.
-use Rattle.std.proofs.Common.{◌≡◌, refl, sym, ◌∙◌, ap, ℕ, ◌≤◌, ◌<◌, Bool, true, false, List, length, take, arith, nat_lt}
+use Rattle.std.proofs.Common.{◌≡◌, refl, sym, ◌∙◌, ap, ℕ, ◌≤◌, Bool, true, false, List, length, take, arith, nat_lt}
 use Rattle.std.specs.Prelude.{Option, Some, None, cond}
-use Rattle.std.specs.List.{position, position_or_len, before_first, prefix_len}
+use Rattle.std.specs.List.{position, position_or_len, before_first}
 use Rattle.std.proofs.lemmas.List.{take_all}
 use Rattle.std.proofs.lemmas.Bool.Decides.{nat_tests}
 

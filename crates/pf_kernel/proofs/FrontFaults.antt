@@ -1,6 +1,6 @@
 -- The token that is told of a line's front is the first with which no line begins.
-use Rattle.std.proofs.Common.{◌≡◌, refl, sym, ◌∙◌, ap, subst, ℕ, zero, suc, ◌+◌, ◌≤◌, ◌<◌, Bool, true, false, List, [], ◌∷◌, ◌++◌, length, take, arith, codes}
-use Rattle.std.specs.Prelude.{ℤ, pos, negsuc, Ok, Err, Result, int_le, ◌&&◌, if◌then◌else◌}
+use Rattle.std.proofs.Common.{◌≡◌, refl, ◌∙◌, ap, subst, ℕ, ◌+◌, ◌≤◌, ◌<◌, Bool, true, false, List, [], ◌∷◌, ◌++◌, length, take, arith, codes}
+use Rattle.std.specs.Prelude.{ℤ, Ok, Err, Result, int_le, ◌&&◌, if◌then◌else◌}
 use Rattle.std.proofs.lemmas.Int.{ints}
 use Rattle.pf_ints.specs.declared.lane.LaneType.{LaneType}
 use Rattle.pf_ints.specs.declared.lane.Bits.TheVariants.{Eight}
@@ -10,7 +10,7 @@ use Rattle.pf_terms.specs.declared.token.LineWord.{LineWord}
 use Rattle.pf_terms.specs.declared.token.LineWord.TheVariants.{Kernel, Image, Def, Out}
 use Rattle.pf_terms.specs.Terms.{is_in}
 use Rattle.pf_kernel.specs.declared.front.Front.{Front}
-use Rattle.pf_kernel.specs.Lines.{Begun, may_stand, IsShape, kernel, image, ranged, def, out, Begins, IsFrontFault}
+use Rattle.pf_kernel.specs.Lines.{Begun, may_stand, Begins, IsFrontFault}
 use Rattle.pf_kernel.specs.Fronts.{is_pixel, is_range, front_of, front_by, kernel_front, image_front, range_front, high_front, range_end, def_front, out_front, out_end}
 use Rattle.pf_kernel.proofs.Shapes.{found, shaped}
 

@@ -1,5 +1,5 @@
 -- What may be added by a line's front, and what else the line can say.
-use Rattle.std.proofs.Common.{◌≡◌, refl, sym, ◌∙◌, ap, subst, ℕ, ◌+◌, ◌-◌, ◌≤◌, ◌<◌, ◌^◌, true, List, [], ◌∷◌, length, take, drop, arith, length-drop, Bool, false, inl, inr}
+use Rattle.std.proofs.Common.{◌≡◌, sym, ◌∙◌, ap, subst, ℕ, ◌+◌, ◌-◌, ◌≤◌, ◌<◌, ◌^◌, true, List, [], ◌∷◌, length, take, drop, arith, length-drop, Bool, false, inl, inr}
 use Rattle.std.proofs.lemmas.List.{length-take-le}
 use Rattle.std.specs.Prelude.{Option, Some, None, Result, Ok, Err, ℤ, pos, nat_lt}
 use Rattle.pf_kernel.specs.declared.front.Front.TheVariants.{Kernel as KernelFront, Image as ImageFront, Def as DefFront, Out as OutFront}
@@ -14,14 +14,13 @@ use Rattle.pf_terms.specs.declared.token.Kind.TheVariants.{Name}
 use Rattle.pf_terms.specs.declared.token.Token.{Token}
 use Rattle.pf_terms.specs.Drafts.{IsDraftText, IsSyntaxFault, IsFaultPlace, behind, first}
 use Rattle.pf_terms.specs.Meanings.{first_some}
-use Rattle.pf_terms.specs.Parsing.{kinds, place_of}
-use Rattle.pf_terms.specs.Tokens.{IsLexed, ended, blank, token, IsFront, sign_text, IsRun}
+use Rattle.pf_terms.specs.Parsing.{kinds}
+use Rattle.pf_terms.specs.Tokens.{IsLexed, ended, blank, token, IsFront, IsRun}
 use Rattle.pf_kernel.specs.declared.front.Front.{Front}
 use Rattle.pf_kernel.specs.declared.reading.Reading.{Reading}
-use Rattle.pf_kernel.specs.Lines.{Begun, taken, is_taken, if_so, more_than, names_in, Said, Nothing, Bare, Over, SaysOf, IsShape, kernel, image, ranged, def, out, may_stand, equals_of, end_of, faults, with_said, IsTokensSyntax, expression, whole_range}
+use Rattle.pf_kernel.specs.Lines.{Begun, is_taken, if_so, names_in, Said, Nothing, Bare, Over, SaysOf, IsShape, kernel, image, ranged, def, out, may_stand, equals_of, end_of, faults, with_said, IsTokensSyntax, expression}
 use Rattle.pf_kernel.specs.Fronts.{front_of}
-use Rattle.pf_kernel.specs.Kernels.{IsDecl}
-use Rattle.pf_kernel.specs.Readings.{begun_of, Answers, AnswersText, AnswersTokens, IsBegunOr, IsNearColumn, moved, MayAdd}
+use Rattle.pf_kernel.specs.Readings.{Answers, AnswersText, AnswersTokens, IsBegunOr, IsNearColumn, moved, MayAdd}
 use Rattle.pf_kernel.proofs.LineLaws.{place_fits, end_fits}
 use Rattle.pf_kernel.proofs.Shapes.{found, whole_decl}
 

@@ -1,5 +1,5 @@
 -- The first fault of an expression.
-use Rattle.std.proofs.Common.{◌≡◌, refl, sym, ◌∙◌, ap, subst, ℕ, ◌+◌, ◌-◌, ◌^◌, ◌≤◌, ◌<◌, min, Bool, true, false, not, ◌&&◌, List, [], ◌∷◌, length, map, arith, nat_lt}
+use Rattle.std.proofs.Common.{◌≡◌, refl, sym, ◌∙◌, ap, subst, ℕ, ◌+◌, ◌^◌, ◌≤◌, ◌<◌, Bool, true, false, not, ◌&&◌, List, [], ◌∷◌, length, map, arith, nat_lt}
 use Rattle.std.specs.Prelude.{ℤ, pos, Option, Some, None, Result, Ok, Err, IfOk, OnOk}
 use Rattle.std.specs.Option.{option_or, option_map}
 use Rattle.std.proofs.lemmas.Bool.Decides.{nat_tests}
@@ -29,7 +29,7 @@ use Rattle.pf_terms.specs.Meanings.{first_some, first_unknown, first_far, in_ord
 use Rattle.pf_terms.specs.Operators.{row_of}
 use Rattle.pf_terms.specs.Terms.{typing, stated_type, stated_step, result_type, same_type, same_bits, same_bool, depth_of, node_count}
 use Rattle.pf_terms.proofs.TermRanges.{typing_stated}
-use Rattle.pf_kernel.specs.Expressions.{draft_type, type_step, term_fault, limit_fault, defs_before, Judges, JudgesTerm, Tells, IsFaulty}
+use Rattle.pf_kernel.specs.Expressions.{draft_type, type_step, term_fault, limit_fault, Judges, JudgesTerm, Tells, IsFaulty}
 use Rattle.pf_kernel.specs.Lines.{judged, mistyped, more_than, counted, if_so, expression_faults}
 
 -- ---- the type of a draft is that of its term

@@ -1,9 +1,7 @@
 -- What a line says goes by its tokens.
-use Rattle.std.proofs.Common.{◌≡◌, refl, sym, ◌∙◌, ap, subst, ℕ, zero, suc, ◌+◌, ◌-◌, ◌≤◌, ◌<◌, ◌^◌, true, false, List, [], ◌∷◌, ◌++◌, length, drop, map, arith, length-drop}
-use Rattle.std.specs.Prelude.{Ok, Err, Some, None, Option, Result, MatchOption, slice_get}
+use Rattle.std.proofs.Common.{◌≡◌, refl, sym, ap, subst, ℕ, zero, suc, ◌+◌, ◌-◌, ◌≤◌, ◌<◌, List, [], ◌∷◌, length, drop, arith, length-drop}
+use Rattle.std.specs.Prelude.{Ok, Err, Some, None, Option, MatchOption, slice_get}
 use Rattle.std.proofs.lemmas.List.{length-map}
-use Rattle.pf_terms.specs.declared.draft.Draft.{Draft}
-use Rattle.pf_terms.specs.declared.token.Kind.{Kind}
 use Rattle.pf_terms.specs.declared.token.Token.{Token}
 use Rattle.pf_terms.specs.Parsing.{kinds, place_of, place_by}
 use Rattle.pf_terms.specs.Tokens.{IsLexed, ended, blank, token}

@@ -1,20 +1,17 @@
 -- One more name that isn't taken.
-use Rattle.std.proofs.Common.{◌≡◌, ◌≢◌, refl, sym, ◌∙◌, ap, subst, ℕ, zero, suc, ◌+◌, ◌≤◌, ◌<◌, ◌||◌, Bool, true, false, List, [], ◌∷◌, ◌++◌, length, map, get_or, append_assoc, append-nil, arith, length-append}
+use Rattle.std.proofs.Common.{◌≡◌, ◌≢◌, refl, sym, subst, ℕ, zero, suc, ◌≤◌, ◌<◌, ◌||◌, Bool, true, false, List, [], ◌∷◌, ◌++◌, length, map, get_or, arith}
 use Rattle.std.specs.Prelude.{All}
 use Rattle.std.specs.List.{AllPairs, list_any}
 use Rattle.std.specs.Str.{bytes_eq}
-use Rattle.std.proofs.lemmas.List.{length-map, map-append}
 use Rattle.std.proofs.lemmas.List.Elements.{All-append, All-push}
 use Rattle.std.proofs.lemmas.Slice.Eq.{bytes_eq-Decides}
 use Rattle.std.proofs.lemmas.List.Quantifiers.{all_pairs_push}
 use Rattle.pf_ints.specs.Images.{IsPixelType}
 use Rattle.pf_ints.specs.Words.{is_name}
-use Rattle.pf_terms.specs.declared.names.DefName.{DefName}
-use Rattle.pf_terms.specs.declared.names.ImageName.{ImageName}
 use Rattle.pf_terms.specs.declared.names.Names.{Names}
 use Rattle.pf_terms.specs.declared.names.Tap.{Tap}
 use Rattle.pf_terms.specs.KernelNames.{IsNames, IsNearTap, all_names}
-use Rattle.pf_terms.specs.Meanings.{is_image, is_def}
+use Rattle.pf_terms.specs.Meanings.{is_image}
 use Rattle.pf_kernel.specs.Lines.{is_taken}
 
 or_left : (a b : Bool) → (a || b) ≡ false → a ≡ false

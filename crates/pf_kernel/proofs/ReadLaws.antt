@@ -1,7 +1,7 @@
 -- One line after another.
-use Rattle.std.proofs.Common.{◌≡◌, refl, sym, ◌∙◌, ap, subst, ℕ, ◌+◌, ◌-◌, ◌≤◌, ◌<◌, ◌==◌, Bool, true, false, List, [], ◌∷◌, ◌++◌, length, take, drop, get_or, arith, append_assoc, append-nil, length-append, length-drop, nat_lt}
-use Rattle.std.specs.Prelude.{Option, Some, None, Result, Ok, Err, cond, slice_index, if◌then◌else◌, All, MatchOption, IfErr, pos}
-use Rattle.std.specs.List.{position, position_or_len, prefix_len, slice_split, before_first, after_first}
+use Rattle.std.proofs.Common.{◌≡◌, refl, sym, ◌∙◌, ap, subst, ℕ, ◌+◌, ◌-◌, ◌≤◌, ◌<◌, ◌==◌, Bool, true, false, List, [], ◌∷◌, ◌++◌, length, take, drop, arith, append_assoc, append-nil, length-append, length-drop, nat_lt}
+use Rattle.std.specs.Prelude.{Option, Some, None, Result, Ok, Err, cond, if◌then◌else◌, All, IfErr, pos}
+use Rattle.std.specs.List.{position, position_or_len, slice_split}
 use Rattle.std.specs.Str.Lines.{lines, lines_of_parts, strip_carriage_return}
 use Rattle.std.proofs.lemmas.List.{take_all, drop_all}
 use Rattle.std.proofs.lemmas.List.Sums.{fails_before_first}
@@ -16,10 +16,10 @@ use Rattle.pf_kernel.specs.declared.fault.KernelFault.{KernelFault}
 use Rattle.pf_kernel.specs.declared.fault.KernelFault.TheVariants.{Syntax, Name, Types, Limit, Memory}
 use Rattle.pf_kernel.specs.declared.reading.Reading.{Reading}
 use Rattle.pf_kernel.specs.Kernels.{Meaning}
-use Rattle.pf_kernel.specs.Lines.{Begun, Said, IsRead, IsLineFault, with_said, nothing, AreRead}
+use Rattle.pf_kernel.specs.Lines.{Begun, Said, IsRead, with_said, nothing, AreRead}
 use Rattle.pf_kernel.specs.Readings.{begun_of, IsReading, AnswersLine}
 use Rattle.pf_kernel.specs.Reads.{IsTold, fault, memory, AnswersNext, IsNextOr, IsSoFar, IsAllOr, Finishes}
-use Rattle.pf_kernel.specs.Texts.{IsKernel, IsKernelOr, IsKernelFault, long, line, early, IsRefusal, at_line, all_of, byte_limit}
+use Rattle.pf_kernel.specs.Texts.{IsKernelFault, long, line, early, IsRefusal, at_line, all_of, byte_limit}
 
 -- ---- the first line of a text
 not_below : (n m : ℕ) → nat_lt n m ≡ false → m ≤ n

@@ -1,5 +1,5 @@
 -- The tokens of a line's front are judged as its shape says.
-use Rattle.std.proofs.Common.{◌≡◌, refl, sym, ◌∙◌, ap, subst, ℕ, zero, suc, ◌+◌, ◌≤◌, ◌<◌, Bool, true, false, List, [], ◌∷◌, ◌++◌, length, take, arith, codes}
+use Rattle.std.proofs.Common.{◌≡◌, refl, sym, ◌∙◌, ap, subst, ℕ, ◌≤◌, Bool, true, false, List, [], ◌∷◌, arith}
 use Rattle.std.specs.Prelude.{ℤ, pos, negsuc, Ok, Err, Result, int_le, ◌&&◌, if◌then◌else◌, unsigned_abs, ◌≤ℤ◌}
 use Rattle.std.proofs.lemmas.Int.{ints}
 use Rattle.pf_ints.specs.declared.lane.LaneType.{LaneType}
@@ -13,10 +13,9 @@ use Rattle.pf_terms.specs.declared.token.LineWord.{LineWord}
 use Rattle.pf_terms.specs.declared.token.LineWord.TheVariants.{Kernel, Image, Def, Out}
 use Rattle.pf_terms.specs.Terms.{is_in}
 use Rattle.pf_kernel.specs.declared.front.Front.{Front}
-use Rattle.pf_kernel.specs.declared.front.Front.TheVariants.{Kernel as KernelFront, Image as ImageFront, Def as DefFront, Out as OutFront}
-use Rattle.pf_kernel.specs.Lines.{Begun, may_stand, IsShape, kernel, image, ranged, def, out, Begins, IsFrontFault, whole_range}
+use Rattle.pf_kernel.specs.Lines.{Begun, may_stand, IsShape, kernel, image, ranged, def, out, whole_range}
 use Rattle.pf_kernel.specs.Kernels.{IsDecl}
-use Rattle.pf_kernel.specs.Fronts.{is_pixel, is_pixel_by, is_range, front_of, front_by, kernel_front, image_front, typed_image, range_front, high_front, range_end, def_front, typed_def, def_end, out_front, out_end}
+use Rattle.pf_kernel.specs.Fronts.{is_pixel, is_pixel_by, is_range, front_of, front_by, kernel_front, image_front, range_front, high_front, range_end, def_front, out_front, out_end}
 
 ok_same : {A B : Type 0} {a b : A} → ◌≡◌ {A = Result A B} (Ok a) (Ok b) → a ≡ b
 ok_same h = cc

@@ -1,10 +1,8 @@
 -- What is read stays within the rules with each line.
-use Rattle.std.proofs.Common.{◌≡◌, ◌≢◌, refl, sym, ◌∙◌, ap, subst, ℕ, zero, suc, ◌+◌, ◌≤◌, ◌<◌, Bool, true, false, ◌&&◌, not, List, [], ◌∷◌, ◌++◌, length, map, get_or, sum, append_assoc, append-nil, arith, length-append}
+use Rattle.std.proofs.Common.{◌≡◌, refl, sym, ◌∙◌, ap, subst, ℕ, ◌+◌, ◌≤◌, ◌<◌, Bool, true, false, ◌&&◌, not, List, [], ◌∷◌, ◌++◌, length, map, append-nil, arith, length-append}
 use Rattle.std.specs.Prelude.{All, OnOk, Result, Ok, Err, Option, Some, None, is_some, MatchOption}
-use Rattle.std.specs.List.{AllPairs, flat_map}
 use Rattle.std.proofs.lemmas.List.{length-map, map-append}
 use Rattle.std.proofs.lemmas.List.Elements.{All-push}
-use Rattle.std.proofs.lemmas.Grind.{flat_map-append}
 use Rattle.pf_ints.specs.declared.lane.LaneType.{LaneType}
 use Rattle.pf_ints.specs.Images.{IsPixelType}
 use Rattle.pf_ints.specs.Words.{is_name}
@@ -13,14 +11,13 @@ use Rattle.pf_terms.specs.declared.kernel.ImageDecl.{ImageDecl}
 use Rattle.pf_terms.specs.declared.names.DefName.{DefName}
 use Rattle.pf_terms.specs.declared.names.ImageName.{ImageName}
 use Rattle.pf_terms.specs.declared.names.Names.{Names}
-use Rattle.pf_terms.specs.declared.names.Tap.{Tap}
 use Rattle.pf_terms.specs.declared.term.Term.{Term}
-use Rattle.pf_terms.specs.declared.token.LineWord.TheVariants.{Kernel, Image, Def, Out}
-use Rattle.pf_terms.specs.KernelNames.{IsNames, all_names}
-use Rattle.pf_kernel.specs.Kernels.{image_name, def_name, names_behind, IsDecl, IsTermOf, AreDefinitions, AreInTurn, taps_in}
+use Rattle.pf_terms.specs.declared.token.LineWord.TheVariants.{Image}
+use Rattle.pf_terms.specs.KernelNames.{all_names}
+use Rattle.pf_kernel.specs.Kernels.{image_name, def_name, names_behind, IsDecl, IsTermOf, AreDefinitions}
 use Rattle.pf_kernel.specs.Lines.{Begun, names_in, may_stand, is_taken, is_empty}
 use Rattle.pf_kernel.specs.declared.reading.Reading.{Reading}
-use Rattle.pf_kernel.specs.Readings.{IsGood, IsReading, begun_of, out_terms}
+use Rattle.pf_kernel.specs.Readings.{IsGood, IsReading, begun_of}
 use Rattle.pf_kernel.proofs.Naming.{named_more}
 
 and_left : (a b : Bool) → (a && b) ≡ true → a ≡ true

@@ -1,6 +1,6 @@
 -- The taps of a term that is read come in turn.
-use Rattle.std.proofs.Common.{◌≡◌, refl, sym, ◌∙◌, ap, subst, ℕ, zero, suc, ◌+◌, ◌≤◌, ◌<◌, ◌||◌, ◌&&◌, ◌==◌, Bool, true, false, List, [], ◌∷◌, ◌++◌, length, map, get_or, append_assoc, append-nil, arith, length-append, eqb-true}
-use Rattle.std.specs.Prelude.{ℤ, pos, max, int_le, Option, if◌then◌else◌, cond, not}
+use Rattle.std.proofs.Common.{◌≡◌, refl, sym, ◌∙◌, ap, subst, ℕ, zero, suc, ◌+◌, ◌<◌, ◌||◌, ◌&&◌, ◌==◌, Bool, true, false, List, [], ◌∷◌, ◌++◌, length, map, get_or, append_assoc, append-nil, arith, length-append}
+use Rattle.std.specs.Prelude.{ℤ, max, int_le, if◌then◌else◌, cond, not}
 use Rattle.std.specs.List.{concat, flat_map, list_any, position_or_len}
 use Rattle.std.proofs.lemmas.Int.{ints}
 use Rattle.std.proofs.lemmas.Bool.Decides.{nat_tests}
@@ -9,7 +9,6 @@ use Rattle.pf_terms.specs.declared.draft.Draft.{Draft, roll-Draft, map-Draft}
 use Rattle.pf_terms.specs.declared.draft.Draft.TheOpen.{Draft-F}
 use Rattle.pf_terms.specs.declared.draft.Draft.TheOpen.Draft-F.{Number, Named, Placed, Node}
 use Rattle.pf_terms.specs.declared.draft.Draft.TheFolds.{fold-roll-Draft, ind-Draft}
-use Rattle.pf_terms.specs.declared.names.ImageName.{ImageName}
 use Rattle.pf_terms.specs.declared.names.Names.{Names}
 use Rattle.pf_terms.specs.declared.names.Tap.{Tap}
 use Rattle.pf_terms.specs.declared.op.Op.{Op}
@@ -20,7 +19,7 @@ use Rattle.pf_terms.specs.declared.term.Term.TheFolds.{fold-roll-Term}
 use Rattle.pf_terms.specs.declared.term.Leaf.{Leaf as LeafOf}
 use Rattle.pf_terms.specs.declared.term.Leaf.TheVariants.{Tap as TapLeaf, Const, Def}
 use Rattle.pf_terms.specs.Operators.{int_same}
-use Rattle.pf_terms.specs.Meanings.{in_order, same_tap, with_tap, with_taps, tap_number, tap_at, def_number, tap_uses, uses_step, term_of, term_step, node_over, names_after}
+use Rattle.pf_terms.specs.Meanings.{in_order, same_tap, with_tap, with_taps, tap_number, tap_at, def_number, tap_uses, uses_step, term_of, term_step, names_after}
 use Rattle.pf_kernel.specs.Kernels.{taps_step, taps_in, AreInTurn}
 
 -- ---- one list of numbers after another

@@ -1,5 +1,5 @@
 -- The answer to an expression of a line.
-use Rattle.std.specs.Prelude.{◌≡◌, ℕ, ℤ, ◌+◌, ◌≤◌, List, Option, Some, None, Result, Ok, Err}
+use Rattle.std.specs.Prelude.{◌≡◌, ℕ, ℤ, ◌+◌, List, Option, Some, None, Result, Ok, Err}
 use Rattle.pf_ints.specs.declared.lane.LaneType.{LaneType}
 use Rattle.pf_terms.specs.declared.draft.Draft.{Draft}
 use Rattle.pf_terms.specs.declared.draft.Draft.TheOpen.{Draft-F}
@@ -17,7 +17,7 @@ use Rattle.pf_terms.specs.Terms.{result_type}
 use Rattle.pf_terms.specs.TermTexts.{no_image, no_def}
 use Rattle.std.specs.Prelude.{slice_index_or}
 use Rattle.pf_kernel.specs.Lines.{expression_faults, mistyped, more_than, counted}
-use Rattle.pf_terms.specs.declared.limit.LimitKind.TheVariants.{Bytes, Amount as AmountLimit, Images, Taps, Definitions, Offset, Depth, Nodes}
+use Rattle.pf_terms.specs.declared.limit.LimitKind.TheVariants.{Definitions, Offset, Depth, Nodes}
 use Rattle.std.specs.Option.{option_or}
 
 abbrev pub type_step : Names → Draft-F LaneType → LaneType

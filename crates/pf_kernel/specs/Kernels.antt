@@ -1,5 +1,5 @@
 -- What holds of every kernel.
-use Rattle.std.specs.Prelude.{◌≡◌, ℕ, pos, ◌+◌, ◌≤◌, ◌≤ℤ◌, max, List, [], ◌∷◌, ◌++◌, length, map, sum, All, true}
+use Rattle.std.specs.Prelude.{◌≡◌, ℕ, pos, ◌+◌, ◌≤◌, max, List, [], ◌∷◌, ◌++◌, length, map, sum, All, true}
 use Rattle.std.specs.List.{concat, flat_map}
 use Rattle.pf_ints.specs.declared.lane.LaneType.{LaneType}
 use Rattle.pf_ints.specs.Images.{IsPixelType}

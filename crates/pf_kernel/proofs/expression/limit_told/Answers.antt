@@ -1,5 +1,4 @@
-use Rattle.std.proofs.Common.{◌≡◌, sym, ◌∙◌, ap, to_z-of_z}
-use Rattle.pf_kernel.specs.Expressions.{limit_fault}
+use Rattle.std.proofs.Common.{to_z-of_z}
 use Rattle.pf_kernel.proofs.Judging.{limit_tells}
 use Rattle.pf_kernel.proofs.expression.limit_told.Goals as goal
 

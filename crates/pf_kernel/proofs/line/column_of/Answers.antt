@@ -1,4 +1,4 @@
-use Rattle.std.proofs.Common.{◌≤◌, ◌+◌, ◌<◌, ◌^◌, length, arith}
+use Rattle.std.proofs.Common.{◌≤◌, length, arith}
 use Rattle.pf_kernel.proofs.LineLaws.{place_fits}
 use Rattle.pf_kernel.proofs.line.column_of.Goals as goal
 

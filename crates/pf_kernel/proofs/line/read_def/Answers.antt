@@ -1,4 +1,4 @@
-use Rattle.std.proofs.Common.{◌≡◌, sym, ◌∙◌, ap, subst, ℕ, ◌+◌, ◌-◌, ◌^◌, ◌≤◌, min, sum, map, false, List, length, IfOk, OnOk, Result, arith}
+use Rattle.std.proofs.Common.{◌≡◌, sym, ◌∙◌, ap, subst, ◌+◌, ◌-◌, ◌^◌, ◌≤◌, min, sum, map, false, List, length, IfOk, OnOk, Result, arith}
 use Rattle.pf_terms.specs.declared.kernel.Definition.{Definition}
 use Rattle.pf_terms.specs.declared.meaning.ReadFault.{ReadFault}
 use Rattle.pf_terms.specs.declared.names.Names.{Names}

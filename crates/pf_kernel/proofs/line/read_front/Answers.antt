@@ -1,10 +1,10 @@
-use Rattle.std.proofs.Common.{◌≡◌, refl, sym, ◌∙◌, ap, subst, ◌<◌, ◌+◌, ◌^◌, Result}
+use Rattle.std.proofs.Common.{◌≡◌, refl, sym, ◌∙◌, ap, subst, Result}
 use Rattle.pf_terms.specs.declared.meaning.ReadFault.{ReadFault}
 use Rattle.pf_terms.specs.Parsing.{kinds}
 use Rattle.pf_kernel.specs.declared.front.Front.{Front}
 use Rattle.pf_kernel.specs.declared.front.Front.TheVariants.{Kernel as KernelFront, Image as ImageFront, Def as DefFront, Out as OutFront}
 use Rattle.pf_kernel.specs.declared.reading.Reading.{Reading}
-use Rattle.pf_kernel.specs.Lines.{Said, Bare, IsShape, end_of, with_said}
+use Rattle.pf_kernel.specs.Lines.{Said, Bare, IsShape, with_said}
 use Rattle.pf_kernel.specs.Readings.{begun_of, AnswersTokens, IsBegunOr, IsNearColumn, moved}
 use Rattle.pf_kernel.proofs.FrontLaws.{only_bare, bare_found, bare_only, near_column, moved_found, moved_only}
 use Rattle.pf_kernel.proofs.line.read_front.Goals as goal

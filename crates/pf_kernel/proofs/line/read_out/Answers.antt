@@ -1,7 +1,6 @@
-use Rattle.std.proofs.Common.{◌≡◌, refl, sym, ◌∙◌, ap, subst, ℕ, ◌+◌, ◌-◌, ◌^◌, ◌≤◌, min, sum, map, List, length, Result, arith}
+use Rattle.std.proofs.Common.{◌≡◌, refl, ◌∙◌, ap, subst, ◌-◌, ◌^◌, min, sum, map, List}
 use Rattle.pf_terms.specs.declared.kernel.Definition.{Definition}
 use Rattle.pf_terms.specs.declared.names.Names.{Names}
-use Rattle.pf_terms.specs.declared.term.Term.{Term}
 use Rattle.pf_terms.specs.Meanings.{names_after, term_of}
 use Rattle.pf_terms.specs.Terms.{node_count}
 use Rattle.pf_kernel.specs.Lines.{names_in, nodes_in}

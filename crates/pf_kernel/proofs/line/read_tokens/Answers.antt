@@ -1,4 +1,3 @@
-use Rattle.std.proofs.Common.{arith}
 use Rattle.pf_kernel.proofs.LineLaws.{empty_says, stuck_says, front_syntax, front_shape}
 use Rattle.pf_kernel.specs.Readings.{begun_of}
 use Rattle.pf_kernel.proofs.FrontLaws.{shape_may}

@@ -1,4 +1,4 @@
-use Rattle.std.proofs.Common.{◌≡◌, drop, sym, ◌∙◌, ap, ◌+◌, ℕ, List, ◌∷◌, length}
+use Rattle.std.proofs.Common.{drop, sym, ◌∙◌, ap, ◌+◌, ℕ, List, ◌∷◌, length}
 use Rattle.std.specs.Str.Lines.{lines}
 use Rattle.pf_kernel.proofs.ReadLaws.{first_ended, last_line, rest_is}
 use Rattle.pf_kernel.proofs.read.first_line.Goals as goal

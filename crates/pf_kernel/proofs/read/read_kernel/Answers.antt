@@ -1,4 +1,4 @@
-use Rattle.std.proofs.Common.{◌≡◌, ◌≤◌, ◌<◌, length, arith}
+use Rattle.std.proofs.Common.{arith}
 use Rattle.pf_kernel.specs.Readings.{begun_of}
 use Rattle.pf_kernel.proofs.ReadLaws.{too_long_told, finish_told, within_limit}
 use Rattle.pf_kernel.proofs.read.read_kernel.Goals as goal

@@ -1,4 +1,4 @@
-use Rattle.std.proofs.Common.{◌≡◌, ◌+◌, ◌≤◌, length, arith}
+use Rattle.std.proofs.Common.{◌+◌, ◌≤◌, length, arith}
 use Rattle.pf_kernel.proofs.ReadLaws.{few_bytes, so_far_more, next_told}
 use Rattle.pf_kernel.proofs.read.read_lines.Goals as goal
 

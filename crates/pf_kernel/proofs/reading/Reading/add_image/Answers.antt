@@ -1,4 +1,3 @@
-use Rattle.std.proofs.Common.{arith}
 use Rattle.pf_kernel.proofs.Steps.{image_added, on_ok}
 use Rattle.pf_kernel.proofs.reading.Reading.add_image.Goals as goal
 
