@@ -127,11 +127,6 @@ fn refuses_what_is_no_kernel(rt: HostRuntime) -> Result<(), Fail> {
             put: b"k.kern: limit offset is 65\n",
             ..mixed
         },
-        Case {
-            kernel: &[b'#'; 65538],
-            put: b"k.kern: limit bytes is 65537\n",
-            ..mixed
-        },
     ];
     for case in cases {
         try_case(&rt, case)?;
@@ -158,5 +153,21 @@ fn tells_each_call_of_an_evaluation_that_failed(rt: HostRuntime) -> Result<(), F
             },
         )?;
     }
+    Ok(())
+}
+
+#[test]
+fn refuses_a_long_kernel(rt: HostRuntime) -> Result<(), Fail> {
+    let alloc = rt.alloc();
+    let mut files = MemFiles::new(alloc);
+    let long = vec![in alloc; b'#'; 65_538]?;
+    hold(alloc, &mut files, "k.kern", long.as_slice())?;
+    let mut out = MemSink::new(alloc);
+    let words = texts(alloc, ONE)?;
+    assert_eq!(rt; pitchfork(alloc, &words, &mut files, &mut out), 5);
+    assert_eq!(rt;
+        out.written.as_slice(),
+        b"k.kern: limit bytes is 65537\n".as_slice()
+    );
     Ok(())
 }
