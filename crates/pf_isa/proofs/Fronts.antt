@@ -31,3 +31,11 @@ next_fits i n h l =
     let some : 1 ≤ 10 = omega arith in
     let power : 10 ^ i ≤ 10 ^ 18 = pow-le-pow_right some few in
     omega arith
+
+-- the same of 128 bits, for one digit more than fit 64
+pub more_fits : (i n : ℕ) → n < 10 ^ i → i < 20 → 10 * n + 9 < 2 ^ 128
+more_fits i n h l =
+    let few : i ≤ 19 = omega arith in
+    let some : 1 ≤ 10 = omega arith in
+    let power : 10 ^ i ≤ 10 ^ 19 = pow-le-pow_right some few in
+    omega arith

@@ -8,8 +8,23 @@ pub mod StepLaws
 pub mod RowLaws
 pub mod TextLaws
 pub mod LineLaws
+pub mod HeadWordLaws
+pub mod NameLaws
+pub mod WordLines
+pub mod HeadStepLaws
+pub mod HeadLineLaws
+pub mod ListLaws
+pub mod HeadChains
+pub mod HeadSaid
+pub mod ReadingLaws
 pub mod TermLaws
 mod WrittenHeads
 pub mod WrittenLaws
 pub mod MachineLaws
 pub mod RunLaws
+pub mod PlaceLaws
+pub mod CodeLineLaws
+pub mod CodeLaws
+pub mod CodeTexts
+pub mod CodeOnce
+pub mod JoinLaws

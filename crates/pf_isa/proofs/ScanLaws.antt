@@ -26,6 +26,9 @@ own = numerals_by_fold _ (search rules) number_on (search rules)
 pub digits-decimal : (n : ℕ) → n < 2 ^ 64 → all_ascii_digits (decimal n) ≡ true
 digits-decimal n h = digits_decimal own n h
 
+pub number_on-decimal : (n : ℕ) → n < 2 ^ 64 → number_on 0 (decimal n) ≡ n
+number_on-decimal n h = digits_value-decimal own n h
+
 leading-append : (ds t : List ℕ) → all_ascii_digits ds ≡ true → NoDigit t → (leading_digits (ds ++ t) ≡ ds) × (behind_digits (ds ++ t) ≡ t)
 leading-append [] [] a h = (refl, refl)
 leading-append [] (c ∷ t) a h = rw h (refl, refl)

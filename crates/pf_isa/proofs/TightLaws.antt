@@ -28,7 +28,7 @@ tight_on-solid (c ∷ xs) t s =
 solid_digit : (c : ℕ) → is_digit c ≡ true → (is_blank c ≡ false) × ((c == 44) ≡ false)
 solid_digit c d = (grind (arith, nat_tests), grind (arith, nat_tests))
 
-solid_digits : (ds : List ℕ) → all_ascii_digits ds ≡ true → IsSolid ds
+pub solid_digits : (ds : List ℕ) → all_ascii_digits ds ≡ true → IsSolid ds
 solid_digits [] a = tt
 solid_digits (d ∷ ds) a =
     let parts : (is_digit d ≡ true) × (all_ascii_digits ds ≡ true) = and_parts (is_digit d) (all_ascii_digits ds) a in
@@ -45,7 +45,7 @@ solid_name (c ∷ cs) a =
     let first = solid_name_byte c parts.0 in
     (first.0, first.1, solid_name cs parts.1)
 
-front_kept : (free : Bool) (xs t : List ℕ) → IsSolid xs → 1 ≤ length xs → tight_on free (xs ++ t) ≡ xs ++ tight_on false t
+pub front_kept : (free : Bool) (xs t : List ℕ) → IsSolid xs → 1 ≤ length xs → tight_on free (xs ++ t) ≡ xs ++ tight_on false t
 front_kept free [] t s some = absurd (omega arith)
 front_kept free (c ∷ xs) t s some =
     let blank : is_blank c ≡ false = s.0 in

@@ -8,11 +8,15 @@ pub mod Memory
 pub mod Steps
 pub mod Heads
 pub mod Programs
+pub mod HeadWords
 pub mod Texts
 pub mod TextFaults
+pub mod HeadSteps
+pub mod CodeReading
 pub mod Blocks
 pub mod Runs
 pub mod RowEnds
 pub mod Moved
 pub mod Spans
 pub mod Machines
+pub mod Places

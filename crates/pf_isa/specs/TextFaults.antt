@@ -62,6 +62,10 @@ names_in h = map (λ d. d.name) h.images ++ map (λ d. d.name) h.lifted
 abbrev pub names_so_far : Head → Names
 names_so_far h = record { images = map image_name h.images; taps = h.taps; defs = map def_name h.lifted }
 
+-- how many nodes the lifted terms so far have
+abbrev pub nodes_so_far : Head → ℕ
+nodes_so_far h = sum (map (λ d. node_count d.term) h.lifted)
+
 abbrev pub with_image : Head → ImageDecl → Head
 with_image h d = record h { images = h.images ++ d ∷ [] }
 
@@ -89,7 +93,7 @@ pub record IsNextLifted (h : Head) (d : Definition) : Type 0 where
   pub lifted : IsLifted (names_so_far h) d
   pub name : (d.name ≡ codes "out") ⊎ (IsTrue (is_name d.name) × (length h.lifted < 64))
   pub new : Contains (names_in h) d.name → ⊥
-  pub nodes : sum (map (λ e. node_count e.term) h.lifted) + node_count d.term ≤ 1536
+  pub nodes : nodes_so_far h + node_count d.term ≤ 1536
 
 -- the term of the output is the last one
 abbrev pub stage_behind : List ℕ → Stage

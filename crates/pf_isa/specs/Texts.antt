@@ -12,7 +12,7 @@ use Rattle.pf_terms.specs.declared.kernel.ImageDecl.{ImageDecl}
 use Rattle.pf_terms.specs.declared.names.Names.{Names}
 use Rattle.pf_terms.specs.declared.names.Tap.{Tap}
 use Rattle.pf_terms.specs.declared.names.ImageName.{ImageName}
-use Rattle.pf_terms.specs.declared.term.Term.{Term}
+use Rattle.pf_terms.specs.Meanings.{IsTermText}
 use Rattle.pf_terms.specs.TermTexts.{type_word, term_text, no_image}
 use Rattle.std.specs.Prelude.{slice_index_or}
 use Rattle.pf_isa.specs.declared.program.Head.{Head}
@@ -76,10 +76,6 @@ head_lines target h =
 
 -- ---- the head's lines, as they are read
 
--- the text is one of the term
-abbrev pub IsTermOf : Names → List ℕ → Term → Type 0
-IsTermOf names text t = text ≡ codes " " ++ term_text names t
-
 -- the line says a lifted term: up to its first `=` it is the printed one, up to blanks, and then it is any text of the term
 pub record IsLiftedLine (names : Names) (line : List ℕ) (d : Definition) : Type 0 where
   pub front : List ℕ
@@ -87,7 +83,7 @@ pub record IsLiftedLine (names : Names) (line : List ℕ) (d : Definition) : Typ
   pub parts : line ≡ front ++ 61 ∷ term
   pub first : All (λ c. c ≢ 61) front
   pub printed : IsLine (front ++ 61 ∷ []) (lifted_front d)
-  pub means : IsTermOf names term d.term
+  pub means : IsTermText names term d.term names
 
 abbrev pub AreLiftedLines : Names → List (List ℕ) → List Definition → Type 0
 AreLiftedLines names [] [] = Unit {0}

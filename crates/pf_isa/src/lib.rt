@@ -4,9 +4,12 @@
 mod access;
 mod block;
 mod code;
+mod code_line;
 mod control;
 mod fault;
+mod head_words;
 mod isa;
+mod jumps;
 mod lines;
 mod machine;
 mod memory;
@@ -21,6 +24,7 @@ mod steps;
 mod target_line;
 mod text;
 mod tight;
+mod words;
 mod write;
 
 pub use access::Access;

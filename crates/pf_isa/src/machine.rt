@@ -1,14 +1,16 @@
-ghost use Rattle.std.specs.Prelude.{◌≡◌, ◌+◌, ◌*◌, ◌<◌, ◌≤◌, ◌^◌, [], length, map, replicate, false, IfOk, IfSome, position, slice_get, slice_index_or, All};
-ghost use Rattle.std.specs.Option.{option_copied};
+ghost use Rattle.std.specs.Prelude.{◌≡◌, List, ◌∷◌, ◌++◌, OnOk, ◌+◌, ◌*◌, ◌<◌, ◌≤◌, ◌^◌, [], length, map, replicate, false, IfOk, IfSome, position, slice_get, slice_index_or, All};
+ghost use Rattle.std.specs.Option.{option_copied, unwrap_or};
 ghost use Rattle.pf_isa.specs.Bytes.{packed};
 ghost use Rattle.pf_isa.specs.Tables.{IsFile};
 ghost use Rattle.pf_isa.specs.Memory.{nowhere};
-ghost use Rattle.pf_isa.specs.Steps.{place_of, step, run, started};
+ghost use Rattle.pf_isa.specs.Places.{found, Finds};
+ghost use Rattle.pf_isa.specs.Steps.{step, run, started};
+ghost use Rattle.pf_isa.specs.declared.code.Label.{Label};
 ghost use Rattle.pf_isa.specs.Machines.{Answers, Ends, IsMemory, HasTable, is_table, with_entries, destination_of};
 
 use crate::code::{Label, Line};
-use crate::control::Control;
 use crate::isa::Isa;
+use crate::jumps::jump_label;
 use crate::memory::{Region, RegionList};
 use crate::memory_access::bytes_of;
 use crate::program::Program;
@@ -16,6 +18,7 @@ use crate::registers::RegFile;
 use crate::steps::{Core, Trap, run_line};
 use pf_ints::{ByteList, Memory, Name, Sequence};
 use std::alloc::Global;
+use std::collections::HashMap;
 use std::marker::Model;
 
 /// A program and the state of the machine that runs it.
@@ -30,7 +33,7 @@ pub struct Machine<I: Isa> {
 }
 
 impl<I: Isa> Model for Machine<I> {
-    ghost use Rattle.std.specs.Prelude.{◌≡◌, replicate};
+    ghost use Rattle.std.specs.Prelude.{◌≡◌, List, replicate};
     ghost use Rattle.pf_isa.specs.Machines.{Running, IsMachine, state_of};
     ghost use Rattle.pf_terms.specs.contracts.term.Term as term;
     ghost use Rattle.std.specs.Coded.{codes};
@@ -137,27 +140,44 @@ impl<I: Isa> Machine<I> {
     }
 }
 
-fn place_of(labels: &[Label], name: Name, end: u64) -> u64
-    ensures { result ≡ place_of labels.now end name }
+/// The number of instructions before each label, by its name.
+type Places<'a> = HashMap<&'a [u8], u64>;
+
+/// Adds where the label stands, unless a label of its name is there.
+fn add_place<'a>(places: &mut Places<'a>, label: &'a Label) -> Result<(), Memory>
+    ensures { OnOk result ((labels : List Label) → Finds places.old labels → Finds places.new (labels ++ label.now ∷ [])) }
 {
-    for label in labels {
-        if label.name.as_slice() == name.as_slice() {
-            return label.before;
-        }
+    let name = label.name.as_slice();
+    if places.contains_key(name) {
+        return Ok(());
     }
-    end
+    places.insert(name, label.before)?;
+    Ok(())
 }
 
-fn destination<I: Isa>(labels: &[Label], end: u64, line: &Line<I>) -> u64
-    ensures { result ≡ destination_of labels.now end line.now }
+/// Where the labels stand. Of labels with one name the first counts.
+fn places_of<'a>(alloc: Global, labels: &'a [Label]) -> Result<Places<'a>, Memory>
+    ensures { IfOk result (λ places. Finds places labels.now) }
 {
-    match line {
-        Line::Vector(_) => end,
-        Line::Control(c) => match c.control() {
-            Control::Below { label } => place_of(labels, label, end),
-            Control::Jump { label } => place_of(labels, label, end),
-            _ => end,
-        },
+    let mut places = HashMap::new(alloc);
+    for label in labels {
+        add_place(&mut places, label)?;
+    }
+    Ok(places)
+}
+
+fn place_of(places: &Places<'_>, name: Name, end: u64) -> u64
+    ensures { result ≡ unwrap_or (found places.now name) end }
+{
+    places.get(name.as_slice()).copied().unwrap_or(end)
+}
+
+fn destination<I: Isa>(places: &Places<'_>, end: u64, line: &Line<I>) -> u64
+    ensures { (labels : List Label) → Finds places.now labels → result ≡ destination_of labels end line.now }
+{
+    match jump_label(line) {
+        None => end,
+        Some(label) => place_of(places, label, end),
     }
 }
 
@@ -168,11 +188,12 @@ fn destinations<I: Isa>(
 ) -> Result<Vec<u64>, Memory>
     ensures { IfOk result (λ places. places.items ≡ map (destination_of labels.now (length code.now)) code.now) }
 {
-    let mut places = Vec::new(alloc);
+    let places = places_of(alloc, labels)?;
+    let mut destinations = Vec::new(alloc);
     for line in code {
-        places.push(destination(labels, code.len() as u64, line))?;
+        destinations.push(destination(&places, code.len() as u64, line))?;
     }
-    Ok(places)
+    Ok(destinations)
 }
 
 fn zero_vectors(alloc: Global, count: u32, size: u32) -> Result<Sequence<ByteList>, Memory>

@@ -1,3 +1,29 @@
+ghost use Rattle.std.specs.Prelude.{◌≡◌, ◌≢◌, ◌<◌, ◌≤◌, ◌+◌, ◌↔◌, [], ◌∷◌, length, map, true, IsTrue, IfOk, IfSome, Contains, codes};
+ghost use Rattle.std.specs.List.{position};
+ghost use Rattle.std.specs.Str.{bytes_eq};
+ghost use Rattle.pf_ints.specs.Images.{IsPixelType};
+ghost use Rattle.pf_terms.specs.declared.meaning.ReadFault.TheVariants.{Memory as Refused};
+ghost use Rattle.pf_terms.specs.KernelNames.{IsNames};
+ghost use Rattle.pf_terms.specs.Meanings.{IsTermText};
+ghost use Rattle.pf_terms.specs.Terms.{IsWellTyped, stated_type};
+ghost use Rattle.pf_terms.specs.TermTexts.{is_named};
+ghost use Rattle.pf_isa.specs.Heads.{IsDecl, IsTap};
+ghost use Rattle.pf_isa.specs.HeadSteps.{WordsGoOn, DeclarationGoesOn, TapOrOutGoesOn, OutWordsGoOn, ImageGoesOn, TapGoesOn, OutGoesOn, LiftedGoesOn, TermGoesOn, IsDefinitionOf, IsFitting, IsRoom, IsReady};
+ghost use Rattle.pf_isa.specs.HeadWords.{IsTheOne, IsLiftedName, is_sign};
+ghost use Rattle.pf_isa.specs.TextFaults.{texts, SoFar, nothing, names_in, names_so_far, GoesOn, GoesOnAt, stage_behind};
+ghost use Rattle.pf_isa.specs.declared.so_far.Stage.TheVariants.{Declarations, Lifted, Code};
+
+use crate::head_words::{cost_of, image_of, lifted_of, out_of, scratch_of, tap_of};
+use crate::program::Head;
+use crate::tight::tight_line;
+use crate::words::words_of;
+use pf_ints::{Bits, LaneType, Memory, Name, Sequence};
+use pf_terms::{
+    DefName, Definition, ImageDecl, ImageName, Names, ReadFault, Tap, Term, depth, nodes, read_term,
+};
+use std::alloc::{AllocError, Global};
+use std::marker::Model;
+
 /// What may come next in a text.
 #[derive(Clone, Copy, Debug, PartialEq, Eq)]
 pub enum Stage {
@@ -11,4 +37,453 @@ pub enum Stage {
     Cost,
     /// The lines behind the head.
     Code,
+}
+
+/// What the lines of a head so far say.
+#[derive(Debug, Drop)]
+pub struct HeadSoFar {
+    stage: Stage,
+    head: Head,
+    /// What a lifted term may name.
+    names: Names,
+    /// How many nodes the lifted terms have.
+    nodes: u64,
+}
+
+impl Model for HeadSoFar {
+    ghost use Rattle.pf_isa.specs.TextFaults.{SoFar, names_so_far, nodes_so_far};
+    ghost use Rattle.pf_terms.specs.contracts.term.Term as term;
+    ghost use Rattle.std.specs.Coded.{codes};
+    ghost use Rattle.std.specs.Prelude.{◌≡◌};
+
+    ghost Value = { SoFar };
+
+    ghost coded = { Prim.hlevel (codes, term.the_row.coded) };
+
+    ghost view = { λ s. record { stage = s.stage; head = s.head } };
+
+    ghost invariant = { λ s. (s.names ≡ names_so_far s.head) × (s.nodes ≡ nodes_so_far s.head) };
+}
+
+impl HeadSoFar {
+    /// Nothing is said yet. It takes no memory.
+    pub fn new(alloc: Global) -> HeadSoFar
+        ensures { result ≡ nothing }
+    {
+        HeadSoFar {
+            stage: Stage::Declarations,
+            head: Head {
+                images: Sequence::new(alloc),
+                taps: Sequence::new(alloc),
+                out_ty: LaneType {
+                    signed: false,
+                    bits: Bits::Eight,
+                },
+                scratch: 0,
+                lifted: Sequence::new(alloc),
+                cost: 0,
+            },
+            names: Names {
+                images: Sequence::new(alloc),
+                taps: Sequence::new(alloc),
+                defs: Sequence::new(alloc),
+            },
+            nodes: 0,
+        }
+    }
+
+    /// Whether all lines of the head were read.
+    pub fn is_whole(&self) -> bool
+        ensures { IsTrue result ↔ (self.now.stage ≡ Code) }
+    {
+        self.stage == Stage::Code
+    }
+
+    /// The head.
+    pub fn into_head(self) -> Head
+        ensures { result ≡ self.head }
+    {
+        let HeadSoFar { head, .. } = self;
+        head
+    }
+
+    // Whether an image or a lifted term has the name.
+    fn has_name(&self, name: &[u8]) -> bool
+        ensures { IsTrue result ↔ Contains (names_in self.now.head) name.now }
+    {
+        has_image(self.head.images.as_slice(), name) || has_lifted(self.head.lifted.as_slice(), name)
+    }
+
+    fn with_image(self, image: &ImageDecl) -> Result<Option<HeadSoFar>, Memory>
+        requires stage { self.stage ≡ Declarations }
+        requires image { IsDecl image.now }
+        ensures { IfOk result (IsTheOne (ImageGoesOn self.head image.now)) }
+    {
+        if self.has_name(image.name.as_slice()) || !self.head.taps.is_empty() {
+            return Ok(None);
+        }
+        if 8 <= self.head.images.len() {
+            return Ok(None);
+        }
+        let HeadSoFar {
+            stage,
+            mut head,
+            mut names,
+            nodes,
+        } = self;
+        head.images.push(*image)?;
+        names.images.push(ImageName {
+            name: image.name,
+            ty: image.ty,
+        })?;
+        Ok(Some(HeadSoFar {
+            stage,
+            head,
+            names,
+            nodes,
+        }))
+    }
+
+    fn with_tap(self, tap: Tap) -> Result<Option<HeadSoFar>, Memory>
+        requires stage { self.stage ≡ Declarations }
+        requires tap { IsTap (length self.head.images) tap }
+        ensures { IfOk result (IsTheOne (TapGoesOn self.head tap)) }
+    {
+        if has_tap(self.head.taps.as_slice(), tap) || 64 <= self.head.taps.len() {
+            return Ok(None);
+        }
+        let HeadSoFar {
+            stage,
+            mut head,
+            mut names,
+            nodes,
+        } = self;
+        head.taps.push(tap)?;
+        names.taps.push(tap)?;
+        Ok(Some(HeadSoFar {
+            stage,
+            head,
+            names,
+            nodes,
+        }))
+    }
+
+    fn with_out(self, ty: LaneType) -> Option<HeadSoFar>
+        requires { IsPixelType ty }
+        ensures { IsTheOne (OutGoesOn self.head ty) result }
+    {
+        if self.head.images.is_empty() {
+            return None;
+        }
+        let HeadSoFar {
+            mut head,
+            names,
+            nodes,
+            ..
+        } = self;
+        head.out_ty = ty;
+        Some(HeadSoFar {
+            stage: Stage::Scratch,
+            head,
+            names,
+            nodes,
+        })
+    }
+
+    fn with_out_words(self, words: &[&[u8]]) -> Option<HeadSoFar>
+        ensures { IsTheOne (OutWordsGoOn self.head (texts words.now)) result }
+    {
+        self.with_out(out_of(words)?)
+    }
+
+    fn with_tap_or_out(self, words: &[&[u8]]) -> Result<Option<HeadSoFar>, Memory>
+        requires stage { self.stage ≡ Declarations }
+        requires names { IsNames (names_so_far self.head) }
+        ensures { IfOk result (IsTheOne (TapOrOutGoesOn self.head (texts words.now))) }
+    {
+        match tap_of(words, self.names.images.as_slice()) {
+            Some(tap) => self.with_tap(tap),
+            None => Ok(self.with_out_words(words)),
+        }
+    }
+
+    fn with_declaration(self, words: &[&[u8]]) -> Result<Option<HeadSoFar>, Memory>
+        requires stage { self.stage ≡ Declarations }
+        requires names { IsNames (names_so_far self.head) }
+        ensures { IfOk result (IsTheOne (DeclarationGoesOn self.head (texts words.now))) }
+    {
+        match image_of(words) {
+            Some(image) => self.with_image(&image),
+            None => self.with_tap_or_out(words),
+        }
+    }
+
+    fn with_scratch(self, scratch: u32) -> HeadSoFar
+        ensures { result ≡ record { stage = Lifted; head = record self.head { scratch = scratch } } }
+    {
+        let HeadSoFar {
+            mut head,
+            names,
+            nodes,
+            ..
+        } = self;
+        head.scratch = scratch;
+        HeadSoFar {
+            stage: Stage::Lifted,
+            head,
+            names,
+            nodes,
+        }
+    }
+
+    fn with_cost(self, cost: u64) -> HeadSoFar
+        ensures { result ≡ record { stage = Code; head = record self.head { cost = cost } } }
+    {
+        let HeadSoFar {
+            mut head,
+            names,
+            nodes,
+            ..
+        } = self;
+        head.cost = cost;
+        HeadSoFar {
+            stage: Stage::Code,
+            head,
+            names,
+            nodes,
+        }
+    }
+
+    // What is so far with a line of these words, which says no lifted term.
+    fn with_words(self, words: &[&[u8]]) -> Result<Option<HeadSoFar>, Memory>
+        requires { IsReady self }
+        ensures { IfOk result (IsTheOne (WordsGoOn self.stage self.head (texts words.now))) }
+    {
+        match self.stage {
+            Stage::Declarations => self.with_declaration(words),
+            Stage::Scratch => match scratch_of(words) {
+                Some(scratch) => Ok(Some(self.with_scratch(scratch))),
+                None => Ok(None),
+            },
+            Stage::Cost => match cost_of(words) {
+                Some(cost) => Ok(Some(self.with_cost(cost))),
+                None => Ok(None),
+            },
+            Stage::Lifted | Stage::Code => Ok(None),
+        }
+    }
+
+    // Whether a lifted term of the name may come, of which at most 64 aren't the output's.
+    fn has_room(&self, name: &[u8]) -> bool
+        requires { IsLiftedName name.now }
+        ensures { IsTrue result ↔ IsRoom self.now.head name.now }
+    {
+        is_out(name) || self.head.lifted.len() < 64
+    }
+
+    fn with_lifted(
+        self,
+        alloc: Global,
+        name: &Name,
+        ty: LaneType,
+        text: &[u8],
+    ) -> Result<Option<HeadSoFar>, Memory>
+        requires names { IsNames (names_so_far self.head) }
+        requires name { IsLiftedName name.now }
+        ensures { IfOk result (IsTheOne (LiftedGoesOn self.head name.now ty text.now)) }
+    {
+        if self.has_name(name.as_slice()) {
+            return Ok(None);
+        }
+        if !self.has_room(name.as_slice()) {
+            return Ok(None);
+        }
+        self.with_term(alloc, name, ty, text)
+    }
+
+    fn with_term(
+        self,
+        alloc: Global,
+        name: &Name,
+        ty: LaneType,
+        text: &[u8],
+    ) -> Result<Option<HeadSoFar>, Memory>
+        requires names { IsNames (names_so_far self.head) }
+        ensures { IfOk result (IsTheOne (TermGoesOn self.head name.now ty text.now)) }
+    {
+        let HeadSoFar {
+            mut head,
+            mut names,
+            nodes: before,
+            ..
+        } = self;
+        let definition = match definition_of(alloc, name, ty, text, &mut names, before)? {
+            Some(definition) => definition,
+            None => return Ok(None),
+        };
+        let nodes = before.saturating_add(nodes(&definition.term));
+        names.defs.push(DefName { name: *name, ty })?;
+        head.lifted.push(definition)?;
+        Ok(Some(HeadSoFar {
+            stage: stage_behind(name.as_slice()),
+            head,
+            names,
+            nodes,
+        }))
+    }
+
+    // What is so far with a line of a lifted term.
+    fn with_lifted_line(self, alloc: Global, line: &[u8]) -> Result<Option<HeadSoFar>, Memory>
+        requires { IsNames (names_so_far self.head) }
+        ensures { IfOk result (IsTheOne (GoesOnAt Lifted self.head line.now)) }
+    {
+        let end = match sign_in(line) {
+            Some(end) => end,
+            None => return Ok(None),
+        };
+        let front = tight_line(alloc, &line[..end + 1])?;
+        let words = words_of(alloc, front.as_slice())?;
+        match lifted_of(words.as_slice()) {
+            Some(found) => self.with_lifted(alloc, &found.0, found.1, &line[end + 1..]),
+            None => Ok(None),
+        }
+    }
+
+    /// What is so far with the next line, or None where the line doesn't go on from what is so far.
+    pub fn next(self, alloc: Global, line: &[u8]) -> Result<Option<HeadSoFar>, Memory>
+        requires { IsReady self }
+        ensures { IfOk result (IsTheOne (GoesOn self line.now)) }
+    {
+        if self.stage == Stage::Lifted {
+            return self.with_lifted_line(alloc, line);
+        }
+        let tight = tight_line(alloc, line)?;
+        let words = words_of(alloc, tight.as_slice())?;
+        self.with_words(words.as_slice())
+    }
+}
+
+// The place of the first `=`.
+fn sign_in(line: &[u8]) -> Option<usize>
+    ensures value { result ≡ position is_sign line.now }
+    ensures within { IfSome result (λ end. end < length line.now) }
+{
+    line.iter().position(|byte| *byte == b'=')
+}
+
+fn is_out(name: &[u8]) -> bool
+    ensures { result ≡ bytes_eq name.now (codes "out") }
+{
+    name == b"out".as_slice()
+}
+
+fn stage_behind(name: &[u8]) -> Stage
+    ensures { result ≡ stage_behind name.now }
+{
+    if is_out(name) {
+        Stage::Cost
+    } else {
+        Stage::Lifted
+    }
+}
+
+// The lifted term of a text, behind others with so many nodes.
+fn definition_of(
+    alloc: Global,
+    name: &Name,
+    ty: LaneType,
+    text: &[u8],
+    names: &mut Names,
+    before: u64,
+) -> Result<Option<Definition>, Memory>
+    requires { IsNames names.old }
+    ensures found { IfOk result (IsTheOne (IsDefinitionOf names.old name.now ty text.now before)) }
+    ensures kept { IfOk result (λ found. IfSome found (λ d. names.new ≡ names.old)) }
+{
+    let term = match lifted_term(alloc, text, names)? {
+        Some(term) => term,
+        None => return Ok(None),
+    };
+    if !is_fitting(&term, ty, before) {
+        return Ok(None);
+    }
+    Ok(Some(Definition {
+        name: *name,
+        ty,
+        term,
+    }))
+}
+
+fn is_fitting(term: &Term, ty: LaneType, before: u64) -> bool
+    ensures { IsTrue result ↔ IsFitting term.now ty before }
+{
+    stated_type(term) == ty && depth(term) <= 1024 && before.saturating_add(nodes(term)) <= 1536
+}
+
+// The term that a text means, where it has no tap that isn't listed.
+fn lifted_term(alloc: Global, text: &[u8], names: &mut Names) -> Result<Option<Term>, Memory>
+    requires { IsNames names.old }
+    ensures found { IfOk result (IsTheOne (λ t. IsTermText names.old text.now t names.old)) }
+    ensures known { IfOk result (λ found. IfSome found (λ t. (names.new ≡ names.old) × IsWellTyped t × (is_named names.old t ≡ true))) }
+{
+    let many = names.taps.len();
+    let term = match read_term(alloc, text, names) {
+        Ok(term) => term,
+        Err(fault) => return refused(fault),
+    };
+    if many < names.taps.len() {
+        return Ok(None);
+    }
+    Ok(Some(term))
+}
+
+fn refused(fault: ReadFault) -> Result<Option<Term>, Memory>
+    ensures { IfOk result (λ found. (found ≡ None) × (fault ≢ ReadFault.Memory)) }
+{
+    match fault {
+        ReadFault::Memory => Err(AllocError),
+        _ => Ok(None),
+    }
+}
+
+fn stated_type(term: &Term) -> LaneType
+    ensures { result ≡ stated_type term.now }
+{
+    match term {
+        Term::Leaf { ty, .. } => *ty,
+        Term::Node { ty, .. } => *ty,
+    }
+}
+
+fn has_image(images: &[ImageDecl], name: &[u8]) -> bool
+    ensures { IsTrue result ↔ Contains (map (λ d. d.name) images.now) name.now }
+{
+    for image in images {
+        if image.name.as_slice() == name {
+            return true;
+        }
+    }
+    false
+}
+
+fn has_lifted(lifted: &[Definition], name: &[u8]) -> bool
+    ensures { IsTrue result ↔ Contains (map (λ d. d.name) lifted.now) name.now }
+{
+    for definition in lifted {
+        if definition.name.as_slice() == name {
+            return true;
+        }
+    }
+    false
+}
+
+fn has_tap(taps: &[Tap], tap: Tap) -> bool
+    ensures { IsTrue result ↔ Contains taps.now tap }
+{
+    for other in taps {
+        if *other == tap {
+            return true;
+        }
+    }
+    false
 }

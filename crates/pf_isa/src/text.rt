@@ -7,8 +7,10 @@ ghost use Rattle.pf_isa.specs.TextFaults.{IsTextRefusal, IsProgramOr, IsFor};
 
 use crate::fault::TextFault;
 use crate::isa::Isa;
-use crate::lines::first_line;
+use crate::lines::{first_line, lines_of};
 use crate::program::Program;
+use crate::read_code::read_code;
+use crate::read_head::read_head;
 use crate::target_line::is_for;
 use pf_ints::Target;
 use std::alloc::Global;
@@ -24,7 +26,7 @@ use std::alloc::Global;
 /// so far begin no head, which is the line after the last where the text ends within the head; then
 /// line by line `Instruction`, or `Label` where an earlier line has the label; then `Label` at the
 /// first jump to a missing label; then `NoEnd` at the last line.
-pub fn read_text<I: Isa>(_alloc: Global, text: &[u8]) -> Result<Program<I>, TextFault>
+pub fn read_text<I: Isa>(alloc: Global, text: &[u8]) -> Result<Program<I>, TextFault>
     // What is read is what the text means.
     ensures found { IfOk result (λ p. IsText I.table I.is_op text.now p) }
     // What a text means is read, unless memory runs out.
@@ -32,8 +34,10 @@ pub fn read_text<I: Isa>(_alloc: Global, text: &[u8]) -> Result<Program<I>, Text
     // The first fault of another text is told.
     ensures fault { IfErr result (IsTextRefusal I I.table I.is_op text.now) }
 {
-    let _size = text.len();
-    Err(TextFault::Memory)
+    let lines = lines_of(alloc, text)?;
+    let (head, start) = read_head(alloc, I::TARGET, lines.as_slice())?;
+    let (code, labels) = read_code::<I>(alloc, lines.as_slice(), start)?;
+    Ok(Program::new(head, code, labels))
 }
 
 /// The target that line 1 of a text names, or None where it names none. It takes no memory.

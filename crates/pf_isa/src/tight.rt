@@ -1,9 +1,10 @@
-ghost use Rattle.std.specs.Prelude.{◌≡◌, ◌+◌, ◌<◌, ◌≤◌, ◌++◌, [], ◌∷◌, length, MatchOption, IsTrue, ◌↔◌};
+ghost use Rattle.std.specs.Prelude.{◌≡◌, ◌+◌, ◌<◌, ◌≤◌, ◌++◌, [], ◌∷◌, length, IfOk, OnOk, MatchOption, IsTrue, ◌↔◌};
 ghost use Rattle.std.specs.Fmt.{decimal};
 ghost use Rattle.pf_isa.specs.Lines.{tight, is_blank};
 ghost use Rattle.pf_isa.specs.Scan.{spaced};
 
 use itoa::Buffer;
+use std::alloc::{AllocError, Global};
 use std::marker::Model;
 
 /// A line of at most 80 bytes. It is made and kept without memory.
@@ -106,7 +107,8 @@ enum Gap {
     Open,
 }
 
-fn is_blank(byte: u8) -> bool
+/// Whether the byte is a space or a TAB.
+pub fn is_blank(byte: u8) -> bool
     ensures { result ≡ is_blank byte }
 {
     byte == b' ' || byte == b'\t'
@@ -145,4 +147,38 @@ pub fn tighten(line: &[u8]) -> Option<ShortLine>
         }
     }
     Some(tight)
+}
+
+/// The line without the blanks that don't count, of any length.
+#[tactic(auto, unfolding(crate::specs::Lines::tight))]
+pub fn tight_line(alloc: Global, line: &[u8]) -> Result<Vec<u8>, AllocError>
+    ensures { IfOk result (λ l. l.items ≡ tight line.now) }
+{
+    let mut gap = Gap::Free;
+    let mut tight = Vec::new(alloc);
+    for byte in line {
+        if is_blank(*byte) {
+            gap = match gap {
+                Gap::Free => Gap::Free,
+                Gap::Closed | Gap::Open => Gap::Open,
+            };
+        } else {
+            push_placed(&mut tight, gap, *byte)?;
+            gap = if *byte == b',' {
+                Gap::Free
+            } else {
+                Gap::Closed
+            };
+        }
+    }
+    Ok(tight)
+}
+
+fn push_placed(line: &mut Vec<u8>, gap: Gap, byte: u8) -> Result<(), AllocError>
+    ensures { OnOk result (line.new.items ≡ line.old.items ++ spaced gap byte) }
+{
+    match gap {
+        Gap::Free | Gap::Closed => Ok(line.push(byte)?),
+        Gap::Open => line.extend_from_slice(&[b' ', byte]),
+    }
 }

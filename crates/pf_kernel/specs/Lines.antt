@@ -1,8 +1,7 @@
 -- What the lines of a kernel's text say, and which fault of a line is told.
 use Rattle.std.specs.Prelude.{◌≡◌, ℕ, ℤ, pos, ◌+◌, ◌-◌, ◌^◌, ◌≤◌, ◌<◌, min, nat_lt, Bool, true, false, not, ◌&&◌, ◌||◌, ◌==◌, if◌then◌else◌, unsigned_abs, is_some, List, [], ◌∷◌, ◌++◌, length, take, drop, map, sum, slice_get, Option, Some, None, Result, Ok, Err}
-use Rattle.std.specs.List.{before_first, list_any}
+use Rattle.std.specs.List.{before_first}
 use Rattle.std.specs.Option.{option_map}
-use Rattle.std.specs.Str.{bytes_eq}
 use Rattle.pf_ints.specs.declared.lane.LaneType.{LaneType}
 use Rattle.pf_ints.specs.Images.{IsPixelType}
 use Rattle.pf_ints.specs.Lanes.{IsIn, greatest}
@@ -24,8 +23,7 @@ use Rattle.pf_terms.specs.declared.token.LineWord.{LineWord}
 use Rattle.pf_terms.specs.declared.token.LineWord.TheVariants.{Kernel, Image, Def, Out}
 use Rattle.pf_terms.specs.declared.token.Token.{Token}
 use Rattle.pf_terms.specs.Drafts.{IsDraftText, IsSyntaxFault}
-use Rattle.pf_terms.specs.KernelNames.{all_names}
-use Rattle.pf_terms.specs.Meanings.{first_some, first_unknown, first_far, names_after, term_of}
+use Rattle.pf_terms.specs.Meanings.{first_some, is_image, is_def, first_unknown, first_far, names_after, term_of}
 use Rattle.pf_terms.specs.Parsing.{kinds, place_of}
 use Rattle.pf_terms.specs.Terms.{typing, same_type, node_count, depth_of}
 use Rattle.pf_terms.specs.Tokens.{IsLexed}
@@ -125,11 +123,13 @@ SaysOf b text ts (Over f d) = IsShape b (kinds ts) f × ((n : ℕ) × (equals_of
 abbrev pub Says : Begun → List ℕ → Said → Type 0
 Says b line said = (ts : List Token) × IsLexed 0 (uncommented line) ts × SaysOf b (uncommented line) ts said
 
--- the line may not stand there or says nothing at all, and this is the column of its first fault
-pub data IsLineSyntax (b : Begun) (line : List ℕ) : ℕ → Type 0 where
-  front : (ts : List Token) (n : ℕ) → IsLexed 0 (uncommented line) ts → IsFrontFault b (kinds ts) n → IsLineSyntax b line (place_of ts (told_at (kinds ts) n) + 1)
-  expression : (ts : List Token) (f : Front) (n place : ℕ) → IsLexed 0 (uncommented line) ts → IsShape b (kinds ts) f → equals_of f ≡ Some n →
-      IsSyntaxFault (drop (end_of ts n) (uncommented line)) place → IsLineSyntax b line (end_of ts n + place + 1)
+-- a line of these tokens may not stand there or isn't whole, and this is the column of its first fault
+pub data IsTokensSyntax (b : Begun) (text : List ℕ) (ts : List Token) : ℕ → Type 0 where
+  front : (n : ℕ) → IsFrontFault b (kinds ts) n → IsTokensSyntax b text ts (place_of ts (told_at (kinds ts) n) + 1)
+  expression : (f : Front) (n place : ℕ) → IsShape b (kinds ts) f → equals_of f ≡ Some n → IsSyntaxFault (drop (end_of ts n) text) place → IsTokensSyntax b text ts (end_of ts n + place + 1)
+
+abbrev pub IsLineSyntax : Begun → List ℕ → ℕ → Type 0
+IsLineSyntax b line column = (ts : List Token) × IsLexed 0 (uncommented line) ts × IsTokensSyntax b (uncommented line) ts column
 
 -- ---- the faults of what a line says, in the order in which they are judged
 
@@ -138,23 +138,26 @@ if_so true fault = Some fault
 if_so false fault = None
 
 -- the number, or the greatest that the count of a limit can hold
-abbrev pub counted : ℕ → ℤ
-counted n = pos (min n (2 ^ 63 - 1))
+abbrev pub counted : ℕ → ℕ
+counted n = min n (2 ^ 63 - 1)
 
 -- there are more than so many
 abbrev pub more_than : ℕ → LimitKind → ℕ → Option ReadFault
-more_than most what n = if_so (nat_lt most n) (Limit what (counted n))
+more_than most what n = if_so (nat_lt most n) (Limit what (pos n))
 
 -- an image or a definition has the name already
+abbrev pub is_taken : Names → List ℕ → Bool
+is_taken names s = is_image names.images s || is_def names.defs s
+
 abbrev pub taken : Begun → List ℕ → Option ReadFault
-taken b s = if_so (list_any (bytes_eq s) (all_names (names_in b))) (UnknownName s)
+taken b s = if_so (is_taken (names_in b) s) (UnknownName s)
 
 -- the fault of the first node in post-order, or else that the whole isn't of the declared type
 abbrev pub mistyped : LaneType → Result LaneType TermFault → Option ReadFault
 mistyped ty (Ok u) = if_so (not (same_type ty u)) (Types ty u)
 mistyped ty (Err (TypesAt path want got)) = Some (Types want got)
 mistyped ty (Err (AmountAt path k)) = Some (Amount k)
-mistyped ty (Err NoMemory) = None
+mistyped ty (Err NoMemory) = Some Memory
 
 abbrev pub names_with : Begun → Draft → Names
 names_with b d = names_after (names_in b) d
@@ -166,21 +169,27 @@ term_with b d = term_of (names_with b d) d
 abbrev pub nodes_in : Begun → ℕ
 nodes_in b = sum (map (λ d. node_count d.term) b.defs)
 
--- an expression of the type that stands in a line, in which so many definitions are made
-abbrev pub expression_faults : Begun → LaneType → ℕ → Draft → List (Option ReadFault)
-expression_faults b ty new d =
-    option_map UnknownName (first_unknown (names_in b) d)
-    ∷ mistyped ty (typing (term_with b d))
-    ∷ more_than 64 Taps (length (names_with b d).taps)
-    ∷ more_than 64 Definitions (length b.defs + new)
-    ∷ option_map (Limit Offset) (first_far d)
-    ∷ more_than 128 Depth (depth_of (term_with b d))
-    ∷ more_than 512 Nodes (nodes_in b + node_count (term_with b d)) ∷ []
+-- the faults of an expression of type ty: by its first unknown name, its type, the taps and definitions so far, its first far offset, its depth and the nodes so far
+abbrev pub judged : LaneType → Option (List ℕ) → Result LaneType TermFault → ℕ → ℕ → Option ℤ → ℕ → ℕ → List (Option ReadFault)
+judged ty unknown typed taps defs far depth nodes =
+    option_map UnknownName unknown
+    ∷ mistyped ty typed
+    ∷ more_than 64 Taps taps
+    ∷ more_than 64 Definitions defs
+    ∷ option_map (Limit Offset) far
+    ∷ more_than 128 Depth (counted depth)
+    ∷ more_than 512 Nodes (counted nodes) ∷ []
+
+-- those of an expression over these names, behind so many nodes, with which there are so many definitions
+unfoldable pub expression_faults : Names → ℕ → LaneType → ℕ → Draft → List (Option ReadFault)
+expression_faults names nodes ty defs d =
+    let after = names_after names d in
+    judged ty (first_unknown names d) (typing (term_of after d)) (length after.taps) defs (first_far d) (depth_of (term_of after d)) (nodes + node_count (term_of after d))
 
 abbrev pub faults : Begun → Said → List (Option ReadFault)
 faults b (Bare (ImageFront i)) = taken b i.name ∷ more_than 8 Images (length b.images + 1) ∷ []
-faults b (Over (DefFront n ty) d) = taken b n ∷ expression_faults b ty 1 d
-faults b (Over (OutFront ty) d) = expression_faults b ty 0 d
+faults b (Over (DefFront n ty) d) = taken b n ∷ expression_faults (names_in b) (nodes_in b) ty (length b.defs + 1) d
+faults b (Over (OutFront ty) d) = expression_faults (names_in b) (nodes_in b) ty (length b.defs) d
 faults b _ = []
 
 -- what is said with one more line

@@ -1,5 +1,5 @@
 -- Kernels as texts.
-use Rattle.std.specs.Prelude.{◌≡◌, ℕ, pos, ◌+◌, ◌≤◌, ◌<◌, List, [], ◌∷◌, ◌++◌, length, Some, None, Result, Ok, Err, codes, decimal}
+use Rattle.std.specs.Prelude.{◌≡◌, ℕ, pos, ◌+◌, ◌≤◌, ◌<◌, List, [], ◌∷◌, ◌++◌, length, unsigned_abs, Some, None, Result, Ok, Err, codes, decimal}
 use Rattle.std.specs.Str.Lines.{lines}
 use Rattle.std.specs.List.{flat_map}
 use Rattle.pf_terms.specs.declared.kernel.Definition.{Definition}
@@ -14,7 +14,7 @@ use Rattle.pf_terms.specs.TermTexts.{type_word, term_text}
 use Rattle.pf_kernel.specs.declared.fault.KernelFault.{KernelFault}
 use Rattle.pf_kernel.specs.declared.fault.KernelFault.TheVariants.{Syntax, Name, Types, Limit, Memory}
 use Rattle.pf_kernel.specs.Kernels.{Meaning, names_of}
-use Rattle.pf_kernel.specs.Lines.{Begun, nothing, IsLineFault, AreRead}
+use Rattle.pf_kernel.specs.Lines.{Begun, nothing, counted, IsLineFault, AreRead}
 
 -- how many bytes a text may have
 unfoldable pub byte_limit : ℕ
@@ -34,7 +34,7 @@ abbrev pub at_line : ℕ → ReadFault → KernelFault
 at_line n (SyntaxAt column) = Syntax n column
 at_line n (NameOf s) = Name n s
 at_line n (TypesOf want got) = Types n want got
-at_line n (Amount k) = Limit AmountLimit k
+at_line n (Amount k) = Limit AmountLimit (pos (counted (unsigned_abs k)))
 at_line n (LimitOf what count) = Limit what count
 at_line n NoMemory = Memory
 

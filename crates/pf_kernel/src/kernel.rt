@@ -1,5 +1,5 @@
 ghost use Rattle.std.specs.Prelude.{◌≡◌};
-ghost use Rattle.pf_kernel.specs.Kernels.{IsKernelOf, names_of};
+ghost use Rattle.pf_kernel.specs.Kernels.{IsKernelOf, IsNamedKernel, meaning, names_of};
 
 use pf_ints::{LaneType, Name};
 use pf_terms::{Definitions, ImageList, Names, Term};
@@ -31,6 +31,28 @@ impl Model for Kernel {
 }
 
 impl Kernel {
+    /// The kernel of these parts.
+    pub(crate) fn new(
+        name: Name,
+        images: ImageList,
+        names: Names,
+        defs: Definitions,
+        out_ty: LaneType,
+        out: Term,
+    ) -> Kernel
+        requires { IsNamedKernel (meaning name images names.taps defs out_ty out) names }
+        ensures { result ≡ meaning name images names.taps defs out_ty out }
+    {
+        Kernel {
+            name,
+            images,
+            names,
+            defs,
+            out_ty,
+            out,
+        }
+    }
+
     /// The kernel's name.
     pub fn name(&self) -> &Name
         ensures { result.now ≡ self.now.name }

@@ -1,11 +1,16 @@
 //! Kernels: their texts, and the size of their outputs.
 #![tactic(auto)]
 
+mod expression;
 mod fault;
 mod front;
 mod kernel;
+mod line;
 mod read;
+mod reading;
 mod size;
+#[cfg(test)]
+mod tests;
 mod write;
 
 pub use fault::KernelFault;

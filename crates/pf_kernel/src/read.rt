@@ -1,14 +1,27 @@
-ghost use Rattle.std.specs.Prelude.{IfOk, IfErr};
+ghost use Rattle.std.specs.Prelude.{◌≡◌, ◌+◌, ◌∷◌, [], ◌++◌, ◌<◌, ◌≤◌, ◌^◌, length, IfOk, IfErr, MatchOption, IfSome, pos, Some, None, ◌==◌, List, ℕ};
+ghost use Rattle.std.specs.List.{position};
+ghost use Rattle.std.specs.Str.Lines.{lines, strip_carriage_return};
+ghost use Rattle.pf_terms.specs.declared.limit.LimitKind.TheVariants.{Bytes};
+ghost use Rattle.pf_kernel.specs.declared.fault.KernelFault.TheVariants.{Limit};
 ghost use Rattle.pf_kernel.specs.Kernels.{Meaning};
-ghost use Rattle.pf_kernel.specs.Texts.{IsKernel, IsKernelOr, IsRefusal};
+ghost use Rattle.pf_kernel.specs.Lines.{Begun, Said, IsRead, AreRead, nothing, with_said};
+ghost use Rattle.pf_kernel.specs.Readings.{begun_of, IsReading};
+ghost use Rattle.pf_kernel.specs.Reads.{AnswersNext, IsNextOr, IsSoFar, IsAllOr, Finishes};
+ghost use Rattle.pf_kernel.specs.Texts.{IsKernel, IsKernelOr, IsRefusal, at_line, all_of, byte_limit};
 
 use crate::fault::KernelFault;
 use crate::kernel::Kernel;
+use crate::line::read_line;
+use crate::reading::Reading;
+use pf_terms::{LimitKind, ReadFault};
 use std::alloc::Global;
+
+const MOST_BYTES: usize = 65_536;
 
 /// The kernel of a text of lines: `kernel NAME`, `image NAME TYPE` or `image NAME TYPE LO HI` once
 /// or more, `def NAME TYPE = EXPRESSION` any number of times, and last `out TYPE = EXPRESSION`.
 /// Lines end in LF or CR LF, a `#` begins a comment, and blank lines are free.
+#[tactic(auto, unfolding(crate::specs::Texts::byte_limit))]
 pub fn read_kernel(alloc: Global, text: &[u8]) -> Result<Kernel, KernelFault>
     // What is read is the kernel of the text.
     ensures found { IfOk result (λ k. IsKernel text.now k) }
@@ -17,7 +30,125 @@ pub fn read_kernel(alloc: Global, text: &[u8]) -> Result<Kernel, KernelFault>
     // The first fault of another text is told.
     ensures fault { IfErr result (IsRefusal text.now) }
 {
-    let _text = text.len();
-    let _alloc = alloc;
-    Err(KernelFault::Memory)
+    if MOST_BYTES < text.len() {
+        return Err(too_long(text.len()));
+    }
+    match read_lines(alloc, text) {
+        Ok((reading, count)) => finish(reading, count),
+        Err(fault) => Err(fault),
+    }
+}
+
+fn too_long(count: usize) -> KernelFault
+    requires { count < 2 ^ 63 }
+    ensures { result ≡ Limit Bytes (pos count) }
+{
+    KernelFault::Limit {
+        what: LimitKind::Bytes,
+        count: count as i64,
+    }
+}
+
+// What all lines say, and how many they are.
+fn read_lines(alloc: Global, text: &[u8]) -> Result<(Reading, u32), KernelFault>
+    requires { length text.now ≤ byte_limit }
+    ensures found { IfOk result (λ p. (AreRead nothing (lines text.now) (begun_of p.0)) × (p.1 ≡ length (lines text.now)) × IsReading p.0) }
+    ensures few { IfOk result (λ p. p.1 ≤ length text.now) }
+    ensures only { (b : Begun) → AreRead nothing (lines text.now) b → IsAllOr b result }
+    ensures fault { IfErr result (IsRefusal text.now) }
+{
+    let mut reading = Reading::new(alloc);
+    let mut count: u32 = 0;
+    let mut rest = text;
+    'lines: while 0 < rest.len() {
+        let (line, next) = first_line(rest);
+        reading = match read_next(alloc, reading, line, count + 1) {
+            Ok(more) => more,
+            Err(fault) => return Err(fault),
+        };
+        count += 1;
+        rest = next;
+    }
+    Ok((reading, count))
+}
+
+// What was read with line number n.
+fn read_next(alloc: Global, reading: Reading, line: &[u8], n: u32) -> Result<Reading, KernelFault>
+    requires good { IsReading reading }
+    requires short { length line.now < 2 ^ 32 }
+    ensures found { AnswersNext (begun_of reading) line.now n result }
+    ensures only { (said : Said) → IsRead (begun_of reading) line.now said → IsNextOr (with_said (begun_of reading) said) result }
+    ensures kept { IfOk result IsReading }
+{
+    match read_line(alloc, reading, line) {
+        Ok(more) => Ok(more),
+        Err(fault) => Err(at_line(n, fault)),
+    }
+}
+
+fn at_line(line: u32, fault: ReadFault) -> KernelFault
+    ensures { result ≡ at_line line fault }
+{
+    match fault {
+        ReadFault::Syntax { column } => KernelFault::Syntax { line, column },
+        ReadFault::Name { name } => KernelFault::Name { line, name },
+        ReadFault::Types { want, got } => KernelFault::Types { line, want, got },
+        ReadFault::Amount { amount } => KernelFault::Limit {
+            what: LimitKind::Amount,
+            count: amount.unsigned_abs().min(0x7fff_ffff_ffff_ffff) as i64,
+        },
+        ReadFault::Limit { what, count } => KernelFault::Limit { what, count },
+        ReadFault::Memory => KernelFault::Memory,
+    }
+}
+
+// The first line without its end, and what stands behind it.
+fn first_line(text: &[u8]) -> (&[u8], &[u8])
+    requires { 0 < length text.now }
+    ensures lines { lines text.now ≡ result.0.now ∷ lines result.1.now }
+    ensures within { length result.0.now ≤ length text.now }
+    ensures shorter { length result.1.now < length text.now }
+{
+    match end_place(text) {
+        Some(n) => (without_return(&text[..n]), &text[n + 1..]),
+        None => (text, &text[text.len()..]),
+    }
+}
+
+fn end_place(text: &[u8]) -> Option<usize>
+    ensures value { result ≡ position (λ b. b == 10) text.now }
+    ensures within { IfSome result (λ n. n < length text.now) }
+{
+    text.iter().position(|byte| *byte == b'\n')
+}
+
+fn without_return(line: &[u8]) -> &[u8]
+    ensures value { result.now ≡ strip_carriage_return line.now }
+    ensures within { length result.now ≤ length line.now }
+{
+    match line {
+        [front @ .., b'\r'] => front,
+        _ => line,
+    }
+}
+
+fn finish(reading: Reading, count: u32) -> Result<Kernel, KernelFault>
+    requires good { IsReading reading }
+    requires few { count < 2 ^ 31 }
+    ensures { Finishes (begun_of reading) count result }
+{
+    let Reading {
+        name,
+        images,
+        names,
+        defs,
+        out,
+    } = reading;
+    match (name, out) {
+        (Some(name), Some((out_ty, out))) => Ok(Kernel::new(name, images, names, defs, out_ty, out)),
+        _ => Err(KernelFault::Syntax {
+            line: count + 1,
+            column: 1,
+        }),
+    }
 }

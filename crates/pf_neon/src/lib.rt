@@ -12,3 +12,5 @@ pub use op::{Form, Lanes, Mnemonic, Op};
 
 #[cfg(test)]
 mod tests;
+#[cfg(test)]
+mod text_tests;

@@ -1,7 +1,6 @@
 -- What a run leaves of the memory: every region where it was and as long, and those that may not be written as they were.
-use Rattle.std.proofs.Common.{◌≡◌, ℕ, zero, suc, ◌+◌, ◌-◌, ◌*◌, ◌<◌, ◌≤◌, List, [], ◌∷◌, ◌++◌, length, take, drop, set, get_or, Bool, true, false, ◌&&◌, Option, Some, None, refl, sym, ap, subst, ◌∙◌, arith, length-append, length-take, length-drop}
-use Rattle.std.specs.Prelude.{slice_get, if◌then◌else◌}
-use Rattle.std.specs.Option.{option_map}
+use Rattle.std.proofs.Common.{◌≡◌, ℕ, zero, suc, ◌+◌, ◌*◌, ◌<◌, ◌≤◌, List, [], ◌∷◌, length, set, get_or, Bool, true, false, ◌&&◌, Option, Some, None, refl, sym, subst, ◌∙◌, arith, length-append, length-take, length-drop}
+use Rattle.std.specs.Prelude.{slice_get}
 use Rattle.std.proofs.lemmas.Bool.Decides.{nat_tests}
 use Rattle.std.proofs.lemmas.List.Quantifiers.{position-Some}
 use Rattle.pf_ints.specs.declared.target.Target.{Target}
@@ -13,9 +12,9 @@ use Rattle.pf_isa.specs.declared.code.Line.{Line}
 use Rattle.pf_isa.specs.declared.code.Line.TheVariants.{Vector, Control as Controls}
 use Rattle.pf_isa.specs.declared.code.Label.{Label}
 use Rattle.pf_isa.specs.Bytes.{bytes}
-use Rattle.pf_isa.specs.Memory.{holds, writable, loaded, stored, nowhere, with_bytes}
+use Rattle.pf_isa.specs.Memory.{holds, writable, stored, nowhere, with_bytes}
 use Rattle.pf_isa.specs.Tables.{Table}
-use Rattle.pf_isa.specs.Steps.{State, Outcome, Moved, Returned, Trapped, End, Ended, Stopped, Spent, follow, run, step, at_line, line_step, by_access, access_step, control_step, at_address, with_regions, general_of, pointer_bytes, wrapped}
+use Rattle.pf_isa.specs.Steps.{State, Outcome, Moved, Returned, Trapped, Ended, follow, run, step, at_line, by_access, access_step, control_step, at_address, general_of, pointer_bytes, wrapped}
 
 -- the region lies where it lay, and keeps its bytes where it may not be written
 pub record Alike (r q : Region) : Type 0 where

@@ -6,3 +6,5 @@ pub mod PixelLaws
 pub mod ReadyLaws
 pub mod ProgramLaws
 pub mod TextLengths
+pub mod EvalLaws
+pub mod EvalRows

@@ -1,5 +1,5 @@
 -- Pixels and their bytes in memory.
-use Rattle.std.proofs.Common.{◌≡◌, ℕ, suc, ◌+◌, ◌*◌, ◌/◌, ◌%◌, ◌^◌, ◌<◌, ◌≤◌, List, [], ◌∷◌, ◌++◌, length, take, get_or, All, false, refl, sym, ap, subst, ◌∙◌, arith, append-nil, append_assoc}
+use Rattle.std.proofs.Common.{◌≡◌, ℕ, suc, ◌+◌, ◌*◌, ◌/◌, ◌%◌, ◌^◌, ◌<◌, ◌≤◌, List, [], ◌∷◌, ◌++◌, length, take, get_or, All, false, refl, sym, ap, ◌∙◌, arith, append_assoc}
 use Rattle.std.specs.Prelude.{pos, Bool}
 use Rattle.std.proofs.lemmas.Int.{ints}
 use Rattle.std.proofs.lemmas.List.{take_more}
@@ -11,7 +11,7 @@ use Rattle.pf_ints.specs.Lanes.{lane_width, bit_count, IsIn}
 use Rattle.pf_ints.specs.Images.{IsPixelType, IsPicture}
 use Rattle.pf_isa.specs.Bytes.{bytes, packed}
 use Rattle.pf_isa.specs.Runs.{pixel_bytes, pixels_in_memory}
-use Rattle.pf_isa.proofs.ByteLaws.{bytes_one, packed-append, length-packed, packed_below}
+use Rattle.pf_isa.proofs.ByteLaws.{packed-append, length-packed}
 
 -- pixels of one byte are their bytes
 pub packed_one : (bs : List ℕ) → ((i : ℕ) → get_or bs i 0 < 256) → packed 1 bs ≡ bs

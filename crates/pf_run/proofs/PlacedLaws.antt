@@ -1,10 +1,10 @@
 -- The regions of a run are placed as a program's regions are to be.
-use Rattle.std.proofs.Common.{◌≡◌, ℕ, zero, suc, ◌+◌, ◌*◌, ◌/◌, ◌%◌, ◌^◌, ◌<◌, ◌≤◌, List, [], ◌∷◌, ◌++◌, length, map, All, true, false, inl, inr, refl, sym, ap, subst, ◌∙◌, arith, append-nil}
+use Rattle.std.proofs.Common.{◌≡◌, ℕ, suc, ◌+◌, ◌*◌, ◌/◌, ◌%◌, ◌^◌, ◌<◌, ◌≤◌, List, [], ◌∷◌, ◌++◌, length, map, All, true, inl, refl, sym, ap, ◌∙◌, arith, append-nil}
 use Rattle.std.specs.Prelude.{ℤ, pos, ◌-ℤ◌, ◌≤ℤ◌, zip, replicate, unsigned_abs}
 use Rattle.std.specs.List.{AllPairs}
 use Rattle.std.proofs.lemmas.Int.{ints, int_min_is, int_max_is}
 use Rattle.std.proofs.lemmas.Nat.{mul-le}
-use Rattle.std.proofs.lemmas.List.{length-replicate, length-map}
+use Rattle.std.proofs.lemmas.List.{length-replicate}
 use Rattle.std.proofs.lemmas.List.Elements.{All-nil, All-cons, All-head, All-tail, All-weaker}
 use Rattle.std.proofs.lemmas.List.Kept.{AllPairs-cons}
 use Rattle.pf_ints.specs.Images.{Picture, IsPicture, IsPixelType}
@@ -13,13 +13,12 @@ use Rattle.pf_ints.specs.declared.lane.LaneType.{LaneType}
 use Rattle.pf_ints.specs.declared.lane.Bits.{Bits}
 use Rattle.pf_ints.specs.declared.lane.Bits.TheVariants.{Eight, Sixteen, ThirtyTwo}
 use Rattle.pf_terms.specs.declared.names.Tap.{Tap}
-use Rattle.pf_terms.specs.declared.kernel.ImageDecl.{ImageDecl}
-use Rattle.pf_terms.specs.Kernels.{Keeps, lowest, highest, left_reach, right_reach, up_reach, down_reach, width_of, height_of, out_width, out_height}
+use Rattle.pf_terms.specs.Kernels.{lowest, highest, left_reach, right_reach, up_reach, down_reach, width_of, height_of, out_width, out_height}
 use Rattle.pf_isa.specs.declared.program.Head.{Head}
 use Rattle.pf_isa.specs.declared.memory.Region.{Region}
 use Rattle.pf_isa.specs.Memory.{Apart}
 use Rattle.pf_isa.specs.Heads.{IsHead}
-use Rattle.pf_isa.specs.Runs.{Places, IsPlaced, IsAligned, pixel_bytes, pixels_in_memory, region, image_regions, memory, columns, rows, table_size, output_size}
+use Rattle.pf_isa.specs.Runs.{IsPlaced, IsAligned, pixel_bytes, pixels_in_memory, region, image_regions, memory, columns, rows, table_size, output_size}
 use Rattle.pf_isa.proofs.ByteLaws.{length-packed}
 use Rattle.pf_run.specs.declared.reach.Axis.{Axis}
 use Rattle.pf_run.specs.Reach.{offset_along, least_offset, greatest_offset, extent}

@@ -1,26 +1,24 @@
 -- What a run of a program answers, by its rows.
-use Rattle.std.proofs.Common.{◌≡◌, ℕ, zero, suc, ◌+◌, ◌*◌, ◌<◌, ◌≤◌, List, [], ◌∷◌, ◌++◌, length, get_or, All, true, Result, Ok, Err, refl, sym, ap, subst, ◌∙◌, arith}
-use Rattle.std.specs.Prelude.{slice_index_or}
+use Rattle.std.proofs.Common.{◌≡◌, ℕ, zero, suc, ◌+◌, ◌≤◌, List, length, get_or, true, Ok, Err, refl, sym, ap, subst, ◌∙◌, arith}
 use Rattle.std.proofs.lemmas.List.{length-replicate}
 use Rattle.pf_ints.specs.Images.{Picture, IsPixelType}
 use Rattle.pf_isa.specs.declared.memory.Region.{Region}
-use Rattle.pf_isa.specs.Bytes.{packed}
 use Rattle.pf_isa.specs.Heads.{IsHead}
 use Rattle.pf_isa.specs.Machines.{IsMemory}
 use Rattle.pf_isa.specs.Memory.{nowhere}
 use Rattle.pf_isa.specs.Programs.{Text}
 use Rattle.pf_isa.specs.Steps.{State, End, Ended, Stopped, Spent}
 use Rattle.pf_isa.specs.Tables.{Table}
-use Rattle.pf_isa.specs.Runs.{RunEnd, Finished, Failed, Leaves, then_rows, rows_from, memory, region, image_regions, pixel_bytes, pixels_in_memory, columns, rows, row_budget, output_size}
+use Rattle.pf_isa.specs.Runs.{Finished, then_rows, rows_from, memory, region, pixels_in_memory, rows}
 use Rattle.pf_isa.proofs.MemoryLaws.{memory-output, output_place, length-memory, length-image_regions}
 use Rattle.pf_run.specs.declared.fault.RunFault.{RunFault}
 use Rattle.pf_run.specs.declared.fault.RunFault.TheVariants.{Text as TextAt, Set, Outside, Spent as Overspent, Memory}
 use Rattle.pf_run.specs.declared.plan.Plan.{Plan}
-use Rattle.pf_run.specs.Answers.{IsReady, IsOutput, Ran, run_end}
-use Rattle.pf_run.specs.Placement.{run_places, blank_memory, blank_scratch}
-use Rattle.pf_run.specs.Rows.{HasOutputAt, IsPlan, IsPlanOf, RowsAnswer}
+use Rattle.pf_run.specs.Answers.{IsReady, Ran, run_end}
+use Rattle.pf_run.specs.Placement.{run_places, blank_memory}
+use Rattle.pf_run.specs.Rows.{HasOutputAt, IsPlanOf, RowsAnswer}
 use Rattle.pf_run.specs.Sets.{KeepsAll}
-use Rattle.pf_run.proofs.ReadyLaws.{Ready, ready}
+use Rattle.pf_run.proofs.ReadyLaws.{ready}
 use Rattle.pf_run.proofs.RowLaws.{Held, blank_held, kept_by_row, row_end, entries, budget}
 
 module _ {I O : Type 0} (t : Table O) (p : Text I O) (pictures : List Picture) where

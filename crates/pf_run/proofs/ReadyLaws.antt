@@ -1,5 +1,5 @@
 -- Images that are such as a program asks for, and what follows of their sizes.
-use Rattle.std.proofs.Common.{◌≡◌, ℕ, ◌+◌, ◌*◌, ◌<◌, ◌≤◌, ◌^◌, List, [], ◌∷◌, ◌++◌, length, get_or, map, All, refl, sym, ap, subst, ◌∙◌, arith}
+use Rattle.std.proofs.Common.{◌≡◌, ◌*◌, ◌<◌, ◌≤◌, ◌^◌, List, [], ◌∷◌, length, All, refl, sym, ap, subst, ◌∙◌, arith}
 use Rattle.std.specs.Prelude.{pos, ◌≤ℤ◌, unsigned_abs}
 use Rattle.std.proofs.lemmas.Int.{ints}
 use Rattle.std.proofs.lemmas.Nat.{mul-le}
@@ -12,7 +12,7 @@ use Rattle.pf_terms.specs.declared.names.Tap.{Tap}
 use Rattle.pf_terms.specs.Kernels.{Source, Keeps, no_picture, left_reach, up_reach, width_of, height_of, out_width, out_height}
 use Rattle.pf_isa.specs.declared.program.Head.{Head}
 use Rattle.pf_isa.specs.Heads.{IsHead, IsTap}
-use Rattle.pf_isa.specs.Runs.{Places, IsPlaced, columns, rows, output_size}
+use Rattle.pf_isa.specs.Runs.{Places, IsPlaced, columns, rows}
 use Rattle.pf_run.specs.declared.plan.Plan.{Plan}
 use Rattle.pf_run.specs.Rows.{IsPlan}
 use Rattle.pf_run.specs.Placement.{places_of, run_places, blank_scratch, blank_output}
@@ -38,12 +38,12 @@ pub record Ready (h : Head) (pictures : List Picture) : Type 0 where
   pub places : IsPlaced h pictures (run_places h pictures) (blank_scratch h) (blank_output h pictures)
 
 -- the size of the first
-record SmallFirst (pictures : List Picture) : Type 0 where
-  wide : width_of pictures ≤ 8192
-  high : height_of pictures ≤ 8192
-  most : width_of pictures * height_of pictures ≤ 16777216
+pub record SmallFirst (pictures : List Picture) : Type 0 where
+  pub wide : width_of pictures ≤ 8192
+  pub high : height_of pictures ≤ 8192
+  pub most : width_of pictures * height_of pictures ≤ 16777216
 
-small_first : (pictures : List Picture) → All IsPicture pictures → SmallFirst pictures
+pub small_first : (pictures : List Picture) → All IsPicture pictures → SmallFirst pictures
 small_first [] are = record { wide = omega arith; high = omega arith; most = omega arith }
 small_first (p ∷ ps) are = let is = All-head IsPicture p ps are in record { wide = is.most_wide; high = is.most_high; most = is.most }
 

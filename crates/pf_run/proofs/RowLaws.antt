@@ -1,8 +1,7 @@
 -- The rows of a run, one by one: what each finds in memory and leaves there.
-use Rattle.std.proofs.Common.{◌≡◌, ℕ, zero, suc, ◌+◌, ◌-◌, ◌*◌, ◌<◌, ◌≤◌, List, [], ◌∷◌, ◌++◌, length, get_or, set, All, Bool, true, false, ◌&&◌, ◌==◌, ltb, Some, None, Result, Ok, Err, refl, sym, ap, subst, ◌∙◌, arith, eq-eqb, length-append}
-use Rattle.std.specs.Prelude.{replicate, IsTrue}
+use Rattle.std.proofs.Common.{◌≡◌, ℕ, suc, ◌+◌, ◌-◌, ◌*◌, ◌<◌, ◌≤◌, List, [], ◌∷◌, ◌++◌, length, Bool, true, false, ◌==◌, ltb, Some, None, Result, Ok, Err, refl, sym, ap, subst, ◌∙◌, arith, eq-eqb, length-append}
+use Rattle.std.specs.Prelude.{replicate}
 use Rattle.std.specs.List.{position}
-use Rattle.std.specs.Option.{is_some}
 use Rattle.std.proofs.lemmas.Bool.{and_from, cond-true, lt-ltb}
 use Rattle.std.proofs.lemmas.List.{length-replicate, length-map}
 use Rattle.pf_ints.specs.Images.{Picture}
@@ -13,15 +12,15 @@ use Rattle.pf_isa.specs.Tables.{Table}
 use Rattle.pf_isa.specs.Programs.{Text}
 use Rattle.pf_isa.specs.Steps.{State, End, Ended, Stopped, Spent, run, started}
 use Rattle.pf_isa.specs.Machines.{HasTable, is_table, with_entries}
-use Rattle.pf_isa.specs.Runs.{Places, RunEnd, Finished, Failed, then_rows, rows_from, with_table, region, pixels_in_memory, image_regions, memory, row_entries, row_budget, columns, rows, table_size, output_size, IsPlaced}
+use Rattle.pf_isa.specs.Runs.{Places, RunEnd, then_rows, rows_from, with_table, region, pixels_in_memory, image_regions, memory, row_entries, row_budget, columns, rows, table_size, output_size}
 use Rattle.pf_isa.proofs.ByteLaws.{length-packed}
 use Rattle.pf_run.specs.declared.fault.RunFault.{RunFault}
-use Rattle.pf_run.specs.declared.fault.RunFault.TheVariants.{Set, Outside, Spent as Overspent, Memory}
+use Rattle.pf_run.specs.declared.fault.RunFault.TheVariants.{Outside, Spent as Overspent}
 use Rattle.pf_run.specs.declared.plan.Plan.{Plan}
 use Rattle.pf_run.specs.Placement.{run_places, places_of, blank_memory, blank_scratch, blank_output}
 use Rattle.pf_run.specs.Answers.{run_end}
-use Rattle.pf_run.specs.Rows.{RowAnswers, RowsAnswer, IsPlan, IsPlanOf, entries_of}
-use Rattle.pf_run.proofs.KeptLaws.{Alike, AllAlike, run_keeps}
+use Rattle.pf_run.specs.Rows.{RowAnswers, RowsAnswer, IsPlanOf, entries_of}
+use Rattle.pf_run.proofs.KeptLaws.{AllAlike, run_keeps}
 
 -- memory of a run, whatever its table, its scratch and its output hold
 pub record Held (h : Head) (pictures : List Picture) (at : Places) (rs : List Region) : Type 0 where

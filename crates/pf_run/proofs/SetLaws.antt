@@ -1,13 +1,13 @@
 -- What the faults of a set of images say of the images.
-use Rattle.std.proofs.Common.{◌≡◌, ◌≢◌, ℕ, ◌+◌, ◌-◌, ◌*◌, ◌/◌, ◌%◌, ◌<◌, ◌≤◌, List, [], ◌∷◌, length, take, drop, get_or, All, Option, Some, None, MatchOption, inl, inr, ◌⊎◌, ⊎_elim, refl, sym, ap, subst, ◌∙◌, arith}
+use Rattle.std.proofs.Common.{◌≡◌, ◌≢◌, ℕ, ◌+◌, ◌-◌, ◌*◌, ◌/◌, ◌%◌, ◌<◌, ◌≤◌, List, [], ◌∷◌, length, take, drop, get_or, All, Option, Some, None, MatchOption, inr, ⊎_elim, sym, ap, subst, ◌∙◌, arith}
 use Rattle.std.specs.Prelude.{pos, zip, ◌≤ℤ◌}
 use Rattle.std.proofs.lemmas.Nat.{div_below, column_fits}
 use Rattle.std.proofs.lemmas.List.{take_all}
 use Rattle.std.proofs.lemmas.List.Elements.{All-nil, All-cons, All-head, All-tail, All-get_or, All-more, All-weaker}
-use Rattle.pf_ints.specs.Images.{Picture, IsPicture, pixel}
+use Rattle.pf_ints.specs.Images.{Picture, IsPicture}
 use Rattle.pf_terms.specs.declared.kernel.ImageDecl.{ImageDecl}
 use Rattle.pf_terms.specs.declared.names.Tap.{Tap}
-use Rattle.pf_terms.specs.Kernels.{Source, Keeps, KeepsRange, width_of, height_of, out_width, out_height}
+use Rattle.pf_terms.specs.Kernels.{KeepsRange, width_of, height_of, out_width, out_height}
 use Rattle.pf_run.specs.declared.fault.SetFault.{SetFault}
 use Rattle.pf_run.specs.declared.fault.SetFault.TheVariants.{Count, Kind, Size, Pixel, NoOutput}
 use Rattle.pf_run.specs.Sets.{AllSuit, HasOutput, IsFirstFault, IsFirstOutside, IsImageFault, IsInRange, IsSetFault, KeepsAll, KeepsNone, Suits}

@@ -1,5 +1,5 @@
 -- What an evaluation of a kernel on images answers.
-use Rattle.std.specs.Prelude.{◌≡◌, List, Result, Ok, Err}
+use Rattle.std.specs.Prelude.{List, Result, Ok, Err}
 use Rattle.pf_ints.specs.Images.{Picture}
 use Rattle.pf_terms.specs.Kernels.{Source, Keeps, Out}
 use Rattle.pf_run.specs.declared.fault.EvalFault.{EvalFault}

@@ -4,3 +4,4 @@ pub mod Placement
 pub mod Answers
 pub mod Rows
 pub mod Evaluations
+pub mod Pixels

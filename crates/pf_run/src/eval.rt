@@ -1,17 +1,191 @@
 //! Kernels, evaluated on images.
 
+ghost use Rattle.std.specs.Prelude.{◌≡◌, ◌++◌, ◌<◌, ◌≤◌, ◌≤ℤ◌, ℕ, [], pos, map, unsigned_abs, All, IfOk, OnOk};
+ghost use Rattle.pf_ints.specs.Lanes.{IsIn};
+ghost use Rattle.pf_isa.specs.RowEnds.{image_values, row_values};
+ghost use Rattle.pf_kernel.specs.Kernels.{def_name, names_of};
+ghost use Rattle.pf_terms.specs.Kernels.{Keeps, Out, def_values, out_value, tap_value, tap_values};
 ghost use Rattle.pf_run.specs.Evaluations.{Evaluated};
+ghost use Rattle.pf_run.specs.Pixels.{AreDefs, AreTaps, IsReach, LiesInside, out_number};
 
 use crate::fault::EvalFault;
-use pf_ints::{Image, ImageSet};
+use crate::reach::{Axis, distance, least_offset, pixel_number, side};
+use crate::set::{judge_set, size_of};
+use pf_ints::{Image, ImageSet, Memory, NumberList, Sequence};
 use pf_kernel::Kernel;
+use pf_terms::{Env, Tap, value};
 use std::alloc::Global;
+use std::mem;
 
-/// The kernel's output on the images: each pixel is the value of the output's term there.
-pub fn eval_images(_alloc: Global, kernel: &Kernel, images: &ImageSet) -> Result<Image, EvalFault>
+/// How far the taps of a kernel reach, and the size of its output.
+#[derive(Clone, Copy, Debug)]
+pub struct Reach {
+    /// The least of 0 and all offsets along a row.
+    pub left: i16,
+    /// The least of 0 and all offsets along a column.
+    pub up: i16,
+    pub columns: u32,
+    pub rows: u32,
+}
+
+/// The room of a list that is filled anew.
+fn emptied(alloc: Global, numbers: &mut NumberList) -> Vec<i128>
+    ensures { result.items ≡ [] }
+{
+    let mut room = mem::replace(numbers, Sequence::new(alloc)).into_vec();
+    room.clear();
+    room
+}
+
+/// The tap's number at an output pixel.
+fn tap_number(taps: &[Tap], images: &[Image], reach: Reach, x: u32, y: u32, tap: &Tap) -> i128
+    requires reach { IsReach taps.now images.now reach }
+    requires inside { LiesInside taps.now images.now x y tap.now }
+    requires column { x ≤ 8192 }
+    requires row { y ≤ 8192 }
+    ensures { result ≡ tap_value taps.now images.now x y tap.now }
+{
+    let image = &images[usize::from(tap.image)];
+    let column = distance(x, reach.left, tap.dx);
+    let row = distance(y, reach.up, tap.dy);
+    let n = pixel_number(image.width(), row, column) as usize;
+    i128::from(image.pixels()[n])
+}
+
+/// Puts the taps' numbers at an output pixel into the environment.
+fn fill_taps(
+    alloc: Global,
+    taps: &[Tap],
+    images: &[Image],
+    reach: Reach,
+    x: u32,
+    y: u32,
+    env: &mut Env,
+) -> Result<(), Memory>
+    requires reach { IsReach taps.now images.now reach }
+    requires inside { All (LiesInside taps.now images.now x y) taps.now }
+    requires column { x ≤ 8192 }
+    requires row { y ≤ 8192 }
+    ensures { OnOk result (env.new.taps ≡ tap_values taps.now images.now x y) }
+{
+    let mut numbers = emptied(alloc, &mut env.taps);
+    'taps: for tap in taps {
+        numbers.push(tap_number(taps, images, reach, x, y, tap))?;
+    }
+    env.taps = Sequence::from_vec(numbers);
+    Ok(())
+}
+
+/// Puts the definitions' values into the environment, which has the taps' numbers.
+fn fill_defs(alloc: Global, kernel: &Kernel, env: &mut Env) -> Result<(), Memory>
+    requires { AreTaps (names_of kernel.now.source).images kernel.now.source.taps env.old.taps }
+    ensures taps { env.new.taps ≡ env.old.taps }
+    ensures defs { OnOk result (env.new.defs ≡ def_values env.old.taps [] kernel.now.source.defs) }
+    ensures each { OnOk result (AreDefs (map def_name kernel.now.source.defs) env.new.defs) }
+{
+    let _names = kernel.names();
+    env.defs = Sequence::from_vec(emptied(alloc, &mut env.defs));
+    let defs = kernel.defs().as_slice();
+    'defs: for def in defs {
+        let number = value(&def.term, env);
+        env.defs.push(number)?;
+    }
+    Ok(())
+}
+
+/// The output's number at a pixel.
+fn pixel(
+    alloc: Global,
+    kernel: &Kernel,
+    images: &[Image],
+    reach: Reach,
+    x: u32,
+    y: u32,
+    env: &mut Env,
+) -> Result<u16, Memory>
+    requires keeps { Keeps kernel.now.source images.now }
+    requires reach { IsReach kernel.now.source.taps images.now reach }
+    requires column { x < reach.columns }
+    requires row { y < reach.rows }
+    ensures value { IfOk result (λ n. pos n ≡ out_value kernel.now.source images.now x y) }
+    ensures member { IfOk result (λ n. IsIn kernel.now.source.out_ty (pos n)) }
+{
+    let taps = kernel.names().taps.as_slice();
+    fill_taps(alloc, taps, images, reach, x, y, env)?;
+    fill_defs(alloc, kernel, env)?;
+    Ok(value(kernel.out(), env) as u16)
+}
+
+/// Appends a row of the output.
+fn push_row(
+    alloc: Global,
+    kernel: &Kernel,
+    images: &[Image],
+    reach: Reach,
+    y: u32,
+    env: &mut Env,
+    pixels: &mut Vec<u16>,
+) -> Result<(), Memory>
+    requires keeps { Keeps kernel.now.source images.now }
+    requires reach { IsReach kernel.now.source.taps images.now reach }
+    requires row { y < reach.rows }
+    ensures values { OnOk result (pixels.new.items ≡ pixels.old.items ++ row_values (out_number kernel.now.source images.now) reach.columns y) }
+    ensures positive { OnOk result ((x : ℕ) → x < reach.columns → pos 0 ≤ℤ out_value kernel.now.source images.now x y) }
+    ensures members { OnOk result (All (λ n. IsIn kernel.now.source.out_ty (pos n)) pixels.old.items → All (λ n. IsIn kernel.now.source.out_ty (pos n)) pixels.new.items) }
+{
+    'columns: for x in 0..reach.columns {
+        pixels.push(pixel(alloc, kernel, images, reach, x, y, env)?)?;
+    }
+    Ok(())
+}
+
+/// The reach of the taps on images that are such as the kernel asks for.
+fn reach_of(kernel: &Kernel, images: &[Image]) -> Reach
+    requires { Keeps kernel.now.source images.now }
+    ensures { IsReach kernel.now.source.taps images.now result }
+{
+    let taps = kernel.names().taps.as_slice();
+    let (width, height) = size_of(images);
+    let columns = side(Axis::Columns, taps, width);
+    let rows = side(Axis::Rows, taps, height);
+    let left = least_offset(Axis::Columns, taps);
+    let up = least_offset(Axis::Rows, taps);
+    Reach {
+        left,
+        up,
+        columns,
+        rows,
+    }
+}
+
+/// The kernel's output on images that are such as it asks for.
+fn eval_kept(alloc: Global, kernel: &Kernel, images: &[Image]) -> Result<Image, Memory>
+    requires { Keeps kernel.now.source images.now }
+    ensures { IfOk result (λ o. Out kernel.now.source images.now o) }
+{
+    let _names = kernel.names();
+    let reach = reach_of(kernel, images);
+    let mut env = Env {
+        taps: Sequence::new(alloc),
+        defs: Sequence::new(alloc),
+    };
+    let mut pixels = Vec::with_capacity(alloc, reach.columns as usize * reach.rows as usize)?;
+    'rows: for y in 0..reach.rows {
+        push_row(alloc, kernel, images, reach, y, &mut env, &mut pixels)?;
+    }
+    let pixels = Sequence::from_vec(pixels);
+    Ok(Image::new(reach.columns, reach.rows, kernel.out_ty(), pixels))
+}
+
+/// The kernel's output on the images: each pixel is the value of the output's term there. The taps
+/// stand for the pixels of the images at their offsets, and a definition's name for the value of its
+/// term.
+pub fn eval_images(alloc: Global, kernel: &Kernel, images: &ImageSet) -> Result<Image, EvalFault>
     ensures { Evaluated kernel.now.source images.now result }
 {
-    let _kernel = kernel;
-    let _images = images;
-    Err(EvalFault::Memory)
+    let taps = kernel.names().taps.as_slice();
+    if let Some(fault) = judge_set(kernel.images().as_slice(), taps, images) {
+        return Err(EvalFault::Set(fault));
+    }
+    Ok(eval_kept(alloc, kernel, images.as_slice())?)
 }

@@ -1,4 +1,4 @@
-//! Running programs on images, and what is wrong with a set of images.
+//! Runs of programs on images, evaluations of kernels on images, and what is wrong with a set of images.
 #![tactic(auto)]
 
 mod eval;
@@ -17,3 +17,6 @@ pub use fault::{EvalFault, RunFault, SetFault};
 pub use program::run_program;
 pub use set::judge_set;
 pub use text::run_images;
+
+#[cfg(test)]
+mod tests;

@@ -1,18 +1,17 @@
 //! What is settled of a run before its first row.
 
-ghost use Rattle.std.specs.Prelude.{◌≡◌, ◌<◌, ◌≤◌, ◌≤ℤ◌, ◌^◌, pos, unsigned_abs, length, IfOk};
+ghost use Rattle.std.specs.Prelude.{◌≡◌, ◌<◌, ◌≤◌, ◌^◌, length, IfOk};
 ghost use Rattle.pf_isa.specs.Heads.{IsHead};
 ghost use Rattle.pf_isa.specs.Runs.{row_budget};
-ghost use Rattle.pf_run.specs.Reach.{extent};
 ghost use Rattle.pf_run.specs.Rows.{IsPlan, IsPlanOf};
 ghost use Rattle.pf_run.specs.Sets.{KeepsAll};
 
 use crate::places::{Starts, run_starts};
-use crate::reach::{Axis, extent, least_offset};
+use crate::reach::{Axis, least_offset, side};
 use crate::set::size_of;
 use pf_ints::{Duplicate, Image, LaneType, Memory};
 use pf_isa::Head;
-use pf_terms::{Tap, TapList};
+use pf_terms::TapList;
 use std::alloc::Global;
 
 /// What the rows of a run have in common.
@@ -43,16 +42,6 @@ pub fn row_budget(instructions: u64, taps: u64, pixels: u64) -> u64
     ensures { result ≡ row_budget instructions taps pixels }
 {
     (instructions + 1) * (pixels + 8) + 4096 * (taps + 2)
-}
-
-/// The pixels of the output in this direction, on images of so many.
-fn side(axis: Axis, taps: &[Tap], size: u32) -> u32
-    requires some { pos 1 ≤ℤ extent axis taps.now size }
-    requires most { size ≤ 8192 }
-    ensures value { result ≡ unsigned_abs (extent axis taps.now size) }
-    ensures most { result ≤ 8192 }
-{
-    extent(axis, taps, size).unsigned_abs() as u32
 }
 
 /// The plan of the rows of a program of this head and so many instructions, on these images.

@@ -1,6 +1,6 @@
 //! How far the taps of a kernel reach along the rows and the columns of its images.
 
-ghost use Rattle.std.specs.Prelude.{◌≡◌};
+ghost use Rattle.std.specs.Prelude.{◌≡◌, ◌+◌, ◌*◌, ◌<◌, ◌≤◌, ◌^◌, ◌+ℤ◌, ◌-ℤ◌, ◌≤ℤ◌, pos, unsigned_abs};
 ghost use Rattle.pf_run.specs.Reach.{offset_along, least_offset, greatest_offset, extent};
 
 use pf_terms::Tap;
@@ -49,4 +49,32 @@ pub fn extent(axis: Axis, taps: &[Tap], size: u32) -> i64
 {
     let reach = i64::from(greatest_offset(axis, taps)) - i64::from(least_offset(axis, taps));
     i64::from(size) - reach
+}
+
+/// How far a tap of this offset lies from the first pixel of an image, so many pixels on, where
+/// `least` is the least of 0 and all offsets.
+pub fn distance(from: u32, least: i16, offset: i16) -> u32
+    requires { from ≤ 8192 }
+    ensures { result ≡ unsigned_abs ((pos from -ℤ least) +ℤ offset) }
+{
+    (i64::from(from) - i64::from(least) + i64::from(offset)).unsigned_abs() as u32
+}
+
+/// The number of the pixel in this row and column of an image.
+pub fn pixel_number(width: u32, row: u32, column: u32) -> u64
+    requires { width ≤ 8192 }
+    ensures value { result ≡ width * row + column }
+    ensures small { result < 2 ^ 48 }
+{
+    u64::from(width) * u64::from(row) + u64::from(column)
+}
+
+/// The pixels of the output in this direction, on images of so many.
+pub fn side(axis: Axis, taps: &[Tap], size: u32) -> u32
+    requires some { pos 1 ≤ℤ extent axis taps.now size }
+    requires most { size ≤ 8192 }
+    ensures value { result ≡ unsigned_abs (extent axis taps.now size) }
+    ensures most { result ≤ 8192 }
+{
+    extent(axis, taps, size).unsigned_abs() as u32
 }

@@ -11,28 +11,11 @@ ghost use Rattle.pf_run.specs.Rows.{IsPlan, IsPlanOf, RowAnswers, RowsAnswer, en
 use crate::fault::RunFault;
 use crate::places::{TABLE, pixel_bytes};
 use crate::plan::Plan;
+use crate::reach::{distance, pixel_number};
 use pf_ints::{Image, Memory};
 use pf_isa::{Isa, Machine, Trap};
 use pf_terms::Tap;
 use std::alloc::Global;
-
-/// How far a tap of this offset lies from the first pixel of an image, so many pixels on, where
-/// `least` is the least of 0 and all offsets.
-fn distance(from: u32, least: i16, offset: i16) -> u32
-    requires { from ≤ 8192 }
-    ensures { result ≡ unsigned_abs ((pos from -ℤ least) +ℤ offset) }
-{
-    (i64::from(from) - i64::from(least) + i64::from(offset)).unsigned_abs() as u32
-}
-
-/// The number of the pixel in this row and column of an image.
-fn pixel_number(width: u32, row: u32, column: u32) -> u64
-    requires { width ≤ 8192 }
-    ensures value { result ≡ width * row + column }
-    ensures small { result < 2 ^ 48 }
-{
-    u64::from(width) * u64::from(row) + u64::from(column)
-}
 
 /// The address of pixel n of an image that starts here, or of the output.
 fn pixel_address(start: u64, bytes: u64, n: u64) -> u64

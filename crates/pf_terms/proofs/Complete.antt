@@ -1,244 +1,183 @@
--- What is spelled is read from the left.
-use Rattle.std.proofs.Common.{◌≡◌, refl, sym, ap, ◌∙◌, Bool, true, List, [], ◌∷◌, ◌++◌, append_assoc, append-nil, ℤ}
-use Rattle.std.specs.Prelude.{None, if◌then◌else◌, Some}
+-- What is spelled is built.
+use Rattle.std.proofs.Common.{◌≡◌, refl, sym, ap, ◌∙◌, Bool, true, false, List, [], ◌∷◌, ◌++◌, ℕ, append_assoc, append-nil, ℤ, pos}
+use Rattle.std.specs.Prelude.{None, if◌then◌else◌, Option, Some, not, ◌&&◌}
 use Rattle.pf_terms.specs.declared.op.Op.{Op}
+use Rattle.pf_terms.specs.declared.op.Op.TheVariants.{Cast, Add, Sub, Mul, SelectGreater}
+use Rattle.pf_terms.specs.declared.op.Op.TheVariants.{ShiftLeft as ShiftLeftBy, ShiftRight as ShiftRightBy}
 use Rattle.pf_terms.specs.declared.draft.Draft.{Draft}
+use Rattle.pf_terms.specs.declared.draft.Draft.TheVariants.{Node}
 use Rattle.pf_terms.specs.declared.symbol.Symbol.{Symbol}
-use Rattle.pf_terms.specs.declared.symbol.Symbol.TheVariants.{Atom, Factors, Summands, Shifts, Offsets, Integer, Digits, TypeName, Comparison, Close as CloseSymbol, CloseSquare as CloseSquareSymbol, Comma as CommaSymbol}
+use Rattle.pf_terms.specs.declared.symbol.Symbol.TheVariants.{Atom, Factors, Summands, Shifts, Offsets, Column, Row, Digits, TypeName, Comparison, Open as OpenSymbol, Close as CloseSymbol, CloseSquare as CloseSquareSymbol, Comma as CommaSymbol, End}
 use Rattle.pf_terms.specs.declared.symbol.CallShape.{CallShape}
 use Rattle.pf_terms.specs.declared.symbol.CallShape.TheVariants.{One, Two, OneAndAmount, TwoAndAmount, TypeAndOne}
 use Rattle.pf_terms.specs.declared.token.Kind.{Kind}
-use Rattle.pf_terms.specs.declared.token.Kind.TheVariants.{Name, TypeWord, Number, Typed, Word, Choose, Line, Open, Close, OpenSquare, CloseSquare, Comma, Plus, Minus, Times, ShiftLeft, ShiftRight, Less, Greater, Same, Equals, Other}
-use Rattle.pf_terms.specs.Grammar.{call_shape, Rank, Atoms, Products, Sums, Whole, IsInteger, plain, minus, IsComparison, greater, less, same, Spells, number, negated, named, placed, bracketed, cast, one, two, one_by, two_by, typed, chosen, alone, product, term, sum, difference, unshifted, left, right, IsSpelled}
-use Rattle.pf_terms.specs.Parsing.{is_read, some_passes, whole_then, call_then, opened, choice_then}
+use Rattle.pf_terms.specs.declared.token.Kind.TheVariants.{TypeWord, Number, Word, Open, Close, CloseSquare, Comma, Plus, Minus, Times, ShiftLeft, ShiftRight}
+use Rattle.pf_terms.specs.declared.build.Head.{Head}
+use Rattle.pf_terms.specs.declared.build.Head.TheVariants.{Named as NamedHead, Placed as PlacedHead, Node as NodeHead}
+use Rattle.pf_terms.specs.declared.build.Frame.{Frame}
+use Rattle.pf_terms.specs.declared.build.Build.{Build}
+use Rattle.pf_terms.specs.Grammar.{call_shape, Rank, Atoms, Products, Sums, Whole, IsInteger, plain, minus, IsComparison, greater, less, same, Spells, number, negated, named, placed, bracketed, cast, one, two, one_by, two_by, typed, chosen, alone, product, term, sum, difference, unshifted, left, right}
+use Rattle.pf_terms.specs.Parsing.{run, then_on, followed, step, built, finished, passed, taken, passes, may_be_none, goes_on, after, whole, call_symbols, node_of, made, whole_frame}
 
--- what doesn't go on with an atom, with a product, with a sum
-abbrev IsAfterAtom : List Kind → Type 0
-IsAfterAtom [] = Unit {0}
-IsAfterAtom (OpenSquare ∷ _) = ⊥
-IsAfterAtom (_ ∷ _) = Unit {0}
+-- nothing is ready, or an expression is
+abbrev pub fresh : List Frame → Build
+fresh fs = record { frames = fs; ready = None }
 
-abbrev IsAfterProduct : List Kind → Type 0
-IsAfterProduct [] = Unit {0}
-IsAfterProduct (OpenSquare ∷ _) = ⊥
-IsAfterProduct (Times ∷ _) = ⊥
-IsAfterProduct (_ ∷ _) = Unit {0}
+abbrev pub holding : List Frame → Draft → Build
+holding fs e = record { frames = fs; ready = Some e }
 
-abbrev IsAfterSum : List Kind → Type 0
-IsAfterSum [] = Unit {0}
-IsAfterSum (OpenSquare ∷ _) = ⊥
-IsAfterSum (Times ∷ _) = ⊥
-IsAfterSum (Plus ∷ _) = ⊥
-IsAfterSum (Minus ∷ _) = ⊥
-IsAfterSum (_ ∷ _) = Unit {0}
+abbrev begun_with : Head → List Draft → Frame
+begun_with h args = record { head = h; args = args }
 
-atom_of_product : (rest : List Kind) → IsAfterProduct rest → IsAfterAtom rest
-atom_of_product [] h = tt
-atom_of_product ((Name w) ∷ rest) h = tt
-atom_of_product ((TypeWord t) ∷ rest) h = tt
-atom_of_product ((Number n) ∷ rest) h = tt
-atom_of_product ((Typed n t) ∷ rest) h = tt
-atom_of_product ((Word o) ∷ rest) h = tt
-atom_of_product (Choose ∷ rest) h = tt
-atom_of_product ((Line l) ∷ rest) h = tt
-atom_of_product (Open ∷ rest) h = tt
-atom_of_product (Close ∷ rest) h = tt
-atom_of_product (OpenSquare ∷ rest) h = absurd h
-atom_of_product (CloseSquare ∷ rest) h = tt
-atom_of_product (Comma ∷ rest) h = tt
-atom_of_product (Plus ∷ rest) h = tt
-atom_of_product (Minus ∷ rest) h = tt
-atom_of_product (Times ∷ rest) h = absurd h
-atom_of_product (ShiftLeft ∷ rest) h = tt
-atom_of_product (ShiftRight ∷ rest) h = tt
-atom_of_product (Less ∷ rest) h = tt
-atom_of_product (Greater ∷ rest) h = tt
-atom_of_product (Same ∷ rest) h = tt
-atom_of_product (Equals ∷ rest) h = tt
-atom_of_product (Other ∷ rest) h = tt
+-- the tokens don't go on with the symbol
+abbrev pub Stops : Symbol → List Kind → Type 0
+Stops x [] = Unit {0}
+Stops x (k ∷ _) = goes_on x k ≡ false
 
-product_of_sum : (rest : List Kind) → IsAfterSum rest → IsAfterProduct rest
-product_of_sum [] h = tt
-product_of_sum ((Name w) ∷ rest) h = tt
-product_of_sum ((TypeWord t) ∷ rest) h = tt
-product_of_sum ((Number n) ∷ rest) h = tt
-product_of_sum ((Typed n t) ∷ rest) h = tt
-product_of_sum ((Word o) ∷ rest) h = tt
-product_of_sum (Choose ∷ rest) h = tt
-product_of_sum ((Line l) ∷ rest) h = tt
-product_of_sum (Open ∷ rest) h = tt
-product_of_sum (Close ∷ rest) h = tt
-product_of_sum (OpenSquare ∷ rest) h = absurd h
-product_of_sum (CloseSquare ∷ rest) h = tt
-product_of_sum (Comma ∷ rest) h = tt
-product_of_sum (Plus ∷ rest) h = absurd h
-product_of_sum (Minus ∷ rest) h = absurd h
-product_of_sum (Times ∷ rest) h = absurd h
-product_of_sum (ShiftLeft ∷ rest) h = tt
-product_of_sum (ShiftRight ∷ rest) h = tt
-product_of_sum (Less ∷ rest) h = tt
-product_of_sum (Greater ∷ rest) h = tt
-product_of_sum (Same ∷ rest) h = tt
-product_of_sum (Equals ∷ rest) h = tt
-product_of_sum (Other ∷ rest) h = tt
+abbrev StopsProduct : List Kind → Type 0
+StopsProduct rest = Stops Offsets rest × Stops Factors rest
 
-skip_offsets : (rest : List Kind) (s : List Symbol) → IsAfterAtom rest → is_read rest (Offsets ∷ s) ≡ is_read rest s
-skip_offsets [] s h = refl
-skip_offsets ((Name w) ∷ rest) s h = refl
-skip_offsets ((TypeWord t) ∷ rest) s h = refl
-skip_offsets ((Number n) ∷ rest) s h = refl
-skip_offsets ((Typed n t) ∷ rest) s h = refl
-skip_offsets ((Word o) ∷ rest) s h = refl
-skip_offsets (Choose ∷ rest) s h = refl
-skip_offsets ((Line l) ∷ rest) s h = refl
-skip_offsets (Open ∷ rest) s h = refl
-skip_offsets (Close ∷ rest) s h = refl
-skip_offsets (OpenSquare ∷ rest) s h = absurd h
-skip_offsets (CloseSquare ∷ rest) s h = refl
-skip_offsets (Comma ∷ rest) s h = refl
-skip_offsets (Plus ∷ rest) s h = refl
-skip_offsets (Minus ∷ rest) s h = refl
-skip_offsets (Times ∷ rest) s h = refl
-skip_offsets (ShiftLeft ∷ rest) s h = refl
-skip_offsets (ShiftRight ∷ rest) s h = refl
-skip_offsets (Less ∷ rest) s h = refl
-skip_offsets (Greater ∷ rest) s h = refl
-skip_offsets (Same ∷ rest) s h = refl
-skip_offsets (Equals ∷ rest) s h = refl
-skip_offsets (Other ∷ rest) s h = refl
+abbrev StopsSum : List Kind → Type 0
+StopsSum rest = Stops Offsets rest × Stops Factors rest × Stops Summands rest
 
-skip_factors : (rest : List Kind) (s : List Symbol) → IsAfterProduct rest → is_read rest (Factors ∷ s) ≡ is_read rest s
-skip_factors [] s h = refl
-skip_factors ((Name w) ∷ rest) s h = refl
-skip_factors ((TypeWord t) ∷ rest) s h = refl
-skip_factors ((Number n) ∷ rest) s h = refl
-skip_factors ((Typed n t) ∷ rest) s h = refl
-skip_factors ((Word o) ∷ rest) s h = refl
-skip_factors (Choose ∷ rest) s h = refl
-skip_factors ((Line l) ∷ rest) s h = refl
-skip_factors (Open ∷ rest) s h = refl
-skip_factors (Close ∷ rest) s h = refl
-skip_factors (OpenSquare ∷ rest) s h = absurd h
-skip_factors (CloseSquare ∷ rest) s h = refl
-skip_factors (Comma ∷ rest) s h = refl
-skip_factors (Plus ∷ rest) s h = refl
-skip_factors (Minus ∷ rest) s h = refl
-skip_factors (Times ∷ rest) s h = absurd h
-skip_factors (ShiftLeft ∷ rest) s h = refl
-skip_factors (ShiftRight ∷ rest) s h = refl
-skip_factors (Less ∷ rest) s h = refl
-skip_factors (Greater ∷ rest) s h = refl
-skip_factors (Same ∷ rest) s h = refl
-skip_factors (Equals ∷ rest) s h = refl
-skip_factors (Other ∷ rest) s h = refl
+pub passes_by : (x : Symbol) (k : Kind) → may_be_none x ≡ true → goes_on x k ≡ false → passes x k ≡ true
+passes_by x k none stops = ap (λ m. m && not (goes_on x k)) none ∙ ap not stops
 
-skip_summands : (rest : List Kind) (s : List Symbol) → IsAfterSum rest → is_read rest (Summands ∷ s) ≡ is_read rest s
-skip_summands [] s h = refl
-skip_summands ((Name w) ∷ rest) s h = refl
-skip_summands ((TypeWord t) ∷ rest) s h = refl
-skip_summands ((Number n) ∷ rest) s h = refl
-skip_summands ((Typed n t) ∷ rest) s h = refl
-skip_summands ((Word o) ∷ rest) s h = refl
-skip_summands (Choose ∷ rest) s h = refl
-skip_summands ((Line l) ∷ rest) s h = refl
-skip_summands (Open ∷ rest) s h = refl
-skip_summands (Close ∷ rest) s h = refl
-skip_summands (OpenSquare ∷ rest) s h = absurd h
-skip_summands (CloseSquare ∷ rest) s h = refl
-skip_summands (Comma ∷ rest) s h = refl
-skip_summands (Plus ∷ rest) s h = absurd h
-skip_summands (Minus ∷ rest) s h = absurd h
-skip_summands (Times ∷ rest) s h = absurd h
-skip_summands (ShiftLeft ∷ rest) s h = refl
-skip_summands (ShiftRight ∷ rest) s h = refl
-skip_summands (Less ∷ rest) s h = refl
-skip_summands (Greater ∷ rest) s h = refl
-skip_summands (Same ∷ rest) s h = refl
-skip_summands (Equals ∷ rest) s h = refl
-skip_summands (Other ∷ rest) s h = refl
+pub skip : (x : Symbol) (rest : List Kind) (s : List Symbol) (b : Build) → may_be_none x ≡ true → Stops x rest → run rest (x ∷ s) b ≡ run rest s (passed x b)
+skip x [] s b none stops = ap (λ m. if m then finished s (passed x b) else None) none
+skip x (k ∷ rest) s b none stops =
+    ap (λ m. then_on (λ t. run rest t (if m then built s k (passed x b) else taken x k b)) (if m then step s k else followed s (after x k))) (passes_by x k none stops)
 
--- said of the tokens of each rank: they bring what is to come
-abbrev Reads : Rank → List Kind → Type 0
-Reads Atoms ks = (s : List Symbol) (rest : List Kind) → IsAfterAtom rest → is_read (ks ++ rest) (Atom ∷ s) ≡ is_read rest s
-Reads Products ks = (s : List Symbol) (rest : List Kind) → IsAfterAtom rest → is_read (ks ++ rest) (Atom ∷ Factors ∷ s) ≡ is_read rest (Factors ∷ s)
-Reads Sums ks = (s : List Symbol) (rest : List Kind) → IsAfterProduct rest → is_read (ks ++ rest) (Atom ∷ Factors ∷ Summands ∷ s) ≡ is_read rest (Summands ∷ s)
-Reads Whole ks = (s : List Symbol) (rest : List Kind) → IsAfterSum rest → is_read (ks ++ rest) (whole_then s) ≡ is_read rest (Shifts ∷ s)
+end_stops : (rest : List Kind) → Stops End rest
+end_stops [] = tt
+end_stops (k ∷ rest) = refl
 
-integer_reads : (xs : List Kind) (n : ℤ) → IsInteger xs n → (s : List Symbol) (rest : List Kind) → is_read (xs ++ rest) (Integer ∷ s) ≡ is_read rest s
-integer_reads _ _ (plain n) s rest = refl
-integer_reads _ _ (minus n) s rest = refl
+ends : (rest : List Kind) (s : List Symbol) (f : Frame) (fs : List Frame) (e : Draft) → run rest (End ∷ s) (holding (f ∷ fs) e) ≡ run rest s (holding fs (whole_frame f (Some e)))
+ends rest s f fs e = skip End rest s (holding (f ∷ fs) e) refl (end_stops rest)
+
+ends_alone : (rest : List Kind) (s : List Symbol) (f : Frame) (fs : List Frame) → run rest (End ∷ s) (fresh (f ∷ fs)) ≡ run rest s (holding fs (whole_frame f None))
+ends_alone rest s f fs = skip End rest s (fresh (f ∷ fs)) refl (end_stops rest)
+
+-- said of the tokens of each rank: they bring what is to come, and this is built
+abbrev Reads : Rank → List Kind → Draft → Type 0
+Reads Atoms ks e = (s : List Symbol) (fs : List Frame) (rest : List Kind) → Stops Offsets rest → run (ks ++ rest) (Atom ∷ s) (fresh fs) ≡ run rest s (holding fs e)
+Reads Products ks e = (s : List Symbol) (fs : List Frame) (rest : List Kind) → Stops Offsets rest → run (ks ++ rest) (Atom ∷ Factors ∷ s) (fresh fs) ≡ run rest (Factors ∷ s) (holding fs e)
+Reads Sums ks e = (s : List Symbol) (fs : List Frame) (rest : List Kind) → StopsProduct rest → run (ks ++ rest) (Atom ∷ Factors ∷ Summands ∷ s) (fresh fs) ≡ run rest (Summands ∷ s) (holding fs e)
+Reads Whole ks e = (s : List Symbol) (fs : List Frame) (rest : List Kind) → StopsSum rest → run (ks ++ rest) (whole ++ s) (fresh fs) ≡ run rest (Shifts ∷ s) (holding fs e)
+
+column_reads : (xs : List Kind) (n : ℤ) → IsInteger xs n → (w : List ℕ) (dx dy : ℤ) (args : List Draft) (fs : List Frame) (s : List Symbol) (rest : List Kind) →
+    run (xs ++ rest) (Column ∷ s) (fresh (begun_with (PlacedHead w dx dy) args ∷ fs)) ≡ run rest s (fresh (begun_with (PlacedHead w n dy) args ∷ fs))
+column_reads _ _ (plain n) w dx dy args fs s rest = refl
+column_reads _ _ (minus n) w dx dy args fs s rest = refl
+
+row_reads : (xs : List Kind) (n : ℤ) → IsInteger xs n → (w : List ℕ) (dx dy : ℤ) (args : List Draft) (fs : List Frame) (s : List Symbol) (rest : List Kind) →
+    run (xs ++ rest) (Row ∷ s) (fresh (begun_with (PlacedHead w dx dy) args ∷ fs)) ≡ run rest s (fresh (begun_with (PlacedHead w dx n) args ∷ fs))
+row_reads _ _ (plain n) w dx dy args fs s rest = refl
+row_reads _ _ (minus n) w dx dy args fs s rest = refl
 
 -- an expression inside of a longer text
-inside : (ks tail rest : List Kind) (s : List Symbol) → Reads Whole ks → IsAfterSum (tail ++ rest) → is_read ((ks ++ tail) ++ rest) (whole_then s) ≡ is_read (tail ++ rest) (Shifts ∷ s)
-inside ks tail rest s ih after = ap (λ l. is_read l (whole_then s)) (append_assoc ks tail rest) ∙ ih s (tail ++ rest) after
+inside : (ks tail rest : List Kind) (e : Draft) (s : List Symbol) (fs : List Frame) → Reads Whole ks e → StopsSum (tail ++ rest) →
+    run ((ks ++ tail) ++ rest) (whole ++ s) (fresh fs) ≡ run (tail ++ rest) (Shifts ∷ s) (holding fs e)
+inside ks tail rest e s fs ih stops = ap (λ l. run l (whole ++ s) (fresh fs)) (append_assoc ks tail rest) ∙ ih s fs (tail ++ rest) stops
 
-closed : (ks rest : List Kind) (s : List Symbol) → Reads Whole ks → is_read ((ks ++ Close ∷ []) ++ rest) (whole_then (CloseSymbol ∷ s)) ≡ is_read rest s
-closed ks rest s ih = inside ks (Close ∷ []) rest (CloseSymbol ∷ s) ih tt
+closed : (ks rest : List Kind) (e : Draft) (s : List Symbol) (fs : List Frame) → Reads Whole ks e → run ((ks ++ Close ∷ []) ++ rest) (whole ++ CloseSymbol ∷ s) (fresh fs) ≡ run rest s (holding fs e)
+closed ks rest e s fs ih = inside ks (Close ∷ []) rest e (CloseSymbol ∷ s) fs ih (refl, refl, refl)
 
-two_closed : (ks ls rest : List Kind) (s : List Symbol) → Reads Whole ks → Reads Whole ls →
-    is_read ((ks ++ Comma ∷ (ls ++ Close ∷ [])) ++ rest) (whole_then (CommaSymbol ∷ whole_then (CloseSymbol ∷ s))) ≡ is_read rest s
-two_closed ks ls rest s ih jh = inside ks (Comma ∷ (ls ++ Close ∷ [])) rest (CommaSymbol ∷ whole_then (CloseSymbol ∷ s)) ih tt ∙ closed ls rest s jh
+-- the last operand
+last_closed : (ks rest : List Kind) (e : Draft) (s : List Symbol) (f : Frame) (fs : List Frame) → Reads Whole ks e →
+    run ((ks ++ Close ∷ []) ++ rest) (whole ++ CloseSymbol ∷ End ∷ s) (fresh (f ∷ fs)) ≡ run rest s (holding fs (whole_frame f (Some e)))
+last_closed ks rest e s f fs ih = closed ks rest e (End ∷ s) (f ∷ fs) ih ∙ ends rest s f fs e
 
-amount_closed : (ks rest : List Kind) (n : ℤ) (s : List Symbol) → Reads Whole ks →
-    is_read ((ks ++ Comma ∷ Number n ∷ Close ∷ []) ++ rest) (whole_then (CommaSymbol ∷ Digits ∷ CloseSymbol ∷ s)) ≡ is_read rest s
-amount_closed ks rest n s ih = inside ks (Comma ∷ Number n ∷ Close ∷ []) rest (CommaSymbol ∷ Digits ∷ CloseSymbol ∷ s) ih tt
+two_closed : (ks ls rest : List Kind) (e g : Draft) (s : List Symbol) (h : Head) (args : List Draft) (fs : List Frame) → Reads Whole ks e → Reads Whole ls g →
+    run ((ks ++ Comma ∷ (ls ++ Close ∷ [])) ++ rest) (whole ++ CommaSymbol ∷ (whole ++ CloseSymbol ∷ End ∷ s)) (fresh (begun_with h args ∷ fs)) ≡ run rest s (holding fs (made h ((args ++ e ∷ []) ++ g ∷ [])))
+two_closed ks ls rest e g s h args fs ih jh =
+    inside ks (Comma ∷ (ls ++ Close ∷ [])) rest e (CommaSymbol ∷ (whole ++ CloseSymbol ∷ End ∷ s)) (begun_with h args ∷ fs) ih (refl, refl, refl)
+    ∙ last_closed ls rest g s (begun_with h (args ++ e ∷ [])) fs jh
+
+amount_closed : (ks rest : List Kind) (e : Draft) (n k : ℤ) (o : Op) (args : List Draft) (fs : List Frame) (s : List Symbol) → Reads Whole ks e →
+    run ((ks ++ Comma ∷ Number n ∷ Close ∷ []) ++ rest) (whole ++ CommaSymbol ∷ Digits ∷ CloseSymbol ∷ End ∷ s) (fresh (begun_with (NodeHead o false None k) args ∷ fs))
+    ≡ run rest s (holding fs (Node o false None n (args ++ e ∷ [])))
+amount_closed ks rest e n k o args fs s ih =
+    inside ks (Comma ∷ Number n ∷ Close ∷ []) rest e (CommaSymbol ∷ Digits ∷ CloseSymbol ∷ End ∷ s) (begun_with (NodeHead o false None k) args ∷ fs) ih (refl, refl, refl)
+    ∙ ends_alone rest s (begun_with (NodeHead o false None n) (args ++ e ∷ [])) fs
 
 -- a call, by what stands in its brackets
-called_by : (o : Op) (shape : CallShape) (inner : List Symbol) (body rest : List Kind) (s : List Symbol) → call_shape o ≡ shape → call_then shape s ≡ Some inner → is_read body inner ≡ is_read rest s →
-    is_read (Word o ∷ Open ∷ body) (Atom ∷ s) ≡ is_read rest s
-called_by o shape inner body rest s is brings reads =
-    ap (λ h. some_passes (is_read (Open ∷ body)) (opened (call_then h s))) is ∙ ap (λ i. some_passes (is_read (Open ∷ body)) (opened i)) brings ∙ reads
+called_by : (o : Op) (shape : CallShape) (inner : List Symbol) (body : List Kind) (s : List Symbol) (fs : List Frame) (r : Option Build) → call_shape o ≡ shape → call_symbols shape ≡ Some (OpenSymbol ∷ inner) →
+    run body (inner ++ s) (fresh (begun_with (node_of o) [] ∷ fs)) ≡ r → run (Word o ∷ Open ∷ body) (Atom ∷ s) (fresh fs) ≡ r
+called_by o shape inner body s fs r is brings reads =
+    ap (λ c. then_on (λ t. run (Open ∷ body) t (fresh (begun_with (node_of o) [] ∷ fs))) (followed s (call_symbols c))) is
+    ∙ ap (λ c. then_on (λ t. run (Open ∷ body) t (fresh (begun_with (node_of o) [] ∷ fs))) (followed s c)) brings ∙ reads
 
-compared : (c : Kind) (o : Op) (swap : Bool) → IsComparison c o swap → (ks : List Kind) (s : List Symbol) → IsAfterSum (c ∷ ks) × (is_read (c ∷ ks) (Shifts ∷ Comparison ∷ s) ≡ is_read ks s)
-compared _ _ _ greater ks s = (tt, refl)
-compared _ _ _ less ks s = (tt, refl)
-compared _ _ _ same ks s = (tt, refl)
+compared : (c : Kind) (o : Op) (swap : Bool) → IsComparison c o swap → (ks : List Kind) (e : Draft) (args : List Draft) (fs : List Frame) (s : List Symbol) →
+    StopsSum (c ∷ ks) × (run (c ∷ ks) (Shifts ∷ Comparison ∷ s) (holding (begun_with (node_of SelectGreater) args ∷ fs) e) ≡ run ks s (fresh (begun_with (NodeHead o swap None (pos 0)) (args ++ e ∷ []) ∷ fs)))
+compared _ _ _ greater ks e args fs s = ((refl, refl, refl), refl)
+compared _ _ _ less ks e args fs s = ((refl, refl, refl), refl)
+compared _ _ _ same ks e args fs s = ((refl, refl, refl), refl)
 
-chosen_closed : (c : Kind) (o : Op) (swap : Bool) (cs bs xs ys rest : List Kind) (s : List Symbol) → IsComparison c o swap → Reads Whole cs → Reads Whole bs → Reads Whole xs → Reads Whole ys →
-    is_read ((cs ++ c ∷ (bs ++ Comma ∷ (xs ++ Comma ∷ (ys ++ Close ∷ [])))) ++ rest) (choice_then s) ≡ is_read rest s
-chosen_closed c o swap cs bs xs ys rest s is ih jh kh lh =
+chosen_closed : (c : Kind) (o : Op) (swap : Bool) (cs bs xs ys rest : List Kind) (a b x y : Draft) (fs : List Frame) (s : List Symbol) → IsComparison c o swap → Reads Whole cs a → Reads Whole bs b → Reads Whole xs x → Reads Whole ys y →
+    run ((cs ++ c ∷ (bs ++ Comma ∷ (xs ++ Comma ∷ (ys ++ Close ∷ [])))) ++ rest) (whole ++ Comparison ∷ (whole ++ CommaSymbol ∷ (whole ++ CommaSymbol ∷ (whole ++ CloseSymbol ∷ End ∷ s)))) (fresh (begun_with (node_of SelectGreater) [] ∷ fs))
+    ≡ run rest s (holding fs (Node o swap None (pos 0) (a ∷ b ∷ x ∷ y ∷ [])))
+chosen_closed c o swap cs bs xs ys rest a b x y fs s is ih jh kh lh =
     let tail = bs ++ Comma ∷ (xs ++ Comma ∷ (ys ++ Close ∷ [])) in
-    let sign = compared c o swap is (tail ++ rest) (whole_then (CommaSymbol ∷ whole_then (CommaSymbol ∷ whole_then (CloseSymbol ∷ s)))) in
-    inside cs (c ∷ tail) rest (Comparison ∷ whole_then (CommaSymbol ∷ whole_then (CommaSymbol ∷ whole_then (CloseSymbol ∷ s)))) ih sign.0 ∙ sign.1
-    ∙ inside bs (Comma ∷ (xs ++ Comma ∷ (ys ++ Close ∷ []))) rest (CommaSymbol ∷ whole_then (CommaSymbol ∷ whole_then (CloseSymbol ∷ s))) jh tt
-    ∙ two_closed xs ys rest s kh lh
+    let behind = whole ++ CommaSymbol ∷ (whole ++ CommaSymbol ∷ (whole ++ CloseSymbol ∷ End ∷ s)) in
+    let sign = compared c o swap is (tail ++ rest) a [] fs behind in
+    inside cs (c ∷ tail) rest a (Comparison ∷ behind) (begun_with (node_of SelectGreater) [] ∷ fs) ih sign.0 ∙ sign.1
+    ∙ inside bs (Comma ∷ (xs ++ Comma ∷ (ys ++ Close ∷ []))) rest b (CommaSymbol ∷ (whole ++ CommaSymbol ∷ (whole ++ CloseSymbol ∷ End ∷ s))) (begun_with (NodeHead o swap None (pos 0)) (a ∷ []) ∷ fs) jh (refl, refl, refl)
+    ∙ two_closed xs ys rest x y s (NodeHead o swap None (pos 0)) (a ∷ b ∷ []) fs kh lh
 
-pub reads : (r : Rank) (ks : List Kind) (e : Draft) → Spells r ks e → Reads r ks
-reads _ _ _ (number n t i) = λ s rest h. ap (λ b. some_passes (is_read rest) (if b then Some s else None)) i
-reads _ _ _ (negated n t i) = λ s rest h. ap (λ b. some_passes (is_read rest) (if b then Some s else None)) i
-reads _ _ _ (named w) = λ s rest h. skip_offsets rest s h
-reads _ _ _ (placed w xs ys dx dy a b) = λ s rest h.
-    ap (λ l. is_read l (Integer ∷ CommaSymbol ∷ Integer ∷ CloseSquareSymbol ∷ s)) (append_assoc xs (Comma ∷ (ys ++ CloseSquare ∷ [])) rest)
-    ∙ integer_reads xs dx a (CommaSymbol ∷ Integer ∷ CloseSquareSymbol ∷ s) (Comma ∷ ((ys ++ CloseSquare ∷ []) ++ rest))
-    ∙ ap (λ l. is_read l (Integer ∷ CloseSquareSymbol ∷ s)) (append_assoc ys (CloseSquare ∷ []) rest)
-    ∙ integer_reads ys dy b (CloseSquareSymbol ∷ s) (CloseSquare ∷ rest)
-reads _ _ _ (bracketed ks e i) = λ s rest h. closed ks rest s (reads Whole ks e i)
-reads _ _ _ (cast t ks e i) = λ s rest h. closed ks rest s (reads Whole ks e i)
-reads _ _ _ (one o ks e is i) = λ s rest h. called_by o One (whole_then (CloseSymbol ∷ s)) ((ks ++ Close ∷ []) ++ rest) rest s is refl (closed ks rest s (reads Whole ks e i))
-reads _ _ _ (two o ks ls e f is i j) = λ s rest h.
-    called_by o Two (whole_then (CommaSymbol ∷ whole_then (CloseSymbol ∷ s))) ((ks ++ Comma ∷ (ls ++ Close ∷ [])) ++ rest) rest s is refl (two_closed ks ls rest s (reads Whole ks e i) (reads Whole ls f j))
-reads _ _ _ (one_by o ks e k is i) = λ s rest h.
-    called_by o OneAndAmount (whole_then (CommaSymbol ∷ Digits ∷ CloseSymbol ∷ s)) ((ks ++ Comma ∷ Number k ∷ Close ∷ []) ++ rest) rest s is refl (amount_closed ks rest k s (reads Whole ks e i))
-reads _ _ _ (two_by o ks ls e f k is i j) = λ s rest h.
-    called_by o TwoAndAmount (whole_then (CommaSymbol ∷ whole_then (CommaSymbol ∷ Digits ∷ CloseSymbol ∷ s))) ((ks ++ Comma ∷ (ls ++ Comma ∷ Number k ∷ Close ∷ [])) ++ rest) rest s is refl
-    (inside ks (Comma ∷ (ls ++ Comma ∷ Number k ∷ Close ∷ [])) rest (CommaSymbol ∷ whole_then (CommaSymbol ∷ Digits ∷ CloseSymbol ∷ s)) (reads Whole ks e i) tt ∙ amount_closed ls rest k s (reads Whole ls f j))
-reads _ _ _ (typed o t ks e is i) = λ s rest h.
-    called_by o TypeAndOne (TypeName ∷ CommaSymbol ∷ whole_then (CloseSymbol ∷ s)) (TypeWord t ∷ Comma ∷ ((ks ++ Close ∷ []) ++ rest)) rest s is refl (closed ks rest s (reads Whole ks e i))
-reads _ _ _ (chosen c o swap cs bs xs ys a b x y is i j k l) = λ s rest h.
-    chosen_closed c o swap cs bs xs ys rest s is (reads Whole cs a i) (reads Whole bs b j) (reads Whole xs x k) (reads Whole ys y l)
-reads _ _ _ (alone ks e i) = λ s rest h. reads Atoms ks e i (Factors ∷ s) rest h
-reads _ _ _ (product ks ls e f i j) = λ s rest h.
-    ap (λ l. is_read l (Atom ∷ Factors ∷ s)) (append_assoc ks (Times ∷ ls) rest) ∙ reads Products ks e i s (Times ∷ (ls ++ rest)) tt ∙ reads Atoms ls f j (Factors ∷ s) rest h
-reads _ _ _ (term ks e i) = λ s rest h. reads Products ks e i (Summands ∷ s) rest (atom_of_product rest h) ∙ skip_factors rest (Summands ∷ s) h
-reads _ _ _ (sum ks ls e f i j) = λ s rest h.
-    ap (λ l. is_read l (Atom ∷ Factors ∷ Summands ∷ s)) (append_assoc ks (Plus ∷ ls) rest) ∙ reads Sums ks e i s (Plus ∷ (ls ++ rest)) tt
-    ∙ reads Products ls f j (Summands ∷ s) rest (atom_of_product rest h) ∙ skip_factors rest (Summands ∷ s) h
-reads _ _ _ (difference ks ls e f i j) = λ s rest h.
-    ap (λ l. is_read l (Atom ∷ Factors ∷ Summands ∷ s)) (append_assoc ks (Minus ∷ ls) rest) ∙ reads Sums ks e i s (Minus ∷ (ls ++ rest)) tt
-    ∙ reads Products ls f j (Summands ∷ s) rest (atom_of_product rest h) ∙ skip_factors rest (Summands ∷ s) h
-reads _ _ _ (unshifted ks e i) = λ s rest h. reads Sums ks e i (Shifts ∷ s) rest (product_of_sum rest h) ∙ skip_summands rest (Shifts ∷ s) h
-reads _ _ _ (left ks e k i) = λ s rest h. inside ks (ShiftLeft ∷ Number k ∷ []) rest s (reads Whole ks e i) tt
-reads _ _ _ (right ks e k i) = λ s rest h. inside ks (ShiftRight ∷ Number k ∷ []) rest s (reads Whole ks e i) tt
+-- the second operand of a sum
+second : (o : Op) (ls : List Kind) (f : Draft) (rest : List Kind) (e : Draft) (s : List Symbol) (fs : List Frame) → Reads Products ls f → StopsProduct rest →
+    run (ls ++ rest) (Atom ∷ Factors ∷ End ∷ Summands ∷ s) (fresh (begun_with (node_of o) (e ∷ []) ∷ fs)) ≡ run rest (Summands ∷ s) (holding fs (made (node_of o) (e ∷ f ∷ [])))
+second o ls f rest e s fs jh h =
+    let under = begun_with (node_of o) (e ∷ []) ∷ fs in
+    jh (End ∷ Summands ∷ s) under rest h.0 ∙ skip Factors rest (End ∷ Summands ∷ s) (holding under f) refl h.1 ∙ ends rest (Summands ∷ s) (begun_with (node_of o) (e ∷ [])) fs f
 
-pub spelled_read : (ks : List Kind) → IsSpelled ks → is_read ks (whole_then []) ≡ true
-spelled_read ks h = ap (λ l. is_read l (whole_then [])) (sym (append-nil ks)) ∙ reads Whole ks h.0 h.1 [] [] tt
+pub reads : (r : Rank) (ks : List Kind) (e : Draft) → Spells r ks e → Reads r ks e
+reads _ _ e (number n t i) = λ s fs rest h. ap (λ b. then_on (λ u. run rest u (holding fs e)) (followed s (if b then Some [] else None))) i
+reads _ _ e (negated n t i) = λ s fs rest h. ap (λ b. then_on (λ u. run rest u (holding fs e)) (followed s (if b then Some [] else None))) i
+reads _ _ _ (named w) = λ s fs rest h. skip Offsets rest (End ∷ s) (fresh (begun_with (NamedHead w) [] ∷ fs)) refl h ∙ ends_alone rest s (begun_with (NamedHead w) []) fs
+reads _ _ _ (placed w xs ys dx dy a b) = λ s fs rest h.
+    ap (λ l. run l (Column ∷ CommaSymbol ∷ Row ∷ CloseSquareSymbol ∷ End ∷ s) (fresh (begun_with (PlacedHead w (pos 0) (pos 0)) [] ∷ fs))) (append_assoc xs (Comma ∷ (ys ++ CloseSquare ∷ [])) rest)
+    ∙ column_reads xs dx a w (pos 0) (pos 0) [] fs (CommaSymbol ∷ Row ∷ CloseSquareSymbol ∷ End ∷ s) (Comma ∷ ((ys ++ CloseSquare ∷ []) ++ rest))
+    ∙ ap (λ l. run l (Row ∷ CloseSquareSymbol ∷ End ∷ s) (fresh (begun_with (PlacedHead w dx (pos 0)) [] ∷ fs))) (append_assoc ys (CloseSquare ∷ []) rest)
+    ∙ row_reads ys dy b w dx (pos 0) [] fs (CloseSquareSymbol ∷ End ∷ s) (CloseSquare ∷ rest)
+    ∙ ends_alone rest s (begun_with (PlacedHead w dx dy) []) fs
+reads _ _ _ (bracketed ks e i) = λ s fs rest h. closed ks rest e s fs (reads Whole ks e i)
+reads _ _ _ (cast t ks e i) = λ s fs rest h. last_closed ks rest e s (begun_with (NodeHead Cast false (Some t) (pos 0)) []) fs (reads Whole ks e i)
+reads _ _ d (one o ks e is i) = λ s fs rest h.
+    called_by o One (whole ++ CloseSymbol ∷ End ∷ []) ((ks ++ Close ∷ []) ++ rest) s fs (run rest s (holding fs d)) is refl (last_closed ks rest e s (begun_with (node_of o) []) fs (reads Whole ks e i))
+reads _ _ d (two o ks ls e f is i j) = λ s fs rest h.
+    called_by o Two (whole ++ CommaSymbol ∷ (whole ++ CloseSymbol ∷ End ∷ [])) ((ks ++ Comma ∷ (ls ++ Close ∷ [])) ++ rest) s fs (run rest s (holding fs d)) is refl
+    (two_closed ks ls rest e f s (node_of o) [] fs (reads Whole ks e i) (reads Whole ls f j))
+reads _ _ d (one_by o ks e k is i) = λ s fs rest h.
+    called_by o OneAndAmount (whole ++ CommaSymbol ∷ Digits ∷ CloseSymbol ∷ End ∷ []) ((ks ++ Comma ∷ Number k ∷ Close ∷ []) ++ rest) s fs (run rest s (holding fs d)) is refl
+    (amount_closed ks rest e k (pos 0) o [] fs s (reads Whole ks e i))
+reads _ _ d (two_by o ks ls e f k is i j) = λ s fs rest h.
+    called_by o TwoAndAmount (whole ++ CommaSymbol ∷ (whole ++ CommaSymbol ∷ Digits ∷ CloseSymbol ∷ End ∷ [])) ((ks ++ Comma ∷ (ls ++ Comma ∷ Number k ∷ Close ∷ [])) ++ rest) s fs (run rest s (holding fs d)) is refl
+    (inside ks (Comma ∷ (ls ++ Comma ∷ Number k ∷ Close ∷ [])) rest e (CommaSymbol ∷ (whole ++ CommaSymbol ∷ Digits ∷ CloseSymbol ∷ End ∷ s)) (begun_with (node_of o) [] ∷ fs) (reads Whole ks e i) (refl, refl, refl)
+    ∙ amount_closed ls rest f k (pos 0) o (e ∷ []) fs s (reads Whole ls f j))
+reads _ _ d (typed o t ks e is i) = λ s fs rest h.
+    called_by o TypeAndOne (TypeName ∷ CommaSymbol ∷ (whole ++ CloseSymbol ∷ End ∷ [])) (TypeWord t ∷ Comma ∷ ((ks ++ Close ∷ []) ++ rest)) s fs (run rest s (holding fs d)) is refl
+    (last_closed ks rest e s (begun_with (NodeHead o false (Some t) (pos 0)) []) fs (reads Whole ks e i))
+reads _ _ _ (chosen c o swap cs bs xs ys a b x y is i j k l) = λ s fs rest h.
+    chosen_closed c o swap cs bs xs ys rest a b x y fs s is (reads Whole cs a i) (reads Whole bs b j) (reads Whole xs x k) (reads Whole ys y l)
+reads _ _ _ (alone ks e i) = λ s fs rest h. reads Atoms ks e i (Factors ∷ s) fs rest h
+reads _ _ _ (product ks ls e f i j) = λ s fs rest h.
+    ap (λ l. run l (Atom ∷ Factors ∷ s) (fresh fs)) (append_assoc ks (Times ∷ ls) rest) ∙ reads Products ks e i s fs (Times ∷ (ls ++ rest)) refl
+    ∙ reads Atoms ls f j (End ∷ Factors ∷ s) (begun_with (node_of Mul) (e ∷ []) ∷ fs) rest h ∙ ends rest (Factors ∷ s) (begun_with (node_of Mul) (e ∷ [])) fs f
+reads _ _ _ (term ks e i) = λ s fs rest h. reads Products ks e i (Summands ∷ s) fs rest h.0 ∙ skip Factors rest (Summands ∷ s) (holding fs e) refl h.1
+reads _ _ _ (sum ks ls e f i j) = λ s fs rest h.
+    ap (λ l. run l (Atom ∷ Factors ∷ Summands ∷ s) (fresh fs)) (append_assoc ks (Plus ∷ ls) rest) ∙ reads Sums ks e i s fs (Plus ∷ (ls ++ rest)) (refl, refl)
+    ∙ second Add ls f rest e s fs (reads Products ls f j) h
+reads _ _ _ (difference ks ls e f i j) = λ s fs rest h.
+    ap (λ l. run l (Atom ∷ Factors ∷ Summands ∷ s) (fresh fs)) (append_assoc ks (Minus ∷ ls) rest) ∙ reads Sums ks e i s fs (Minus ∷ (ls ++ rest)) (refl, refl)
+    ∙ second Sub ls f rest e s fs (reads Products ls f j) h
+reads _ _ _ (unshifted ks e i) = λ s fs rest h. reads Sums ks e i (Shifts ∷ s) fs rest (h.0, h.1) ∙ skip Summands rest (Shifts ∷ s) (holding fs e) refl h.2
+reads _ _ _ (left ks e k i) = λ s fs rest h.
+    inside ks (ShiftLeft ∷ Number k ∷ []) rest e s fs (reads Whole ks e i) (refl, refl, refl) ∙ ends_alone rest (Shifts ∷ s) (begun_with (NodeHead ShiftLeftBy false None k) (e ∷ [])) fs
+reads _ _ _ (right ks e k i) = λ s fs rest h.
+    inside ks (ShiftRight ∷ Number k ∷ []) rest e s fs (reads Whole ks e i) (refl, refl, refl) ∙ ends_alone rest (Shifts ∷ s) (begun_with (NodeHead ShiftRightBy false None k) (e ∷ [])) fs
+
+-- what is built first, and what is built of an expression
+pub spelled_built : (ks : List Kind) (e : Draft) → Spells Whole ks e → run ks whole (fresh []) ≡ Some (holding [] e)
+spelled_built ks e h = ap (λ l. run l whole (fresh [])) (sym (append-nil ks)) ∙ reads Whole ks e h [] [] [] (tt, tt, tt)

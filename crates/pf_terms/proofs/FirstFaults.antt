@@ -1,90 +1,133 @@
--- The first token with which no expression begins is the first that doesn't fit.
-use Rattle.std.proofs.Common.{◌≡◌, refl, sym, ap, ◌∙◌, subst, ℕ, ◌+◌, ◌≤◌, ◌<◌, Bool, true, false, List, [], ◌∷◌, ◌++◌, length, take, get_or, append_assoc, append-nil, arith, zero, suc}
-use Rattle.std.specs.Prelude.{Some, None}
-use Rattle.std.proofs.lemmas.List.{take_more, take_all, length-map}
+-- The first token that doesn't fit is the first fault.
+use Rattle.std.proofs.Common.{◌≡◌, refl, sym, ap, ◌∙◌, subst, ℕ, ◌+◌, ◌≤◌, ◌<◌, Bool, true, false, List, [], ◌∷◌, ◌++◌, length, take, get_or, append_assoc, append-nil, arith, inl, inr, ltb-true, ltb-false, lt-ltb, ◌-◌, drop}
+use Rattle.std.specs.Prelude.{Option, Some, None, if◌then◌else◌, nat_lt, ◌⊎◌}
+use Rattle.std.proofs.lemmas.List.{take_more, take_all, take-append-drop}
 use Rattle.pf_terms.specs.declared.symbol.Symbol.{Symbol}
 use Rattle.pf_terms.specs.declared.token.Kind.{Kind}
-use Rattle.pf_terms.specs.declared.token.Token.{Token}
-use Rattle.pf_terms.specs.Grammar.{IsSpelled, IsBegun}
-use Rattle.pf_terms.specs.Parsing.{step, some_passes, is_read, is_done, whole_then, Advances, kinds, IsFirstFault}
+use Rattle.pf_terms.specs.declared.token.Kind.TheVariants.{Open, Close}
+use Rattle.pf_terms.specs.declared.draft.Draft.{Draft}
+use Rattle.pf_terms.specs.declared.build.Build.{Build}
+use Rattle.pf_terms.specs.Grammar.{Whole, Spells, IsSpelled, IsBegun}
+use Rattle.pf_terms.specs.Parsing.{step, built, run, then_on, finished, whole}
+use Rattle.pf_terms.specs.Drafts.{bracket_limit, nested, IsShallow, IsFirstFault}
+use Rattle.pf_terms.proofs.Complete.{fresh, holding, spelled_built}
+use Rattle.pf_terms.proofs.Sound.{run_spelled}
 use Rattle.pf_terms.proofs.Viable.{completion, completes}
-use Rattle.pf_terms.proofs.Complete.{spelled_read}
-use Rattle.pf_terms.proofs.Sound.{read_spelled}
 
--- after the first n tokens, s is to come
-abbrev pub Awaits : List Kind → ℕ → List Symbol → Type 0
-Awaits ks n s = (rest : List Kind) → is_read (take n ks ++ rest) (whole_then []) ≡ is_read rest s
+-- ---- brackets
 
-begun_at : (ks : List Kind) (n : ℕ) (s : List Symbol) → Awaits ks n s → IsBegun (take n ks)
-begun_at ks n s h = (completion s, read_spelled (take n ks ++ completion s) (h (completion s) ∙ completes s))
+-- one token more in front
+pub deeper : (n m : ℕ) (k : Kind) (rest : List Kind) → nested n k ≡ Some m → IsShallow m rest → IsShallow n (k ∷ rest)
+deeper n m Open rest e h = by (nat_lt n bracket_limit) refl e where
+  by : (b : Bool) → nat_lt n bracket_limit ≡ b → (if b then Some (n + 1) else None) ≡ Some m → (n < bracket_limit) × IsShallow (n + 1) rest
+  by true is e = let same : n + 1 ≡ m = cc in (ltb-true n bracket_limit is, subst (λ d. IsShallow d rest) (sym same) h)
+  by false is e = absurd (cc)
+deeper n m Close rest e h = let same : n - 1 ≡ m = cc in subst (λ d. IsShallow d rest) (sym same) h
+deeper n m _ rest e h = let same : n ≡ m = cc in subst (λ d. IsShallow d rest) (sym same) h
+
+pub shallower : (n m : ℕ) (k : Kind) (rest : List Kind) → nested n k ≡ Some m → IsShallow n (k ∷ rest) → IsShallow m rest
+shallower n m Open rest e h = by (nat_lt n bracket_limit) e where
+  by : (b : Bool) → (if b then Some (n + 1) else None) ≡ Some m → IsShallow m rest
+  by true e = let same : n + 1 ≡ m = cc in subst (λ d. IsShallow d rest) same h.1
+  by false e = absurd (cc)
+shallower n m Close rest e h = let same : n - 1 ≡ m = cc in subst (λ d. IsShallow d rest) same h
+shallower n m _ rest e h = let same : n ≡ m = cc in subst (λ d. IsShallow d rest) same h
+
+pub too_deep : (n : ℕ) (k : Kind) → nested n k ≡ None → IsShallow n (k ∷ []) → ⊥
+too_deep n Open e h = by (nat_lt n bracket_limit) refl e where
+  by : (b : Bool) → nat_lt n bracket_limit ≡ b → ◌≡◌ {A = Option ℕ} (if b then Some (n + 1) else None) None → ⊥
+  by true is e = absurd (cc)
+  by false is e = let yes : nat_lt n bracket_limit ≡ true = lt-ltb n bracket_limit h.0 in let never : ◌≡◌ {A = Bool} false true = sym is ∙ yes in absurd (cc)
+too_deep n _ e h = absurd (cc)
+
+-- what holds of tokens holds of the first of them
+pub shallow_front : (n : ℕ) (ks rest : List Kind) → IsShallow n (ks ++ rest) → IsShallow n ks
+shallow_front n [] rest h = tt
+shallow_front n (Open ∷ ks) rest h = (h.0, shallow_front (n + 1) ks rest h.1)
+shallow_front n (Close ∷ ks) rest h = shallow_front (n - 1) ks rest h
+shallow_front n (_ ∷ ks) rest h = shallow_front n ks rest h
+
+-- ---- the reader behind the first n tokens: what is to come, what is built, and how many brackets are open
+pub record Stands (ks : List Kind) (n : ℕ) (s : List Symbol) (b : Build) (depth : ℕ) : Type 0 where
+  pub onward : (rest : List Kind) → run (take n ks ++ rest) whole (fresh []) ≡ run rest s b
+  pub inner : (rest : List Kind) → IsShallow depth rest → IsShallow 0 (take n ks ++ rest)
+  pub outer : (rest : List Kind) → IsShallow 0 (take n ks ++ rest) → IsShallow depth rest
+
+pub stands_first : (ks : List Kind) → Stands ks 0 whole (fresh []) 0
+stands_first ks = record { onward = λ rest. refl; inner = λ rest h. h; outer = λ rest h. h }
 
 -- the tokens up to and with the next
 with_next : (ks : List Kind) (n : ℕ) (k : Kind) (rest : List Kind) → n < length ks → k ≡ get_or ks n k → take (n + 1) ks ++ rest ≡ take n ks ++ k ∷ rest
 with_next ks n k rest below at =
     ap (λ l. l ++ rest) (take_more ks n k below ∙ ap (λ j. take n ks ++ j ∷ []) (sym at)) ∙ append_assoc (take n ks) (k ∷ []) rest
 
-pub awaits_next : (ks : List Kind) (n : ℕ) (k : Kind) (s t : List Symbol) → n < length ks → k ≡ get_or ks n k → step s k ≡ Some t → Awaits ks n s → Awaits ks (n + 1) t
-awaits_next ks n k s t below at e h rest =
-    ap (λ l. is_read l (whole_then [])) (with_next ks n k rest below at) ∙ h (k ∷ rest) ∙ ap (some_passes (is_read rest)) e
+pub stands_next : (ks : List Kind) (n : ℕ) (k : Kind) (s t : List Symbol) (b c : Build) (d e : ℕ) → n < length ks → k ≡ get_or ks n k →
+    step s k ≡ Some t → built s k b ≡ c → nested d k ≡ Some e → Stands ks n s b d → Stands ks (n + 1) t c e
+stands_next ks n k s t b c d e below at steps builds nests h =
+    record {
+      onward = λ rest.
+          ap (λ l. run l whole (fresh [])) (with_next ks n k rest below at) ∙ h.onward (k ∷ rest) ∙ ap (then_on (λ u. run rest u (built s k b))) steps ∙ ap (run rest t) builds;
+      inner = λ rest shallow. subst (IsShallow 0) (sym (with_next ks n k rest below at)) (h.inner (k ∷ rest) (deeper d e k rest nests shallow));
+      outer = λ rest shallow. shallower d e k rest nests (h.outer (k ∷ rest) (subst (IsShallow 0) (with_next ks n k rest below at) shallow));
+    }
 
-pub fault_here : (ks : List Kind) (n : ℕ) (k : Kind) (s : List Symbol) → n < length ks → k ≡ get_or ks n k → step s k ≡ None → Awaits ks n s → IsFirstFault ks n
-fault_here ks n k s below at e h =
+pub begun_at : (ks : List Kind) (n : ℕ) (s : List Symbol) (b : Build) (d : ℕ) → Stands ks n s b d → IsBegun (take n ks)
+begun_at ks n s b d h =
+    let r = completes s b in
+    (completion s, run_spelled (take n ks ++ completion s) (fresh []) r.0 (h.onward (completion s) ∙ r.1))
+
+shallow_at : (ks : List Kind) (n : ℕ) (s : List Symbol) (b : Build) (d : ℕ) → Stands ks n s b d → IsShallow 0 (take n ks)
+shallow_at ks n s b d h = subst (IsShallow 0) (append-nil (take n ks)) (h.inner [] tt)
+
+-- what is spelled isn't nothing
+pub built_some : (ks : List Kind) → IsSpelled ks → run ks whole (fresh []) ≡ None → ⊥
+built_some ks h none = absurd (let some = spelled_built ks h.0 h.1 in let never : ◌≡◌ {A = Option Build} (Some (holding [] h.0)) None = sym some ∙ none in cc)
+
+pub fault_here : (ks : List Kind) (n : ℕ) (k : Kind) (s : List Symbol) (b : Build) (d : ℕ) → n < length ks → k ≡ get_or ks n k → (step s k ≡ None) ⊎ (nested d k ≡ None) → Stands ks n s b d → IsFirstFault ks n
+fault_here ks n k s b d below at why h =
     record {
       within = omega arith;
-      begun = begun_at ks n s h;
-      fault = λ under b.
-          let yes = spelled_read (take (n + 1) ks ++ b.0) b.1 in
-          let no : is_read (take (n + 1) ks ++ b.0) (whole_then []) ≡ false =
-          ap (λ l. is_read l (whole_then [])) (with_next ks n k b.0 below at) ∙ h (k ∷ b.0) ∙ ap (some_passes (is_read b.0)) e in
-          let never : ◌≡◌ {A = Bool} true false = sym yes ∙ no in cc;
-      end = λ is. absurd (omega arith);
-    }
+      begun = begun_at ks n s b d h;
+      shallow = shallow_at ks n s b d h;
+      fault = λ under more shallow. by why more shallow;
+      end = λ is spelled. absurd (omega arith);
+    } where
+      by : (step s k ≡ None) ⊎ (nested d k ≡ None) → IsBegun (take (n + 1) ks) → IsShallow 0 (take (n + 1) ks) → ⊥
+      by (inl none) more shallow =
+          built_some (take (n + 1) ks ++ more.0) more.1
+          (ap (λ l. run l whole (fresh [])) (with_next ks n k more.0 below at) ∙ h.onward (k ∷ more.0) ∙ ap (then_on (λ u. run more.0 u (built s k b))) none)
+      by (inr none) more shallow =
+          too_deep d k none (h.outer (k ∷ []) (subst (IsShallow 0) (sym (append-nil (take (n + 1) ks)) ∙ with_next ks n k [] below at) shallow))
 
 all_taken : (ks : List Kind) (n : ℕ) → n ≡ length ks → take n ks ++ [] ≡ ks
 all_taken ks n is = append-nil (take n ks) ∙ take_all n ks (omega arith)
 
-pub fault_at_end : (ks : List Kind) (n : ℕ) (s : List Symbol) → n ≡ length ks → is_done s ≡ false → Awaits ks n s → IsFirstFault ks n
-fault_at_end ks n s is more h =
-    record {
-      within = omega arith;
-      begun = begun_at ks n s h;
-      fault = λ under b. absurd (omega arith);
-      end = λ same spelled.
-          let yes = spelled_read ks spelled in
-          let no : is_read ks (whole_then []) ≡ false = ap (λ l. is_read l (whole_then [])) (sym (all_taken ks n is)) ∙ h [] ∙ more in
-          let never : ◌≡◌ {A = Bool} true false = sym yes ∙ no in cc;
-    }
+-- what is built of all tokens
+pub built_at_end : (ks : List Kind) (n : ℕ) (s : List Symbol) (b : Build) (d : ℕ) → n ≡ length ks → Stands ks n s b d → run ks whole (fresh []) ≡ finished s b
+built_at_end ks n s b d is h = ap (λ l. run l whole (fresh [])) (sym (all_taken ks n is)) ∙ h.onward []
 
-pub spelled_at_end : (ks : List Kind) (n : ℕ) (s : List Symbol) → n ≡ length ks → is_done s ≡ true → Awaits ks n s → IsSpelled ks
-spelled_at_end ks n s is finished h =
-    read_spelled ks (ap (λ l. is_read l (whole_then [])) (sym (all_taken ks n is)) ∙ h [] ∙ finished)
+pub shallow_at_end : (ks : List Kind) (n : ℕ) (s : List Symbol) (b : Build) (d : ℕ) → n ≡ length ks → Stands ks n s b d → IsShallow 0 ks
+shallow_at_end ks n s b d is h = subst (IsShallow 0) (all_taken ks n is) (h.inner [] tt)
 
--- ---- the same of tokens
-kind_at : (ts : List Token) (n : ℕ) (t : Token) → n < length ts → get_or (kinds ts) n t.kind ≡ (get_or ts n t).kind
-kind_at [] n t below = absurd (omega arith)
-kind_at (u ∷ ts) zero t below = refl
-kind_at (u ∷ ts) (suc n) t below = kind_at ts n t (omega arith)
+pub fault_at_end : (ks : List Kind) (n : ℕ) (s : List Symbol) (b : Build) (d : ℕ) → n ≡ length ks → (IsSpelled ks → ⊥) → Stands ks n s b d → IsFirstFault ks n
+fault_at_end ks n s b d is never h =
+    record { within = omega arith; begun = begun_at ks n s b d h; shallow = shallow_at ks n s b d h; fault = λ under more shallow. absurd (omega arith); end = λ same spelled. never spelled }
 
-kind_here : (ts : List Token) (n : ℕ) (t : Token) → n < length ts → t ≡ get_or ts n t → t.kind ≡ get_or (kinds ts) n t.kind
-kind_here ts n t below at = ap (λ u. u.kind) at ∙ sym (kind_at ts n t below)
+-- ---- the answers
 
-count_is : (ts : List Token) → length (kinds ts) ≡ length ts
-count_is ts = length-map ts (λ t. t.kind)
+-- the tokens spell one expression at most
+pub one_draft : (ks : List Kind) (d e : Draft) → Spells Whole ks d → Spells Whole ks e → d ≡ e
+one_draft ks d e h i =
+    let both : ◌≡◌ {A = Option Build} (Some (holding [] d)) (Some (holding [] e)) = sym (spelled_built ks d h) ∙ spelled_built ks e i in
+    let builds : holding [] d ≡ holding [] e = cc in
+    let readies : ◌≡◌ {A = Option Draft} (Some d) (Some e) = ap (λ b. b.ready) builds in
+    cc
 
-pub token_fault : (ts : List Token) (n : ℕ) (t : Token) (s u : List Symbol) (fits : Bool) → n < length ts → t ≡ get_or ts n t → Advances fits (step s t.kind) u → fits ≡ false → Awaits (kinds ts) n s →
-    IsFirstFault (kinds ts) n
-token_fault ts n t s u fits below at told fails h =
-    let none : step s t.kind ≡ None = subst (λ b. Advances b (step s t.kind) u) fails told in
-    fault_here (kinds ts) n t.kind s (omega (arith, count_is ts)) (kind_here ts n t below at) none h
-
-pub token_next : (ts : List Token) (n : ℕ) (t : Token) (s u : List Symbol) (fits : Bool) → n < length ts → t ≡ get_or ts n t → Advances fits (step s t.kind) u → fits ≡ true → Awaits (kinds ts) n s → Awaits (kinds ts) (n + 1) u
-token_next ts n t s u fits below at told fitting h =
-    let some : step s t.kind ≡ Some u = subst (λ b. Advances b (step s t.kind) u) fitting told in
-    awaits_next (kinds ts) n t.kind s u (omega (arith, count_is ts)) (kind_here ts n t below at) some h
-
-pub tokens_spelled : (ts : List Token) (n : ℕ) (s : List Symbol) → n ≤ length ts → length ts ≤ n → is_done s ≡ true → Awaits (kinds ts) n s → IsSpelled (kinds ts)
-tokens_spelled ts n s within past finished h = spelled_at_end (kinds ts) n s (omega (arith, count_is ts)) finished h
-
-pub tokens_end : (ts : List Token) (n : ℕ) (s : List Symbol) → n ≤ length ts → length ts ≤ n → is_done s ≡ false → Awaits (kinds ts) n s → IsFirstFault (kinds ts) (length ts)
-tokens_end ts n s within past more h =
-    subst (λ m. IsFirstFault (kinds ts) m) (let e : n ≡ length ts = omega arith in e) (fault_at_end (kinds ts) n s (omega (arith, count_is ts)) more h)
+-- what is spelled has no fault
+pub no_fault : (ks : List Kind) (n : ℕ) (d : Draft) → Spells Whole ks d → IsShallow 0 ks → IsFirstFault ks n → ⊥
+no_fault ks n d h shallow f = by (nat_lt n (length ks)) refl where
+  by : (b : Bool) → nat_lt n (length ks) ≡ b → ⊥
+  by true is =
+      let parts : take (n + 1) ks ++ drop (n + 1) ks ≡ ks = take-append-drop (n + 1) ks in
+      f.fault (ltb-true n (length ks) is) (drop (n + 1) ks, (d, subst (λ l. Spells Whole l d) (sym parts) h)) (shallow_front 0 (take (n + 1) ks) (drop (n + 1) ks) (subst (IsShallow 0) (sym parts) shallow))
+  by false is = let past : length ks ≤ n = ltb-false n (length ks) is in f.end (omega (arith, f.within)) (d, h)

@@ -3,7 +3,7 @@ use Rattle.std.proofs.Common.{◌≡◌, ◌≢◌, refl, sym, ap, ◌∙◌, su
 use native.Mathlib.Nat.{pow-le-pow_right}
 use Rattle.std.specs.Prelude.{All, codes, decimal, nat_le, not, Option, Some, None, IfSome, IsSome, MatchOption, bytes_eq}
 use Rattle.pf_ints.specs.Lanes.{lane_width}
-use Rattle.std.proofs.lemmas.List.{get_or-take, get_or_default, length-take-le, drop_all, take_all, length-drop, drop-drop, drop_more}
+use Rattle.std.proofs.lemmas.List.{take-append-drop, get_or-take, get_or_default, length-take-le, drop_all, take_all, length-drop, drop-drop, drop_more}
 use borrow.Author.Tests.{leb-true}
 use Rattle.pf_terms.proofs.Typing.{and_left, and_right}
 use Rattle.std.specs.Fmt.{digits}
@@ -18,11 +18,11 @@ use Rattle.pf_terms.specs.declared.op.Op.TheVariants.{Cast, Add, Sub, Mul, Shift
 use Rattle.pf_ints.specs.Words.{is_digit, is_name_byte, is_name, is_spelled, is_reserved}
 use Rattle.pf_terms.specs.declared.op.Op.{Op}
 use Rattle.pf_terms.specs.declared.token.Kind.{Kind}
-use Rattle.pf_terms.specs.declared.token.Kind.TheVariants.{Name, TypeWord, Number, Typed, Word, Choose, Line, Open, Close, OpenSquare, CloseSquare, Comma, Plus, Minus, Times, ShiftLeft, ShiftRight, Less, Greater, Same, Equals, Other}
+use Rattle.pf_terms.specs.declared.token.Kind.TheVariants.{Name, TypeWord, Number, Typed, Long, Word, Choose, Line, Open, Close, OpenSquare, CloseSquare, Comma, Plus, Minus, Times, ShiftLeft, ShiftRight, Less, Greater, Same, Equals, Other}
 use Rattle.pf_terms.specs.declared.token.LineWord.{LineWord}
 use Rattle.pf_terms.specs.declared.token.Token.{Token}
 use Rattle.pf_terms.specs.TermTexts.{type_word, sign_letter, op_word}
-use Rattle.pf_terms.specs.Tokens.{is_blank, digits_behind, sign_text, IsNumber, IsCalledBy, IsWordOf, line_word, IsNoRun, IsNoDigit, IsShort, IsFrontSign, IsFrontByte, IsFront, IsSolid, IsLexed, ended, blank, token}
+use Rattle.pf_terms.specs.Tokens.{is_blank, digits_behind, sign_text, IsNumber, IsLongNumber, IsCalledBy, IsWordOf, line_word, IsNoRun, IsNoDigit, IsShort, IsFrontSign, IsFrontByte, IsFront, IsSolid, IsLexed, ended, blank, token}
 
 -- what holds at each place holds of what is taken
 pub all_taken : (p : ℕ → Bool) (xs : List ℕ) (n : ℕ) → ((k : ℕ) → k < n → p (get_or xs k 0) ≡ true) → n ≤ length xs → All (λ b. p b ≡ true) (take n xs)
@@ -90,11 +90,11 @@ no_digit_sign : (s : Bool) (rest : List ℕ) → IsNoDigit (sign_letter s ++ res
 no_digit_sign true rest = refl
 no_digit_sign false rest = refl
 
-no_digit_word : (t : LaneType) → IsNoDigit (type_word t)
+pub no_digit_word : (t : LaneType) → IsNoDigit (type_word t)
 no_digit_word t = no_digit_sign t.signed (decimal (lane_width t))
 
 -- digits as far as they go are the digits in front
-digits_front : (ds w : List ℕ) (n : ℕ) → All (λ b. is_digit b ≡ true) ds → IsNoDigit w → n ≤ length (ds ++ w) → All (λ b. is_digit b ≡ true) (take n (ds ++ w)) → IsNoDigit (drop n (ds ++ w)) →
+pub digits_front : (ds w : List ℕ) (n : ℕ) → All (λ b. is_digit b ≡ true) ds → IsNoDigit w → n ≤ length (ds ++ w) → All (λ b. is_digit b ≡ true) (take n (ds ++ w)) → IsNoDigit (drop n (ds ++ w)) →
     (take n (ds ++ w) ≡ ds) × (drop n (ds ++ w) ≡ w)
 digits_front [] w zero all none within taken left = (refl, refl)
 digits_front [] [] (suc n) all none within taken left = absurd (omega arith)
@@ -112,15 +112,17 @@ typed_parts run ds t n is all within taken left =
 
 -- ---- runs that are no token of the grammar
 pub other_run : (w : List ℕ) → ((t : LaneType) → type_word t ≢ w) → ((op : Op) → IsCalledBy w op → ⊥) → ((l : LineWord) → line_word l ≢ w) → w ≢ codes "select" → (is_name w ≡ true → ⊥) →
-    ((n : ℤ) → IsNumber w n → ⊥) → ((n : ℤ) (t : LaneType) (ds : List ℕ) → IsNumber ds n → w ≡ ds ++ type_word t → ⊥) → (k : Kind) → IsWordOf w k → ⊥
-other_run w types calls lines choose names numbers typed (Name n) h = names h.0
-other_run w types calls lines choose names numbers typed (TypeWord t) h = types t (sym h)
-other_run w types calls lines choose names numbers typed (Number n) h = numbers n h
-other_run w types calls lines choose names numbers typed (Typed n t) h = typed n t h.0 h.1 h.2
-other_run w types calls lines choose names numbers typed (Word op) h = calls op h
-other_run w types calls lines choose names numbers typed Choose h = choose h
-other_run w types calls lines choose names numbers typed (Line l) h = lines l (sym h)
-other_run w types calls lines choose names numbers typed _ h = h
+    ((n : ℤ) → IsNumber w n → ⊥) → ((n : ℤ) (t : LaneType) (ds : List ℕ) → IsNumber ds n → w ≡ ds ++ type_word t → ⊥) →
+    ((ty : Option LaneType) → IsWordOf w (Long ty) → ⊥) → (k : Kind) → IsWordOf w k → ⊥
+other_run w types calls lines choose names numbers typed long (Name n) h = names h.0
+other_run w types calls lines choose names numbers typed long (TypeWord t) h = types t (sym h)
+other_run w types calls lines choose names numbers typed long (Number n) h = numbers n h
+other_run w types calls lines choose names numbers typed long (Typed n t) h = typed n t h.0 h.1 h.2
+other_run w types calls lines choose names numbers typed long (Long ty) h = long ty h
+other_run w types calls lines choose names numbers typed long (Word op) h = calls op h
+other_run w types calls lines choose names numbers typed long Choose h = choose h
+other_run w types calls lines choose names numbers typed long (Line l) h = lines l (sym h)
+other_run w types calls lines choose names numbers typed long _ h = h
 
 -- ---- numbers
 pub digit_more : (n i d : ℕ) → n + 23 ≤ 23 * 10 ^ i → d ≤ 207 → (10 * n + d) + 23 ≤ 23 * 10 ^ (i + 1)
@@ -141,7 +143,7 @@ spelled_word false Eight = codes "u8"
 spelled_word false Sixteen = codes "u16"
 spelled_word false ThirtyTwo = codes "u32"
 
-spelled_words : (s : Bool) (b : Bits) → type_word (typed_as s b) ≡ spelled_word s b
+pub spelled_words : (s : Bool) (b : Bits) → type_word (typed_as s b) ≡ spelled_word s b
 unfolding digits
 spelled_words true Eight = refl
 spelled_words true Sixteen = refl
@@ -207,13 +209,43 @@ not_digits xs n v below none h =
     let yes : is_digit (get_or xs n 0) ≡ true = h.digits n 0 below in
     absurd (cc)
 
+rest_is : (xs : List ℕ) (n : ℕ) → take (length xs - n) (drop n xs) ≡ drop n xs
+rest_is xs n = take_all (length xs - n) (drop n xs) (omega (arith, length-drop n xs))
+
+-- ---- long numbers
+not_all_digits : (xs : List ℕ) (n : ℕ) → n < length xs → IsNoDigit (drop n xs) → All (λ b. is_digit b ≡ true) xs → ⊥
+not_all_digits xs n below none all =
+    let no : is_digit (get_or xs n 0) ≡ false = subst IsNoDigit (drop-cons xs n 0 below) none in
+    let yes : is_digit (get_or xs n 0) ≡ true = all n 0 below in
+    absurd (cc)
+
+pub too_few : (run : List ℕ) (count : ℕ) → count ≤ length run → All (λ b. is_digit b ≡ true) (take count run) → IsNoDigit (drop count run) → count < 11 → (ty : Option LaneType) → IsWordOf run (Long ty) → ⊥
+too_few run count within bytes longest few None h = not_all_digits run count (omega (arith, h.many)) longest h.digits
+too_few run count within bytes longest few (Some t) h =
+    let p = typed_parts run h.0 t count h.2 h.1.digits within bytes longest in
+    let long : length (take count run) ≡ length h.0 = ap length p.0 in
+    absurd (omega (arith, h.1.many, long, length-take-le count run within))
+
+pub no_long_type : (run : List ℕ) (count : ℕ) → count < length run → All (λ b. is_digit b ≡ true) (take count run) → IsNoDigit (drop count run) → ((t : LaneType) → type_word t ≢ take (length run - count) (drop count run)) →
+    (ty : Option LaneType) → IsWordOf run (Long ty) → ⊥
+no_long_type run count below bytes longest none None h = not_all_digits run count below longest h.digits
+no_long_type run count below bytes longest none (Some t) h =
+    let p = typed_parts run h.0 t count h.2 h.1.digits (omega arith) bytes longest in
+    none t (sym p.1 ∙ sym (rest_is run count))
+
+pub long_is : (xs : List ℕ) (n : ℕ) → All (λ b. is_digit b ≡ true) (take n xs) → n ≤ length xs → length xs ≤ n → 11 ≤ n → IsLongNumber xs
+long_is xs n all within whole many =
+    let P : List ℕ → Type 0 = λ ys. All (λ b. is_digit b ≡ true) ys in
+    record { digits = subst P (take_all n xs whole) all; many = omega arith }
+
+pub long_typed : (run : List ℕ) (count : ℕ) (t : LaneType) → count ≤ length run → All (λ b. is_digit b ≡ true) (take count run) → 11 ≤ count → type_word t ≡ take (length run - count) (drop count run) → IsWordOf run (Long (Some t))
+long_typed run count t within bytes many is =
+    (take count run, record { digits = bytes; many = omega (arith, length-take-le count run within) }, sym (take-append-drop count run) ∙ ap (λ l. take count run ++ l) (sym (is ∙ rest_is run count)))
+
 pub number_is : (xs : List ℕ) (n : ℕ) (v : ℤ) → All (λ b. is_digit b ≡ true) (take n xs) → length xs ≤ n → 1 ≤ length xs → length xs ≤ 10 → v ≡ pos (digits_behind 0 xs) → IsNumber xs v
 number_is xs n v all whole some few is =
     let P : List ℕ → Type 0 = λ ys. All (λ b. is_digit b ≡ true) ys in
     record { digits = subst P (take_all n xs whole) all; some = some; few = few; value = is }
-
-rest_is : (xs : List ℕ) (n : ℕ) → take (length xs - n) (drop n xs) ≡ drop n xs
-rest_is xs n = take_all (length xs - n) (drop n xs) (omega (arith, length-drop n xs))
 
 pub no_number : (run : List ℕ) (count : ℕ) → count ≤ length run → All (λ b. is_digit b ≡ true) (take count run) → IsNoDigit (drop count run) → ((v : ℤ) → IsNumber (take count run) v → ⊥) →
     (v : ℤ) (t : LaneType) (ds : List ℕ) → IsNumber ds v → run ≡ ds ++ type_word t → ⊥

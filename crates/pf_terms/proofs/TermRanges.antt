@@ -23,7 +23,7 @@ use Rattle.pf_terms.proofs.NodeParts.{node_formed, typing_is}
 use Rattle.pf_terms.proofs.NodeRanges.{AreIn, judged, value_in}
 
 -- each definition at a leaf and at a node
-stated_node : (op : Op) (ty : LaneType) (k : ℕ) (args : List Term) → stated_type (Node op ty k args) ≡ ty
+pub stated_node : (op : Op) (ty : LaneType) (k : ℕ) (args : List Term) → stated_type (Node op ty k args) ≡ ty
 stated_node op ty k args = ap stated_type (sym (rolls-Node op ty k args)) ∙ fold-roll-Term LaneType (λ layer. stated_step layer) (NodeLayer op ty k args)
 
 pub stated_leaf : (leaf : LeafOf) (ty : LaneType) → stated_type (Leaf leaf ty) ≡ ty
@@ -38,7 +38,7 @@ value_leaf env leaf ty = ap (Val env) (sym (rolls-Leaf leaf ty)) ∙ fold-roll-T
 typing_leaf : (leaf : LeafOf) (ty : LaneType) → typing (Leaf leaf ty) ≡ Ok ty
 typing_leaf leaf ty = ap typing (sym (rolls-Leaf leaf ty)) ∙ fold-roll-Term (Result LaneType TermFault) typing_step (LeafLayer leaf ty)
 
-formed_leaf : (leaf : LeafOf) (ty : LaneType) → is_well_formed (Leaf leaf ty) ≡ is_formed_leaf leaf ty
+pub formed_leaf : (leaf : LeafOf) (ty : LaneType) → is_well_formed (Leaf leaf ty) ≡ is_formed_leaf leaf ty
 formed_leaf leaf ty = ap is_well_formed (sym (rolls-Leaf leaf ty)) ∙ fold-roll-Term Bool formed_step (LeafLayer leaf ty)
 
 pub env_leaf : (env : Env) (leaf : LeafOf) (ty : LaneType) → is_env_of env (Leaf leaf ty) ≡ is_env_leaf env leaf ty
@@ -55,7 +55,7 @@ node_type_is r ty u k (Err e) h = absurd (cc)
 leaf_type : (ty u : LaneType) → ◌≡◌ {A = Result LaneType TermFault} (Ok ty) (Ok u) → ty ≡ u
 leaf_type ty u h = cc
 
-typing_stated : (t : Term) (u : LaneType) → typing t ≡ Ok u → stated_type t ≡ u
+pub typing_stated : (t : Term) (u : LaneType) → typing t ≡ Ok u → stated_type t ≡ u
 typing_stated = ind-Term (λ t. (u : LaneType) → typing t ≡ Ok u → stated_type t ≡ u) (λ x y is u h. by x u h) where
   by : (x : Term-F Term) (u : LaneType) → typing (roll-Term x) ≡ Ok u → stated_type (roll-Term x) ≡ u
   by (LeafLayer leaf ty) u h = fold-roll-Term LaneType (λ layer. stated_step layer) (LeafLayer leaf ty) ∙ leaf_type ty u (sym (fold-roll-Term (Result LaneType TermFault) typing_step (LeafLayer leaf ty)) ∙ h)
@@ -67,11 +67,11 @@ AreTyped [] = Unit {0}
 AreTyped (t ∷ ts) = IsWellTyped t × AreTyped ts
 
 -- what is said of the types of a node's operands, once all are found
-gathered_types : (o : Result (List LaneType) TermFault) (t : LaneType) (us : List LaneType) → with_type t o ≡ Ok us → (vs : List LaneType) × (o ≡ Ok vs) × (us ≡ t ∷ vs)
+pub gathered_types : (o : Result (List LaneType) TermFault) (t : LaneType) (us : List LaneType) → with_type t o ≡ Ok us → (vs : List LaneType) × (o ≡ Ok vs) × (us ≡ t ∷ vs)
 gathered_types (Ok vs) t us h = (vs, refl, cc)
 gathered_types (Err e) t us h = absurd (cc)
 
-first_type : (r : Result LaneType TermFault) (n : ℕ) (rs : List (Result LaneType TermFault)) (us : List LaneType) → types_from n (r ∷ rs) ≡ Ok us →
+pub first_type : (r : Result LaneType TermFault) (n : ℕ) (rs : List (Result LaneType TermFault)) (us : List LaneType) → types_from n (r ∷ rs) ≡ Ok us →
     (t : LaneType) × (r ≡ Ok t) × (with_type t (types_from (n + 1) rs) ≡ Ok us)
 first_type (Ok t) n rs us h = (t, refl, h)
 first_type (Err e) n rs us h = absurd (cc)

@@ -1,10 +1,10 @@
 -- Which texts are expressions, and where another text is faulty first.
-use Rattle.std.specs.Prelude.{◌≡◌, ℕ, ◌+◌, ◌-◌, ◌<◌, ◌≤◌, pos, List, [], ◌∷◌, ◌++◌, length, take, Option, Some, None, Result, Ok, Err}
+use Rattle.std.specs.Prelude.{if◌then◌else◌, nat_lt, ◌≡◌, ℕ, ◌+◌, ◌-◌, ◌<◌, ◌≤◌, pos, List, [], ◌∷◌, ◌++◌, length, take, Option, Some, None, Result, Ok, Err}
 use Rattle.pf_terms.specs.declared.draft.Draft.{Draft}
 use Rattle.pf_terms.specs.declared.draft.DraftFault.{DraftFault}
 use Rattle.pf_terms.specs.declared.draft.DraftFault.TheVariants.{Syntax, Memory}
 use Rattle.pf_terms.specs.declared.token.Kind.{Kind}
-use Rattle.pf_terms.specs.declared.token.Kind.TheVariants.{Typed, Open, Close, Minus}
+use Rattle.pf_terms.specs.declared.token.Kind.TheVariants.{Number, Typed, Long, Open, Close, Minus}
 use Rattle.pf_terms.specs.declared.token.Token.{Token}
 use Rattle.pf_terms.specs.Tokens.{IsLexed}
 use Rattle.pf_terms.specs.Grammar.{Whole, Spells, IsSpelled, IsBegun}
@@ -13,6 +13,12 @@ use Rattle.pf_terms.specs.Parsing.{kinds, place_of}
 -- how deep round brackets may be nested
 unfoldable pub bracket_limit : ℕ
 bracket_limit = 1024
+
+-- how many round brackets are open behind the token, or None where it is nested too deep
+abbrev pub nested : ℕ → Kind → Option ℕ
+nested n Open = if nat_lt n bracket_limit then Some (n + 1) else None
+nested n Close = Some (n - 1)
+nested n _ = Some n
 
 -- no round bracket is nested deeper, n being open in front
 abbrev pub IsShallow : ℕ → List Kind → Type 0
@@ -39,6 +45,8 @@ pub record IsFirstFault (ks : List Kind) (n : ℕ) : Type 0 where
 -- a number like this one that is not too large
 abbrev pub small_number : Kind → Option Kind
 small_number (Typed n t) = Some (Typed (pos 0) t)
+small_number (Long None) = Some (Number (pos 0))
+small_number (Long (Some t)) = Some (Typed (pos 0) t)
 small_number _ = None
 
 -- token n is a number, and the minus in front of it is its own: a number could stand there without it

@@ -11,3 +11,6 @@ pub mod Limits
 pub mod Drafts
 pub mod KernelNames
 pub mod Meanings
+pub mod Reading
+pub mod Building
+pub mod ReadBack

@@ -1,7 +1,7 @@
 -- What an expression means, once its names are looked up.
 use Rattle.std.specs.Prelude.{◌≡◌, ℕ, ℤ, pos, neg_ℤ, ◌+◌, ◌≤◌, ◌<◌, Bool, true, ◌&&◌, ◌==◌, not, if◌then◌else◌, int_le, unsigned_abs, List, [], ◌∷◌, ◌++◌, length, map, slice_index_or, Option, Some, None, Result, Ok, Err}
 use Rattle.std.specs.List.{find, flat_map, list_any, position_or_len}
-use Rattle.std.specs.Option.{option_or}
+use Rattle.std.specs.Option.{option_or, unwrap_or}
 use Rattle.std.specs.Str.{bytes_eq}
 use Rattle.pf_ints.specs.declared.lane.LaneType.{LaneType}
 use Rattle.pf_terms.specs.declared.draft.Draft.{Draft}
@@ -104,8 +104,7 @@ tap_number taps t = position_or_len (same_tap t) taps
 
 -- the type that is written with an operator, for operators with which one is
 abbrev pub written_type : Option LaneType → LaneType
-written_type (Some t) = t
-written_type None = no_type
+written_type ty = unwrap_or ty no_type
 
 -- a node with the type that it has by its operator's row
 abbrev pub node_over : Op → Option LaneType → ℤ → List Term → Term

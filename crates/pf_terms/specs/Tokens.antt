@@ -1,11 +1,11 @@
 -- The tokens of a line of text.
-use Rattle.std.specs.Prelude.{◌≡◌, ℕ, ◌+◌, ◌-◌, ◌*◌, ◌≤◌, Bool, true, false, ◌||◌, ◌==◌, ℤ, pos, List, [], ◌∷◌, ◌++◌, ◌⊎◌, length, take, drop, All, codes}
+use Rattle.std.specs.Prelude.{◌≡◌, ℕ, ◌+◌, ◌-◌, ◌*◌, ◌≤◌, Bool, true, false, ◌||◌, ◌==◌, ℤ, pos, List, [], ◌∷◌, ◌++◌, ◌⊎◌, length, take, drop, All, codes, Some, None}
 use Rattle.pf_ints.specs.Words.{is_digit, is_name_byte, is_name}
 use Rattle.pf_terms.specs.declared.op.Op.{Op}
 use Rattle.pf_terms.specs.declared.row.Spelling.{Spelling}
 use Rattle.pf_terms.specs.declared.row.Spelling.TheVariants.{TypeCall, Infix, ShiftBy, Call, CallWithType, CallWithAmount, Select}
 use Rattle.pf_terms.specs.declared.token.Kind.{Kind}
-use Rattle.pf_terms.specs.declared.token.Kind.TheVariants.{Name, TypeWord, Number, Typed, Word, Choose, Line, Open, Close, OpenSquare, CloseSquare, Comma, Plus, Minus, Times, ShiftLeft, ShiftRight, Less, Greater, Same, Equals, Other}
+use Rattle.pf_terms.specs.declared.token.Kind.TheVariants.{Name, TypeWord, Number, Typed, Long, Word, Choose, Line, Open, Close, OpenSquare, CloseSquare, Comma, Plus, Minus, Times, ShiftLeft, ShiftRight, Less, Greater, Same, Equals, Other}
 use Rattle.pf_terms.specs.declared.token.LineWord.{LineWord}
 use Rattle.pf_terms.specs.declared.token.LineWord.TheVariants.{Kernel, Image, Def, Out}
 use Rattle.pf_terms.specs.declared.token.Token.{Token}
@@ -43,6 +43,11 @@ pub record IsNumber (w : List ℕ) (n : ℤ) : Type 0 where
   pub few : length w ≤ 10
   pub value : n ≡ pos (digits_behind 0 w)
 
+-- more than ten digits
+pub record IsLongNumber (w : List ℕ) : Type 0 where
+  pub digits : All (λ b. is_digit b ≡ true) w
+  pub many : 11 ≤ length w
+
 -- the word is that of an operator that is written before round brackets
 abbrev pub IsCalledBy : List ℕ → Op → Type 0
 IsCalledBy w op = (w ≡ op_word op) × (is_word_spelling (spelling_of op) ≡ true)
@@ -53,6 +58,8 @@ IsWordOf w (Name n) = (is_name w ≡ true) × (n ≡ w)
 IsWordOf w (TypeWord t) = w ≡ type_word t
 IsWordOf w (Number n) = IsNumber w n
 IsWordOf w (Typed n t) = (ds : List ℕ) × IsNumber ds n × (w ≡ ds ++ type_word t)
+IsWordOf w (Long None) = IsLongNumber w
+IsWordOf w (Long (Some t)) = (ds : List ℕ) × IsLongNumber ds × (w ≡ ds ++ type_word t)
 IsWordOf w (Word op) = IsCalledBy w op
 IsWordOf w Choose = w ≡ codes "select"
 IsWordOf w (Line l) = w ≡ line_word l

@@ -1,8 +1,8 @@
-ghost use Rattle.std.specs.Prelude.{◌≡◌, ◌≢◌, ◌<◌, ◌≤◌, ◌∷◌, [], length, take, drop, ◌++◌, List, pos, ℕ, ℤ, false, true, IfOk, MatchOption, All};
+ghost use Rattle.std.specs.Prelude.{◌≡◌, ◌≢◌, ◌<◌, ◌≤◌, ◌∷◌, [], length, take, drop, ◌++◌, List, pos, ℕ, ℤ, false, true, IfOk, MatchOption, All, Option};
 ghost use Rattle.pf_ints.specs.Words.{is_digit, is_name, is_name_byte};
 ghost use Rattle.pf_terms.specs.TermTexts.{type_word, op_word, spelling_of};
 ghost use Rattle.pf_terms.specs.declared.token.Kind.{Kind};
-ghost use Rattle.pf_terms.specs.declared.token.Kind.TheVariants.{Typed};
+ghost use Rattle.pf_terms.specs.declared.token.Kind.TheVariants.{Typed, Long};
 ghost use Rattle.pf_terms.specs.declared.token.LineWord.{LineWord};
 ghost use Rattle.pf_terms.specs.Tokens.{is_blank, digits_behind, sign_text, IsRun, IsFront, IsFrontSign, IsLexed, IsNoRun, IsSolid, IsNumber, line_word, IsNoDigit, IsShort, IsWordOf, IsCalledBy};
 
@@ -138,8 +138,11 @@ fn run_kind(run: &[u8]) -> Kind
     if let Some(n) = number_of(run) {
         return Kind::Number(n);
     }
-    match typed_of(run) {
-        Some((n, ty)) => Kind::Typed(n, ty),
+    if let Some((n, ty)) = typed_of(run) {
+        return Kind::Typed(n, ty);
+    }
+    match long_of(run) {
+        Some(ty) => Kind::Long(ty),
         None => Kind::Other,
     }
 }
@@ -185,6 +188,21 @@ fn typed_of(run: &[u8]) -> Option<(i64, LaneType)>
     let n = number_of(&run[..count])?;
     let ty = type_of_word(&run[count..])?;
     Some((n, ty))
+}
+
+// The type behind a number of more than 10 digits, or None where it has none.
+fn long_of(run: &[u8]) -> Option<Option<LaneType>>
+    ensures { MatchOption result ((ty : Option LaneType) → IsWordOf run.now (Long ty) → ⊥) (λ ty. IsWordOf run.now (Long ty)) }
+{
+    let count = digit_length(run);
+    if count < 11 {
+        return None;
+    }
+    if run.len() <= count {
+        return Some(None);
+    }
+    let ty = type_of_word(&run[count..])?;
+    Some(Some(ty))
 }
 
 const LANE_TYPES: [LaneType; 6] = [

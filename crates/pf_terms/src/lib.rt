@@ -1,26 +1,35 @@
 //! Terms over the lanes of images: operators with their types, weights and values, and the texts of terms.
 #![tactic(auto)]
 
+mod build;
 mod draft;
 mod fault;
 mod kernel;
 mod lexer;
 mod limit;
+mod lookup;
 mod meaning;
 mod names;
 mod op;
-mod parse;
 mod print;
 mod read;
+#[cfg(test)]
+mod read_tests;
+mod reader;
+mod resolve;
 mod row;
 mod sizes;
+mod spots;
 mod stack;
 mod symbol;
+mod table;
 mod term;
 #[cfg(test)]
 mod tests;
 mod token;
 mod types;
+#[cfg(test)]
+mod value_tests;
 mod values;
 mod weights;
 
@@ -32,7 +41,6 @@ pub use limit::LimitKind;
 pub use meaning::{ReadFault, read_term};
 pub use names::{DefName, DefNames, ImageName, ImageNames, Names, Tap, TapList};
 pub use op::Op;
-pub use parse::{first_fault, syntax_fault};
 pub use print::{print_term, write_term, write_type};
 pub use read::read_draft;
 pub use row::{Amounts, Gives, Operands, Spelling};

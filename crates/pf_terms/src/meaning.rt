@@ -1,16 +1,25 @@
-ghost use Rattle.std.specs.Prelude.{◌≡◌, true, IfOk, IfErr, OnOk, OnErr};
+ghost use Rattle.std.specs.Prelude.{◌≡◌, ◌≤◌, ◌+◌, length, true, IfOk, IfErr, OnOk, OnErr};
 ghost use Rattle.pf_terms.specs.declared.names.Names.{Names};
 ghost use Rattle.pf_terms.specs.declared.term.Term.{Term};
+ghost use Rattle.pf_terms.specs.Building.{is_formed_draft, IsFaultOrMemory};
 ghost use Rattle.pf_terms.specs.KernelNames.{IsNames};
-ghost use Rattle.pf_terms.specs.Meanings.{IsTermText, IsTermOr, IsReadFault};
-ghost use Rattle.pf_terms.specs.Terms.{IsWellTyped};
-ghost use Rattle.pf_terms.specs.TermTexts.{is_named};
+ghost use Rattle.pf_terms.specs.Meanings.{IsTermText, IsTermOr, IsReadFault, Means, names_after};
+ghost use Rattle.pf_terms.specs.Terms.{IsWellTyped, depth_of};
+ghost use Rattle.pf_terms.specs.TermTexts.{is_named, term_text};
 
+use crate::draft::{Draft, DraftFault};
 use crate::limit::LimitKind;
+use crate::lookup::{first_far, first_unknown};
 use crate::names::Names;
+use crate::read::read_draft;
+use crate::resolve::resolved;
+use crate::spots::{Spots, add_uses, spots_of, taps_of};
 use crate::term::Term;
 use pf_ints::{LaneType, Name};
 use std::alloc::{AllocError, AllocFailed, Global};
+
+/// The most taps that a kernel has.
+const MOST_TAPS: usize = 64;
 
 /// Why a text is no term, judged in the order of these causes.
 #[derive(Debug, Drop)]
@@ -61,6 +70,8 @@ pub fn read_term(alloc: Global, text: &[u8], names: &mut Names) -> Result<Term, 
     ensures read { IfOk result (λ t. IsTermText names.old text.now t names.new) }
     // What a text means is read, unless memory runs out.
     ensures only { (t : Term) (after : Names) → IsTermText names.old text.now t after → IsTermOr t after result names.new }
+    // What was printed of a term is read as the term, and no name is new.
+    ensures back { (t : Term) → IsWellTyped t → is_named names.old t ≡ true → depth_of t ≤ 1024 → text.now ≡ term_text names.old t → IsTermOr t names.old result names.new }
     // The first fault of another text is told.
     ensures fault { IfErr result (IsReadFault names.old text.now) }
     ensures kept { OnErr result (names.new ≡ names.old) }
@@ -68,8 +79,60 @@ pub fn read_term(alloc: Global, text: &[u8], names: &mut Names) -> Result<Term, 
     ensures named { IfOk result (λ t. is_named names.new t ≡ true) }
     ensures names { OnOk result (IsNames names.new) }
 {
-    let _taps = &names.taps;
-    let _text = text.len();
-    let _alloc = alloc;
-    Err(ReadFault::Memory)
+    match read_draft(alloc, text) {
+        Ok(draft) => meaning_of(alloc, &draft, names),
+        Err(DraftFault::Syntax { at }) => Err(ReadFault::Syntax {
+            column: column_of(text, at),
+        }),
+        Err(DraftFault::Memory) => Err(ReadFault::Memory),
+    }
+}
+
+// The column of the byte at a place that is counted from 0.
+fn column_of(text: &[u8], place: usize) -> u64
+    requires { place ≤ length text.now }
+    ensures { result ≡ place + 1 }
+{
+    text[..place].len() as u64 + 1
+}
+
+// The term of an expression, whose new taps are added to the names.
+fn meaning_of(alloc: Global, draft: &Draft, names: &mut Names) -> Result<Term, ReadFault>
+    requires names { IsNames names.old }
+    requires formed { is_formed_draft draft.now ≡ true }
+    ensures read { IfOk result (λ t. Means names.old draft.now t names.new) }
+    ensures fault { IfErr result (IsFaultOrMemory names.old draft.now) }
+    ensures kept { OnErr result (names.new ≡ names.old) }
+{
+    if let Some(name) = first_unknown(draft, names) {
+        return Err(ReadFault::Name { name });
+    }
+    let spots = all_spots(alloc, draft, names)?;
+    let spots = spots.as_slice();
+    let term = resolved(alloc, draft, names, &spots[..spots.len().min(MOST_TAPS)])?;
+    if MOST_TAPS < spots.len() {
+        return Err(ReadFault::Limit {
+            what: LimitKind::Taps,
+            count: spots.len() as i64,
+        });
+    }
+    if let Some(offset) = first_far(draft) {
+        return Err(ReadFault::Limit {
+            what: LimitKind::Offset,
+            count: offset,
+        });
+    }
+    names.taps = taps_of(alloc, spots)?;
+    Ok(term)
+}
+
+// The taps of the names with all new ones of the draft, whatever their number and offsets.
+fn all_spots(alloc: Global, draft: &Draft, names: &Names) -> Result<Spots, AllocError>
+    requires few { length names.now.images ≤ 8 }
+    requires formed { is_formed_draft draft.now ≡ true }
+    ensures { IfOk result (λ spots. spots ≡ (names_after names.now draft.now).taps) }
+{
+    let mut spots = spots_of(alloc, names.taps.as_slice())?;
+    add_uses(&mut spots, draft, &names.images)?;
+    Ok(spots)
 }

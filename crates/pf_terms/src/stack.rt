@@ -1,76 +1,60 @@
-ghost use Rattle.std.specs.Prelude.{◌≡◌, [], ◌∷◌, OnOk, IfOk, MatchOption};
-ghost use Rattle.pf_terms.specs.Parsing.{whole_then, is_done, may_be_none};
+ghost use Rattle.std.specs.Prelude.{◌≡◌, [], ◌∷◌, ◌++◌, OnOk, MatchOption};
 
-use crate::symbol::Symbol;
 use std::alloc::{AllocError, Global};
 use std::marker::Model;
 
-/// What is to come, the next first.
+/// A list that grows and shrinks at its front.
 #[derive(Drop)]
-pub struct Stack {
-    symbols: Vec<Symbol>,
+pub struct Stack<T> {
+    items: Vec<T>,
 }
 
-impl Model for Stack {
+impl<T> Model for Stack<T> {
     ghost use Rattle.std.specs.Prelude.{List, reverse};
-    ghost use Rattle.pf_terms.specs.declared.symbol.Symbol.{Symbol};
+    ghost use Rattle.std.specs.Coded.{coded_list};
 
-    ghost Value = { List Symbol };
+    ghost Value = { List T };
 
-    ghost view = { λ s. reverse s.symbols.items };
+    ghost coded = { coded_list T.code };
+
+    ghost view = { λ s. reverse s.items.items };
 }
 
-impl Stack {
-    /// Nothing is to come.
-    pub fn new(alloc: Global) -> Stack
+impl<T> Stack<T> {
+    pub fn new(alloc: Global) -> Stack<T>
         ensures { result ≡ [] }
     {
         Stack {
-            symbols: Vec::new(alloc),
+            items: Vec::new(alloc),
         }
     }
 
-    pub fn push(&mut self, symbol: Symbol) -> Result<(), AllocError>
-        ensures { OnOk result (self.new ≡ symbol ∷ self.old) }
+    pub fn pop(&mut self) -> Option<T>
+        ensures { MatchOption result ((self.old ≡ []) × (self.new ≡ [])) (λ first. self.old ≡ first ∷ self.new) }
     {
-        self.symbols.push(symbol)?;
-        Ok(())
-    }
-
-    /// A whole expression comes first.
-    pub fn push_whole(&mut self) -> Result<(), AllocError>
-        ensures { OnOk result (self.new ≡ whole_then self.old) }
-    {
-        self.push(Symbol::Shifts)?;
-        self.push(Symbol::Summands)?;
-        self.push(Symbol::Factors)?;
-        self.push(Symbol::Atom)
-    }
-
-    pub fn pop(&mut self) -> Option<Symbol>
-        ensures { MatchOption result ((self.old ≡ []) × (self.new ≡ [])) (λ symbol. self.old ≡ symbol ∷ self.new) }
-    {
-        self.symbols.pop()
-    }
-
-    /// Whether nothing more has to come.
-    pub fn is_done(mut self) -> bool
-        ensures { result ≡ is_done self }
-    {
-        while let Some(symbol) = self.pop() {
-            if !may_be_none(symbol) {
-                return false;
-            }
-        }
-        true
+        self.items.pop()
     }
 }
 
-fn may_be_none(symbol: Symbol) -> bool
-    ensures { result ≡ may_be_none symbol }
-{
-    match symbol {
-        Symbol::Factors | Symbol::Summands | Symbol::Shifts | Symbol::Offsets => true,
-        _ => false,
+impl<T: Drop> Stack<T> {
+    pub fn push(&mut self, item: T) -> Result<(), AllocError>
+        ensures { OnOk result (self.new ≡ item ∷ self.old) }
+    {
+        self.items.push(item)?;
+        Ok(())
+    }
+}
+
+impl<T: Copy + Drop> Stack<T> {
+    /// Puts all items to the front, the first of them first.
+    pub fn push_all(&mut self, items: &[T]) -> Result<(), AllocError>
+        ensures { OnOk result (self.new ≡ items.now ++ self.old) }
+    {
+        let mut left = items.len();
+        while 0 < left {
+            left -= 1;
+            self.push(items[left])?;
+        }
+        Ok(())
     }
 }

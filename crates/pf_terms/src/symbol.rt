@@ -11,8 +11,14 @@ pub enum Symbol {
     Shifts,
     /// Offsets in square brackets, or none.
     Offsets,
-    /// A number that may have a minus.
-    Integer,
+    /// The first offset, a number that may have a minus.
+    Column,
+    /// The second offset.
+    Row,
+    /// The first offset's number, behind its minus.
+    NegatedColumn,
+    /// The second offset's number, behind its minus.
+    NegatedRow,
     /// A number.
     Digits,
     /// A number with its type, behind a minus.
@@ -25,6 +31,8 @@ pub enum Symbol {
     Close,
     CloseSquare,
     Comma,
+    /// No token: what was begun last is whole here.
+    End,
 }
 
 /// What stands in the round brackets behind an operator's word.

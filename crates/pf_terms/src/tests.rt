@@ -1,6 +1,6 @@
 use crate::{
-    DefName, Env, ImageName, Kind, Leaf, Names, Tap, Term, print_term, syntax_fault, tokens,
-    type_of, value, weight,
+    DefName, Draft, DraftFault, Env, ImageName, Kind, Leaf, Names, Op, Tap, Term, print_term,
+    read_draft, tokens, type_of, value, weight,
 };
 use pf_ints::{Bits, Duplicate, LaneType, Name, Sequence};
 use std::alloc::{AllocError, Global};
@@ -53,26 +53,88 @@ fn constants(rt: HostRuntime) -> Result<(), Fail> {
     Ok(())
 }
 
+// The place of the fault, or None where there is none.
+fn fault(alloc: Global, text: &[u8]) -> Option<usize> {
+    match read_draft(alloc, text) {
+        Ok(_) => None,
+        Err(DraftFault::Syntax { at }) => Some(at),
+        Err(DraftFault::Memory) => Some(usize::MAX),
+    }
+}
+
 #[test]
 fn places(rt: HostRuntime) -> Result<(), Fail> {
     let alloc = rt.alloc();
-    assert_eq!(rt; syntax_fault(alloc, b"a[0,0] - b[-1,2] - c")?, None);
-    assert_eq!(rt; syntax_fault(alloc, b"x >> 1 << 2")?, None);
-    assert_eq!(rt; syntax_fault(alloc, b"select(a < b, -3i16, i16(y))")?, None);
+    assert_eq!(rt; fault(alloc, b"select(a < b, -3i16, i16(y))"), None);
     assert_eq!(rt;
-        syntax_fault(alloc, b"saturating_cast(u8, mul_shr(x, y, 7) * 2u8)")?,
+        fault(alloc, b"saturating_cast(u8, mul_shr(x, y, 7) * 2u8)"),
         None
     );
-    assert_eq!(rt; syntax_fault(alloc, b"min(a, 3 i16)")?, Some(7));
-    assert_eq!(rt; syntax_fault(alloc, b"a >>> 1")?, Some(4));
-    assert_eq!(rt; syntax_fault(alloc, b"x >> 1 + y")?, Some(7));
-    assert_eq!(rt; syntax_fault(alloc, b"abs(x, y)")?, Some(5));
-    assert_eq!(rt; syntax_fault(alloc, b"(a + ")?, Some(4));
-    assert_eq!(rt; syntax_fault(alloc, b"")?, Some(0));
-    assert_eq!(rt; syntax_fault(alloc, b"x << 12345678901")?, Some(5));
-    assert_eq!(rt; syntax_fault(alloc, b"def")?, Some(0));
-    assert_eq!(rt; syntax_fault(alloc, b"-128i8 + 127i8")?, None);
-    assert_eq!(rt; syntax_fault(alloc, b"x + 128i8")?, Some(4));
+    assert_eq!(rt; fault(alloc, b"min(a, 3 i16)"), Some(7));
+    assert_eq!(rt; fault(alloc, b"a >>> 1"), Some(4));
+    assert_eq!(rt; fault(alloc, b"x >> 1 + y"), Some(7));
+    assert_eq!(rt; fault(alloc, b"abs(x, y)"), Some(5));
+    assert_eq!(rt; fault(alloc, b"(a + "), Some(4));
+    assert_eq!(rt; fault(alloc, b""), Some(0));
+    assert_eq!(rt; fault(alloc, b"x << 12345678901"), Some(5));
+    assert_eq!(rt; fault(alloc, b"-128i8 + 127i8"), None);
+    assert_eq!(rt; fault(alloc, b"x + 128i8"), Some(4));
+    assert_eq!(rt; fault(alloc, b"x - 128i8"), Some(4));
+    assert_eq!(rt; fault(alloc, b"x - - 129i8"), Some(4));
+    assert_eq!(rt; fault(alloc, b"-12345678901u8"), Some(0));
+    assert_eq!(rt; fault(alloc, b"a[-12345678901,0]"), Some(2));
+    assert_eq!(rt; fault(alloc, b"- foo"), Some(2));
+    Ok(())
+}
+
+// A name in so many round brackets.
+fn bracketed(alloc: Global, depth: usize) -> Result<Vec<u8>, AllocError> {
+    let mut text = Vec::new(alloc);
+    for _ in 0..depth {
+        text.push(b'(')?;
+    }
+    text.push(b'x')?;
+    for _ in 0..depth {
+        text.push(b')')?;
+    }
+    Ok(text)
+}
+
+#[test]
+fn brackets(rt: HostRuntime) -> Result<(), Fail> {
+    let alloc = rt.alloc();
+    assert_eq!(rt; fault(alloc, bracketed(alloc, 1024)?.as_slice()), None);
+    assert_eq!(rt;
+        fault(alloc, bracketed(alloc, 1025)?.as_slice()),
+        Some(1024)
+    );
+    Ok(())
+}
+
+// The operator, its amount and its operands' count, or None for a leaf.
+fn node(draft: &Draft) -> Option<(Op, i64, usize)> {
+    match draft {
+        Draft::Node { op, k, args, .. } => Some((*op, *k, args.len())),
+        _ => None,
+    }
+}
+
+fn left(draft: &Draft) -> Option<&Draft> {
+    match draft {
+        Draft::Node { args, .. } => args.get(0),
+        _ => None,
+    }
+}
+
+#[test]
+fn groups(rt: HostRuntime) -> Result<(), Fail> {
+    let alloc = rt.alloc();
+    let shifts = read_draft(alloc, b"x >> 1 << 2").map_err(|_| "shifts")?;
+    assert_eq!(rt; node(&shifts), Some((Op::ShiftLeft, 2, 1)));
+    let sums = read_draft(alloc, b"a[0,0] - b[-1,2] - c * d").map_err(|_| "sums")?;
+    let first = left(&sums).ok_or("a left side")?;
+    assert_eq!(rt; node(&sums), Some((Op::Sub, 0, 2)));
+    assert_eq!(rt; node(first), Some((Op::Sub, 0, 2)));
     Ok(())
 }
 

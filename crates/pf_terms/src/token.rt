@@ -19,6 +19,8 @@ pub enum Kind {
     Number(i64),
     /// A number of at most 10 digits with its type right behind it.
     Typed(i64, LaneType),
+    /// A number of more than 10 digits, with its type right behind it or without one.
+    Long(Option<LaneType>),
     /// The word of an operator that is written before round brackets.
     Word(Op),
     /// `select`.

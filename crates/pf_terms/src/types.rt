@@ -84,7 +84,7 @@ fn node_type(
     }
 }
 
-fn type_fault(op: Op, ty: LaneType, types: &[LaneType]) -> Option<(LaneType, LaneType)>
+pub fn type_fault(op: Op, ty: LaneType, types: &[LaneType]) -> Option<(LaneType, LaneType)>
     requires { length types.now ≡ operand_count (row_of op).operands }
     ensures { result ≡ type_fault (row_of op) ty types.now }
 {
@@ -130,7 +130,7 @@ fn is_same(a: LaneType, b: LaneType) -> bool
     a == b
 }
 
-fn result_type(gives: Gives, ty: LaneType, types: &[LaneType]) -> LaneType
+pub fn result_type(gives: Gives, ty: LaneType, types: &[LaneType]) -> LaneType
     ensures { result ≡ result_type gives ty types.now }
 {
     match (gives, types) {
@@ -143,7 +143,7 @@ fn result_type(gives: Gives, ty: LaneType, types: &[LaneType]) -> LaneType
     }
 }
 
-fn is_amount(amounts: Amounts, w: u8, k: u8) -> bool
+pub fn is_amount(amounts: Amounts, w: u8, k: u8) -> bool
     requires { w ≤ 32 }
     ensures { result ≡ is_amount amounts w k }
 {

@@ -105,7 +105,7 @@ weaker_begins name most P Q files f = weaker (files name)
     weaker (Some all) p = f (take most all) p
 
 -- a file was read, and its bytes were judged
-pub judged_found : {A R : Type 0} (P : A → List ℕ → Type 0) (E : R → List ℕ → Type 0) (name : List ℕ) (most : ℕ) (b c : Store) (bytes : List ℕ) (r : Result A (Stop R))
+judged_found : {A R : Type 0} (P : A → List ℕ → Type 0) (E : R → List ℕ → Type 0) (name : List ℕ) (most : ℕ) (b c : Store) (bytes : List ℕ) (r : Result A (Stop R))
     → Went (λ old new. Begins name most (λ front. bytes ≡ front) old × SameContents old new) (Well 1) b c → Finds P E r bytes → Judged P E name most b r c
 judged_found P E name most b c bytes (Ok x) read found = record {
   contents = changes_weaker _ _ (λ m n p. (weaker_begins name most (λ front. bytes ≡ front) (P x) m (λ front e. subst (P x) e found) p.0, p.1)) b.held c.held read.contents;
@@ -122,3 +122,8 @@ judged_found P E name most b c bytes (Err (Unread fault)) read found = subst (λ
   faults = read.faults;
   calls = (1, omega arith, read.calls);
 })
+
+pub judged_room : {A R : Type 0} (P : A → List ℕ → Type 0) (E : R → List ℕ → Type 0) (name : List ℕ) (most room : ℕ) (b c : Store) (bytes : List ℕ) (r : Result A (Stop R))
+    → room ≡ most → Went (λ old new. Begins name room (λ front. bytes ≡ front) old × SameContents old new) (Well 1) b c → Finds P E r bytes → Judged P E name most b r c
+judged_room P E name most room b c bytes r same read found =
+    judged_found P E name most b c bytes r (subst (λ k. Went (λ old new. Begins name k (λ front. bytes ≡ front) old × SameContents old new) (Well 1) b c) same read) found

@@ -3,7 +3,10 @@ pub mod SixWords
 pub mod Courses
 pub mod RunLists
 pub mod TextFiles
+pub mod KernelFiles
 pub mod Running
+pub mod Completing
+pub mod Fits
 pub mod Tellable
 pub mod ImageLists
 pub mod Telling

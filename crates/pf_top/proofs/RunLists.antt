@@ -1,6 +1,8 @@
 -- The words of a run as lists.
-use Rattle.std.proofs.Common.{◌≡◌, ℕ, zero, suc, false, ◌==◌, ◌+◌, ◌-◌, ◌≤◌, ◌<◌, List, [], ◌∷◌, ◌++◌, length, map, take, drop, get_or, sym, ap, ◌∙◌, arith}
+use Rattle.std.proofs.Common.{◌≡◌, subst, ℕ, zero, suc, Bool, true, false, not, ◌==◌, ◌+◌, ◌-◌, ◌≤◌, ◌<◌, List, [], ◌∷◌, ◌++◌, length, map, take, drop, get_or, sym, ap, ◌∙◌, arith}
 use Rattle.std.proofs.lemmas.List.{take_more, take_all, length-map, map-append}
+use Rattle.std.specs.Str.{bytes_eq}
+use Rattle.pf_rows.proofs.Parts.{bytes_eq-same}
 
 last_item : {X : Type 0} (xs : List X) (c : X) → 1 ≤ length xs → c ≡ get_or xs (length xs - 1) c → xs ≡ take (length xs - 1) xs ++ c ∷ []
 last_item xs c some is =
@@ -30,3 +32,14 @@ not_zero (suc n) e = omega arith
 
 pub some_texts : {X : Type 0} (g : X → List ℕ) (xs : List X) → false ≡ (length xs == 0) → 0 < length (map g xs)
 some_texts g xs some = let mapped : length (map g xs) ≡ length xs = length-map xs g in let pos = not_zero (length xs) some in omega (arith, mapped, pos)
+
+-- the first word is no other command
+pub other_command : {X : Type 0} (g : X → List ℕ) (xs : List X) (a : X) (command : List ℕ) → 1 ≤ length xs → a ≡ get_or xs 0 a → (command ≡ g a → ⊥) → (rest : List (List ℕ)) → map g xs ≡ command ∷ rest → ⊥
+other_command g [] a command some here differs rest e = absurd (omega arith)
+other_command g (x ∷ more) a command some here differs rest e = let first : g x ≡ command = cc in differs (sym (ap g here ∙ first))
+
+pub other_word : (u v : List ℕ) → true ≡ not (bytes_eq u v) → u ≡ v → ⊥
+other_word u v differ same =
+    let other : true ≡ not (bytes_eq v v) = subst (λ w. true ≡ not (bytes_eq w v)) same differ in
+    let never : true ≡ false = subst (λ b. true ≡ not b) (bytes_eq-same v) other in
+    absurd (cc)

@@ -1,6 +1,5 @@
 -- The words of a run are those of no other.
 use Rattle.std.proofs.Common.{◌≡◌, ℕ, suc, List, [], ◌∷◌, ◌++◌, length, length-append, refl, sym, ◌∙◌, ap, arith}
-use Rattle.std.specs.Prelude.{codes}
 use Rattle.pf_top.specs.Running.{Run, IsRun}
 
 -- lists that end in one item
@@ -14,9 +13,9 @@ same_ends (a ∷ xs) (b ∷ ys) x y e =
     let rest = same_ends xs ys x y more in
     (rw (first, rest.0) refl, rest.1)
 
-pub same_run : (words : List (List ℕ)) (r t : Run) → IsRun words r → IsRun words t → r ≡ t
-same_run words r t is also =
-    let both : codes "run" ∷ r.text ∷ (r.images ++ r.out ∷ []) ≡ codes "run" ∷ t.text ∷ (t.images ++ t.out ∷ []) = sym is.0 ∙ also.0 in
+pub same_run : (command : List ℕ) (words : List (List ℕ)) (r t : Run) → IsRun command words r → IsRun command words t → r ≡ t
+same_run command words r t is also =
+    let both : command ∷ r.text ∷ (r.images ++ r.out ∷ []) ≡ command ∷ t.text ∷ (t.images ++ t.out ∷ []) = sym is.0 ∙ also.0 in
     let text : r.text ≡ t.text = cc in
     let behind : r.images ++ r.out ∷ [] ≡ t.images ++ t.out ∷ [] = cc in
     let ends = same_ends r.images t.images r.out t.out behind in

@@ -1,19 +1,24 @@
--- The faults that a run may have on as many images as declared, of their types, and the images that they name.
+-- The faults that a run or an evaluation may have on as many images as declared, of their types, and the images that they name.
 use Rattle.std.proofs.Common.{◌≡◌, ℕ, ℤ, ◌+◌, ◌<◌, arith, List, [], ◌∷◌, length, Err, inl, inr}
 use Rattle.std.specs.List.{AllZip}
 use Rattle.pf_ints.specs.Images.{Picture}
 use Rattle.pf_terms.specs.declared.kernel.ImageDecl.{ImageDecl}
+use Rattle.pf_terms.specs.declared.names.Tap.{Tap}
+use Rattle.pf_kernel.specs.Kernels.{Meaning}
 use Rattle.pf_isa.specs.Programs.{Text}
 use Rattle.pf_isa.specs.Tables.{Table}
 use Rattle.pf_run.specs.declared.fault.RunFault.{RunFault}
 use Rattle.pf_run.specs.declared.fault.RunFault.TheVariants.{Text as TextAt, Set, Outside, Spent, Memory}
+use Rattle.pf_run.specs.declared.fault.SetFault.{SetFault}
 use Rattle.pf_run.specs.declared.fault.SetFault.TheVariants.{Count, Kind, Size, Pixel, NoOutput}
 use Rattle.pf_run.specs.Answers.{Ran}
-use Rattle.pf_run.specs.Sets.{IsFirstFault}
+use Rattle.pf_run.specs.Sets.{IsFirstFault, IsSetFault}
 use Rattle.pf_top.specs.declared.run_verdict.NotRun.{NotRun}
 use Rattle.pf_top.specs.declared.run_verdict.NotRun.TheVariants.{Size as NotRunSize, Pixel as NotRunPixel, NoOutput as NotRunNoOutput, Outside as NotRunOutside, Spent as NotRunSpent}
-use Rattle.pf_top.specs.Running.{Run, fault_of, IsImageAmong}
+use Rattle.pf_top.specs.KernelFiles.{Evaluates}
+use Rattle.pf_top.specs.Running.{Run, IsImageAmong}
 use Rattle.pf_top.specs.RunSteps.{IsTellable}
+use Rattle.pf_top.specs.TextFiles.{fault_of}
 
 -- no image is of another type
 no_kind : (width height number image : ℕ) (decls : List ImageDecl) (pictures : List Picture) → AllZip (λ d p. p.ty ≡ d.ty) decls pictures → IsFirstFault width height number decls pictures (Kind image) → ⊥
@@ -22,14 +27,17 @@ no_kind width height number image (d ∷ ds) [] types fault = fault
 no_kind width height number image (d ∷ ds) (p ∷ ps) types (inl here) = here.1 types.0
 no_kind width height number image (d ∷ ds) (p ∷ ps) types (inr next) = no_kind width height (number + 1) image ds ps types.1 next.1
 
+pub tellable_set : (decls : List ImageDecl) (taps : List Tap) (pictures : List Picture) (fault : SetFault) → length pictures ≡ length decls → AllZip (λ d q. q.ty ≡ d.ty) decls pictures → IsSetFault decls taps pictures fault → IsTellable (Set fault)
+tellable_set decls taps pictures (Count want got) count types is = is.0 count
+tellable_set decls taps pictures (Kind image) count types is = no_kind _ _ 0 image decls pictures types is.1
+tellable_set decls taps pictures (Size image width height) count types is = tt
+tellable_set decls taps pictures (Pixel image x y value) count types is = tt
+tellable_set decls taps pictures NoOutput count types is = tt
+
 pub tellable : {I O : Type 0} (t : Table O) (p : Text I O) (pictures : List Picture) (fault : RunFault)
     → length pictures ≡ length p.head.images → AllZip (λ d q. q.ty ≡ d.ty) p.head.images pictures → Ran t p pictures (Err fault) → IsTellable fault
 tellable t p pictures (TextAt line kind) count types ran = ran
-tellable t p pictures (Set (Count want got)) count types ran = ran.1.0 count
-tellable t p pictures (Set (Kind image)) count types ran = no_kind _ _ 0 image p.head.images pictures types ran.1.1
-tellable t p pictures (Set (Size image width height)) count types ran = tt
-tellable t p pictures (Set (Pixel image x y value)) count types ran = tt
-tellable t p pictures (Set NoOutput) count types ran = tt
+tellable t p pictures (Set fault) count types ran = tellable_set p.head.images p.head.taps pictures fault count types ran.1
 tellable t p pictures (Outside at address long) count types ran = tt
 tellable t p pictures (Spent steps) count types ran = tt
 tellable t p pictures Memory count types ran = tt
@@ -53,3 +61,10 @@ image_among t p r pictures (NotRunPixel image x y n) long ran = let low = pixel_
 image_among t p r pictures NotRunNoOutput long ran = tt
 image_among t p r pictures (NotRunOutside at address count) long ran = tt
 image_among t p r pictures (NotRunSpent steps) long ran = tt
+
+pub kernel_among : (k : Meaning) (r : Run) (pictures : List Picture) (e : NotRun) → length pictures ≡ length r.images → Evaluates k pictures (Err e) → IsImageAmong r e
+kernel_among k r pictures (NotRunSize image w h) long ends = let low = size_within _ _ 0 k.source.images pictures image w h ends.1.1 in omega (arith, low, long)
+kernel_among k r pictures (NotRunPixel image x y n) long ends = let low = pixel_within _ _ 0 k.source.images pictures image x y n ends.1.1 in omega (arith, low, long)
+kernel_among k r pictures NotRunNoOutput long ends = tt
+kernel_among k r pictures (NotRunOutside at address count) long ends = tt
+kernel_among k r pictures (NotRunSpent steps) long ends = tt

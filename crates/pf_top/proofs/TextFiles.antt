@@ -9,7 +9,7 @@ use Rattle.pf_isa.specs.Programs.{Text}
 use Rattle.pf_isa.specs.Tables.{Table}
 use Rattle.pf_isa.specs.Texts.{IsText, target_line, declaration_lines}
 use Rattle.pf_isa.specs.TextFaults.{IsFor}
-use Rattle.pf_top.specs.Running.{text_limit}
+use Rattle.pf_top.specs.TextFiles.{text_limit}
 
 pub limit_low : (n : ℕ) → n ≤ text_limit → n < 2147483648
 unfolding text_limit

@@ -16,9 +16,9 @@ use Rattle.pf_top.specs.Courses.{Course, Well, later, Begins, Judges, judging_co
 unfoldable pub image_limit : ℕ
 image_limit = 33619968
 
--- the bytes are a PGM file of this image, read as one of this type, within the limit
+-- the bytes are a PGM file of this image and of no other, read as one of this type, within the limit
 abbrev pub IsImageFile : LaneType → Picture → List ℕ → Type 0
-IsImageFile ty picture bytes = (length bytes ≤ image_limit) × IsPgm bytes ty picture
+IsImageFile ty picture bytes = (length bytes ≤ image_limit) × IsPgm bytes ty picture × ((other : Picture) → IsPgm bytes ty other → picture ≡ other)
 
 -- why they are none: they pass the limit, or are a file of no image and have this first fault
 abbrev pub RefusesImage : LaneType → ImageRefusal → List ℕ → Type 0

@@ -5,6 +5,7 @@ pub mod Headline
 pub mod KernelFiles
 pub mod KernelStatuses
 pub mod Running
+pub mod Completeness
 pub mod RunStatuses
 pub mod RunSteps
 pub mod Selected
@@ -12,3 +13,4 @@ pub mod Selections
 pub mod SelectStatuses
 pub mod Statuses
 pub mod Steps
+pub mod TextFiles

@@ -1,4 +1,4 @@
--- The statuses of `run` and the lines that it puts.
+-- The statuses of `run` and `eval` and the lines that they put.
 use Rattle.std.specs.Prelude.{ℕ, ℤ, List, [], ◌∷◌, codes, decimal, Option, Some, None}
 use Rattle.std.specs.Fmt.{signed_decimal}
 use Rattle.pf_ints.specs.Targets.{target_word}
@@ -48,14 +48,14 @@ not_run_due r NoOutput = due 9 (line_of (codes "no output pixel" ∷ []))
 not_run_due r (Outside at address length) = outside_due at address length
 not_run_due r (Spent steps) = due 12 (line_of (codes "spent: " ∷ decimal steps ∷ codes " steps" ∷ []))
 
--- what is due at each verdict of `run`; nothing is put on success
-abbrev pub run_due : Run → RunVerdict → Option Due
-run_due r Done = None
-run_due r (Missing w) = Some (due 3 (line_of (codes "no file: " ∷ run_file_name r w ∷ [])))
-run_due r (ReadFailed w) = Some (due 3 (line_of (codes "read failed: " ∷ run_file_name r w ∷ [])))
-run_due r (TextRefused e) = Some (text_due r.text e)
-run_due r (Count want got) = Some (count_due want got)
-run_due r (ImageRefused n e) = Some (image_due (run_file_name r (Image n)) e)
-run_due r (Prevented e) = Some (not_run_due r e)
-run_due r WriteFailed = Some (write_failed r.out)
-run_due r Memory = Some wanting
+-- what is due at each verdict of `run` or `eval`, by what is due for a text that is refused; nothing is put on success
+abbrev pub run_due : {R : Type 0} → (List ℕ → R → Due) → Run → RunVerdict R → Option Due
+run_due refused r Done = None
+run_due refused r (Missing w) = Some (due 3 (line_of (codes "no file: " ∷ run_file_name r w ∷ [])))
+run_due refused r (ReadFailed w) = Some (due 3 (line_of (codes "read failed: " ∷ run_file_name r w ∷ [])))
+run_due refused r (TextRefused e) = Some (refused r.text e)
+run_due refused r (Count want got) = Some (count_due want got)
+run_due refused r (ImageRefused n e) = Some (image_due (run_file_name r (Image n)) e)
+run_due refused r (Prevented e) = Some (not_run_due r e)
+run_due refused r WriteFailed = Some (write_failed r.out)
+run_due refused r Memory = Some wanting

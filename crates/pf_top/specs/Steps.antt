@@ -1,6 +1,7 @@
 -- The code's values as the definitions see them, and what the steps of `select` come to.
 use Rattle.std.specs.Prelude.{◌≡◌, ℕ, List, Option, Result, Ok, Err, ⊤, decimal}
 use Rattle.std.specs.Fmt.{signed_decimal}
+use Rattle.pf_terms.specs.TermTexts.{type_word}
 use Rattle.pf_top.specs.declared.command.Selection.{Selection}
 use Rattle.pf_images.specs.declared.files.FilesFault.{FilesFault}
 use Rattle.pf_images.specs.declared.files.FilesFault.TheVariants.{Missing as MissingFault, Failed as FailedFault, Memory as MemoryFault}

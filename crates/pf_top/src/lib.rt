@@ -2,6 +2,7 @@
 #![tactic(auto)]
 
 mod command;
+mod eval;
 mod image_files;
 mod judging;
 mod kernel_file;
@@ -23,6 +24,8 @@ mod verdict;
 pub use report::tell_want;
 pub use top::pitchfork;
 
+#[cfg(test)]
+mod eval_tests;
 #[cfg(test)]
 mod run_tests;
 #[cfg(test)]

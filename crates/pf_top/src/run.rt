@@ -1,16 +1,18 @@
 //! The command `run`.
 
-ghost use Rattle.std.specs.Prelude.{◌≡◌, ◌<◌, ◌^◌, length};
+ghost use Rattle.std.specs.Prelude.{◌≡◌, ◌<◌, ◌^◌, length, Some};
 ghost use Rattle.std.specs.List.{AllZip};
 ghost use Rattle.pf_top.specs.Courses.{seen};
-ghost use Rattle.pf_top.specs.Running.{fault_of, RanTo};
+ghost use Rattle.pf_top.specs.KernelFiles.{set_fault};
+ghost use Rattle.pf_top.specs.Running.{RanTo};
 ghost use Rattle.pf_top.specs.RunSteps.{the_run, run_verdict_of, Counted, IsTellable, IsVerdictOf, Outputs};
+ghost use Rattle.pf_top.specs.TextFiles.{fault_of, programs};
 
 use crate::image_files::read_images;
 use crate::judging::write_file;
 use crate::run_verdict::{NotRun, RunVerdict};
 use crate::run_words::RunWords;
-use crate::text_file::read_program;
+use crate::text_file::{TextRefusal, read_program};
 use pf_images::{Files, write_pgm};
 use pf_ints::ImageSet;
 use pf_isa::Program;
@@ -19,7 +21,7 @@ use pf_run::{RunFault, SetFault, run_program};
 use std::alloc::Global;
 
 /// Judges the number of images.
-fn judge_count(want: usize, got: usize) -> Result<(), RunVerdict>
+pub fn judge_count<R>(want: usize, got: usize) -> Result<(), RunVerdict<R>>
     ensures { Counted want got result }
 {
     if want == got {
@@ -31,10 +33,11 @@ fn judge_count(want: usize, got: usize) -> Result<(), RunVerdict>
     })
 }
 
-/// Why a program is not run, of what is wrong with as many images as declared, of their types.
-fn not_suited(fault: SetFault) -> NotRun
+/// Why a text makes no image, of what is wrong with as many images as declared, of their types.
+pub fn not_suited(fault: SetFault) -> NotRun
     requires { IsTellable (RunFault.Set fault) }
-    ensures { RunFault.Set fault ≡ fault_of result }
+    ensures run { RunFault.Set fault ≡ fault_of result }
+    ensures set { set_fault result ≡ Some fault }
 {
     match fault {
         SetFault::Size {
@@ -53,7 +56,7 @@ fn not_suited(fault: SetFault) -> NotRun
 }
 
 /// What the call comes to where the program isn't run to its end.
-fn verdict_of(fault: RunFault) -> RunVerdict
+fn verdict_of(fault: RunFault) -> RunVerdict<TextRefusal>
     requires { IsTellable fault }
     ensures { IsVerdictOf fault result }
 {
@@ -79,11 +82,11 @@ fn output_of(
     alloc: Global,
     program: Program<Neon>,
     images: &ImageSet,
-) -> Result<Vec<u8>, RunVerdict>
+) -> Result<Vec<u8>, RunVerdict<TextRefusal>>
     requires count { length images.now ≡ length program.head.images }
     requires size { length program.code < 2 ^ 31 }
     requires types { AllZip (λ d p. p.ty ≡ d.ty) program.head.images images.now }
-    ensures { Outputs (λ v. v.items) program images.now result }
+    ensures { Outputs (λ v. v.items) programs program images.now result }
 {
     let output = match run_program::<Neon>(alloc, program, images) {
         Ok(output) => output,
@@ -95,8 +98,12 @@ fn output_of(
 
 /// Reads and judges the text and then the images in the order of the words, each before the next is
 /// read, runs the text on the images, and writes what it leaves.
-fn run_files<F: Files>(alloc: Global, words: &RunWords<'_>, files: &mut F) -> Result<(), RunVerdict>
-    ensures { RanTo (the_run words.now) (seen F.held F.faults F.calls files.old) (run_verdict_of result)
+fn run_files<F: Files>(
+    alloc: Global,
+    words: &RunWords<'_>,
+    files: &mut F,
+) -> Result<(), RunVerdict<TextRefusal>>
+    ensures { RanTo programs (the_run words.now) (seen F.held F.faults F.calls files.old) (run_verdict_of result)
         (seen F.held F.faults F.calls files.new) }
 {
     let program = read_program(alloc, files, words.text)?;
@@ -109,8 +116,12 @@ fn run_files<F: Files>(alloc: Global, words: &RunWords<'_>, files: &mut F) -> Re
 }
 
 /// What the command `run` comes to.
-pub fn run<F: Files>(alloc: Global, words: &RunWords<'_>, files: &mut F) -> RunVerdict
-    ensures { RanTo (the_run words.now) (seen F.held F.faults F.calls files.old) result
+pub fn run<F: Files>(
+    alloc: Global,
+    words: &RunWords<'_>,
+    files: &mut F,
+) -> RunVerdict<TextRefusal>
+    ensures { RanTo programs (the_run words.now) (seen F.held F.faults F.calls files.old) result
         (seen F.held F.faults F.calls files.new) }
 {
     match run_files(alloc, words, files) {

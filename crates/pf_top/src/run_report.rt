@@ -1,19 +1,49 @@
-//! The lines of `run`.
+//! The lines of `run` and `eval`.
 
-ghost use Rattle.std.specs.Prelude.{◌≡◌};
+ghost use Rattle.std.specs.Prelude.{◌≡◌, ℕ, List};
+ghost use Rattle.pf_top.specs.KernelStatuses.{kernel_due};
 ghost use Rattle.pf_top.specs.Running.{run_file_name};
 ghost use Rattle.pf_top.specs.RunStatuses.{text_due, image_due, count_due, size_due, pixel_due, outside_due, not_run_due, run_due};
 ghost use Rattle.pf_top.specs.RunSteps.{the_run};
-ghost use Rattle.pf_top.specs.Statuses.{Told, Tells};
+ghost use Rattle.pf_top.specs.Statuses.{Due, Told, Tells};
 ghost use Rattle.pf_top.specs.Steps.{seen_output};
 
 use crate::image_files::ImageRefusal;
+use crate::kernel_file::KernelRefusal;
+use crate::kernel_report::tell_kernel;
 use crate::report::{Piece, tell, tell_named, tell_want, tell_write_failed};
 use crate::run_verdict::{NotRun, RunFile, RunVerdict};
 use crate::run_words::RunWords;
 use crate::text_file::TextRefusal;
 use pf_images::Sink;
 use std::alloc::Global;
+
+/// Why a text is refused.
+pub trait Refusal {
+    /// What is due, by the name of the text's file.
+    ghost told: { List ℕ → Self → Due };
+
+    /// Puts it, and answers the status.
+    fn tell<S: Sink>(self, alloc: Global, out: &mut S, name: &[u8]) -> u8
+        ensures { Told (told name.now self) (seen_output S.written S.faults S.calls out.old) result
+            (seen_output S.written S.faults S.calls out.new) };
+}
+
+impl Refusal for TextRefusal {
+    ghost told = { text_due };
+
+    fn tell<S: Sink>(self, alloc: Global, out: &mut S, name: &[u8]) -> u8 {
+        tell_text(alloc, out, name, self)
+    }
+}
+
+impl Refusal for KernelRefusal {
+    ghost told = { kernel_due };
+
+    fn tell<S: Sink>(self, alloc: Global, out: &mut S, name: &[u8]) -> u8 {
+        tell_kernel(alloc, out, name, self)
+    }
+}
 
 /// The name of a file that is read. Images that there are no words for have none.
 fn file_name<'a>(words: &RunWords<'a>, file: RunFile) -> &'a [u8]
@@ -222,13 +252,13 @@ fn tell_count<S: Sink>(alloc: Global, out: &mut S, want: u64, got: u64) -> u8
 }
 
 /// Puts the line of the verdict where it has one, and answers the status.
-pub fn tell_run_verdict<S: Sink>(
+pub fn tell_run_verdict<R: Refusal, S: Sink>(
     alloc: Global,
     words: &RunWords<'_>,
-    verdict: RunVerdict,
+    verdict: RunVerdict<R>,
     out: &mut S,
 ) -> u8
-    ensures { Tells (run_due (the_run words.now) verdict)
+    ensures { Tells (run_due R.told (the_run words.now) verdict)
         (seen_output S.written S.faults S.calls out.old) result
         (seen_output S.written S.faults S.calls out.new) }
 {
@@ -244,7 +274,7 @@ pub fn tell_run_verdict<S: Sink>(
         RunVerdict::ReadFailed(file) => {
             tell_named(alloc, out, 3, b"read failed: ", file_name(words, file))
         }
-        RunVerdict::TextRefused(refusal) => tell_text(alloc, out, words.text.as_bytes(), refusal),
+        RunVerdict::TextRefused(refusal) => refusal.tell(alloc, out, words.text.as_bytes()),
         RunVerdict::Count { want, got } => tell_count(alloc, out, want, got),
         RunVerdict::ImageRefused(n, refusal) => {
             tell_image(alloc, out, file_name(words, RunFile::Image(n)), refusal)

@@ -1,24 +1,24 @@
-//! What a call of `run` comes to.
+//! What a call of `run` or `eval` comes to.
 
 ghost use Rattle.std.specs.Prelude.{◌≡◌};
 ghost use Rattle.pf_top.specs.RunSteps.{unread};
 
 use crate::image_files::{ImageRefusal, ImageStop};
 use crate::judging::{Stop, Unwritten};
-use crate::text_file::TextRefusal;
 use pf_images::FilesFault;
 use std::alloc::AllocError;
 
-/// A word of `run` that names a file to be read.
+/// A word of `run` or `eval` that names a file to be read.
 #[derive(Clone, Copy, Debug, PartialEq, Eq)]
 pub enum RunFile {
+    /// The text of a program or of a kernel.
     Text,
     /// An image, counted from 0.
     Image(usize),
 }
 
-/// Why a program is not run on images, or its run ends before its last row does. Images are
-/// counted from 0.
+/// Why a text makes no image of images: they don't suit it, or the run of a program ends before its
+/// last row does. Images are counted from 0.
 #[derive(Clone, Copy, Debug, PartialEq, Eq)]
 pub enum NotRun {
     /// This image has another size than the first.
@@ -48,9 +48,9 @@ pub enum NotRun {
     },
 }
 
-/// What a call of `run` comes to.
-#[derive(Clone, Copy, Debug, PartialEq, Eq)]
-pub enum RunVerdict {
+/// What a call of `run` or `eval` comes to, R being why a text is refused.
+#[derive(Clone, Copy, Debug)]
+pub enum RunVerdict<R> {
     /// The output was written.
     Done,
     /// There is no such file.
@@ -58,12 +58,12 @@ pub enum RunVerdict {
     /// The file could not be read.
     ReadFailed(RunFile),
     /// The text is refused.
-    TextRefused(TextRefusal),
+    TextRefused(R),
     /// The text is for another number of images.
     Count { want: u64, got: u64 },
     /// The file of this image, counted from 0, is refused.
     ImageRefused(usize, ImageRefusal),
-    /// The images don't suit the program, or it didn't come to its end on them.
+    /// The text makes no image of the images.
     NotRun(NotRun),
     /// The output could not be written.
     WriteFailed,
@@ -71,18 +71,18 @@ pub enum RunVerdict {
     Memory,
 }
 
-impl From<AllocError> for RunVerdict {
+impl<R> From<AllocError> for RunVerdict<R> {
     ghost use Rattle.pf_top.specs.declared.run_verdict.RunVerdict.TheVariants.{Memory};
 
     ghost from_gives = { λ _ verdict. verdict ≡ Memory };
 
-    fn from(_want: AllocError) -> RunVerdict {
+    fn from(_want: AllocError) -> RunVerdict<R> {
         RunVerdict::Memory
     }
 }
 
 /// What a call comes to where this file was not read.
-fn unread(file: RunFile, fault: FilesFault) -> RunVerdict
+fn unread<R>(file: RunFile, fault: FilesFault) -> RunVerdict<R>
     ensures { result ≡ unread file fault }
 {
     match fault {
@@ -92,12 +92,12 @@ fn unread(file: RunFile, fault: FilesFault) -> RunVerdict
     }
 }
 
-impl From<Stop<TextRefusal>> for RunVerdict {
+impl<R> From<Stop<R>> for RunVerdict<R> {
     ghost use Rattle.pf_top.specs.RunSteps.{text_stopped};
 
     ghost from_gives = { λ stop verdict. verdict ≡ text_stopped stop };
 
-    fn from(stop: Stop<TextRefusal>) -> RunVerdict {
+    fn from(stop: Stop<R>) -> RunVerdict<R> {
         match stop {
             Stop::Unread(fault) => unread(RunFile::Text, fault),
             Stop::Refused(refusal) => RunVerdict::TextRefused(refusal),
@@ -105,12 +105,12 @@ impl From<Stop<TextRefusal>> for RunVerdict {
     }
 }
 
-impl From<ImageStop> for RunVerdict {
+impl<R> From<ImageStop> for RunVerdict<R> {
     ghost use Rattle.pf_top.specs.RunSteps.{image_stopped};
 
     ghost from_gives = { λ s verdict. verdict ≡ image_stopped s.image s.stop };
 
-    fn from(stop: ImageStop) -> RunVerdict {
+    fn from(stop: ImageStop) -> RunVerdict<R> {
         let ImageStop { image, stop } = stop;
         match stop {
             Stop::Unread(fault) => unread(RunFile::Image(image), fault),
@@ -119,12 +119,12 @@ impl From<ImageStop> for RunVerdict {
     }
 }
 
-impl From<Unwritten> for RunVerdict {
+impl<R> From<Unwritten> for RunVerdict<R> {
     ghost use Rattle.pf_top.specs.RunSteps.{run_unwritten};
 
     ghost from_gives = { λ stop verdict. verdict ≡ run_unwritten stop };
 
-    fn from(stop: Unwritten) -> RunVerdict {
+    fn from(stop: Unwritten) -> RunVerdict<R> {
         match stop {
             Unwritten::Failed => RunVerdict::WriteFailed,
             Unwritten::Memory => RunVerdict::Memory,

@@ -2,24 +2,28 @@ ghost use Rattle.std.specs.Prelude.{MatchOption, map, string_bytes};
 ghost use Rattle.pf_top.specs.Running.{Run, IsRun};
 ghost use Rattle.pf_top.specs.RunSteps.{the_run};
 
-/// The words of `run TEXT IMG.. OUT`.
+/// The words of `run TEXT IMG.. OUT` or `eval KERNEL IMG.. OUT`.
 #[derive(Clone, Copy)]
 pub struct RunWords<'a> {
+    /// The file of a program's text or of a kernel's.
     pub text: &'a str,
     /// One or more.
     pub images: &'a [String],
     pub out: &'a str,
 }
 
-/// The run that the words ask for, or None where they are of another form.
-pub fn run_of(words: &[String]) -> Option<RunWords<'_>>
-    ensures { MatchOption result ((r : Run) → IsRun (map string_bytes words.now) r → ⊥)
-        (λ r. IsRun (map string_bytes words.now) (the_run r)) }
+/// What the words ask of this command, or None where they are of another form.
+pub fn run_of<'a>(command: &str, words: &'a [String]) -> Option<RunWords<'a>>
+    ensures { MatchOption result ((r : Run) → IsRun command.now (map string_bytes words.now) r → ⊥)
+        (λ r. IsRun command.now (map string_bytes words.now) (the_run r)) }
 {
     let [run, text, images @ .., out] = words else {
         return None;
     };
-    if run.as_str() != "run" || images.is_empty() {
+    if run.as_str() != command {
+        return None;
+    }
+    if images.is_empty() {
         return None;
     }
     Some(RunWords {

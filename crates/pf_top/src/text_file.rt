@@ -5,8 +5,8 @@ ghost use Rattle.std.specs.Str.Lines.{lines};
 ghost use Rattle.pf_ints.specs.declared.target.Target.{Target};
 ghost use Rattle.pf_isa.specs.TextFaults.{IsFor};
 ghost use Rattle.pf_top.specs.Courses.{seen, Judged};
-ghost use Rattle.pf_top.specs.Running.{text_limit, IsTextFile, RefusesText};
 ghost use Rattle.pf_top.specs.Steps.{Finds};
+ghost use Rattle.pf_top.specs.TextFiles.{text_limit, IsTextFile, RefusesText};
 
 use crate::judging::{Stop, read_front};
 use pf_images::{Files, FilesFault};
@@ -27,7 +27,7 @@ pub enum TextRefusal {
 }
 
 /// The most bytes of a text.
-#[tactic(auto, unfolding(crate::specs::Running::text_limit))]
+#[tactic(auto, unfolding(crate::specs::TextFiles::text_limit))]
 fn text_limit() -> u64
     ensures value { result ≡ text_limit }
     ensures low { result < 4294967296 }

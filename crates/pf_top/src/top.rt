@@ -1,15 +1,23 @@
-ghost use Rattle.std.specs.Prelude.{◌≡◌, map, string_bytes};
+ghost use Rattle.std.specs.Prelude.{◌≡◌, ◌⊎◌, Some, codes, map, string_bytes};
+ghost use Rattle.pf_top.specs.declared.kernel_file.KernelRefusal.{KernelRefusal};
 ghost use Rattle.pf_top.specs.declared.run_verdict.RunVerdict.{RunVerdict};
+ghost use Rattle.pf_top.specs.declared.text_file.TextRefusal.{TextRefusal};
 ghost use Rattle.pf_top.specs.declared.verdict.Verdict.{Verdict};
+ghost use Rattle.pf_images.specs.Outside.{Contents};
+ghost use Rattle.pf_top.specs.Completeness.{IsCalm, IsRunnable};
 ghost use Rattle.pf_top.specs.Courses.{seen};
+ghost use Rattle.pf_top.specs.KernelFiles.{kernels};
+ghost use Rattle.pf_top.specs.KernelStatuses.{kernel_due};
 ghost use Rattle.pf_top.specs.Running.{Run, IsRun, RanTo};
-ghost use Rattle.pf_top.specs.RunStatuses.{run_due};
+ghost use Rattle.pf_top.specs.RunStatuses.{run_due, text_due};
 ghost use Rattle.pf_top.specs.Selections.{Select, IsSelect, Came};
 ghost use Rattle.pf_top.specs.SelectStatuses.{select_due};
 ghost use Rattle.pf_top.specs.Statuses.{usage, Told, Tells};
 ghost use Rattle.pf_top.specs.Steps.{seen_output};
+ghost use Rattle.pf_top.specs.TextFiles.{programs};
 
 use crate::command::selection_of;
+use crate::eval::eval;
 use crate::report::tell_usage;
 use crate::run::run;
 use crate::run_report::tell_run_verdict;
@@ -21,11 +29,12 @@ use std::alloc::Global;
 
 /// Does what the words ask for over the store of files, puts its lines to the output, and answers
 /// the status. `select T KERNEL LIFT LOWER OUT` writes the text of the kernel to OUT. `run TEXT
-/// IMG.. OUT` runs the text on the images and writes what it leaves to OUT as PGM. The statuses are
-/// 0 (done), 2 (the words are of no form), 3 (a file could not be read or is missing), 4 (a file or
-/// the output could not be written), 5 (the kernel is refused), 8 (not built), 9 (an image is refused), 10 (the text is
-/// refused), 11 (an instruction loads or stores where it may not), 12 (a row took all its steps) and
-/// 13 (memory is wanting).
+/// IMG.. OUT` runs the text on the images and writes what it leaves to OUT as PGM. `eval KERNEL
+/// IMG.. OUT` evaluates the kernel on the images and writes its output to OUT as PGM. The statuses
+/// are 0 (done), 2 (the words are of no form), 3 (a file could not be read or is missing), 4 (a file
+/// or the output could not be written), 5 (the kernel is refused), 8 (not built), 9 (an image is
+/// refused), 10 (the text is refused), 11 (an instruction loads or stores where it may not), 12 (a
+/// row took all its steps) and 13 (memory is wanting).
 pub fn pitchfork<F: Files, S: Sink>(
     alloc: Global,
     words: &Vec<String>,
@@ -34,7 +43,8 @@ pub fn pitchfork<F: Files, S: Sink>(
 ) -> u8
     // Words of no form: 2 with the line on them, and no file is touched.
     ensures usage { ((s : Select) → IsSelect (map string_bytes words.now.items) s → ⊥)
-        → ((r : Run) → IsRun (map string_bytes words.now.items) r → ⊥)
+        → ((r : Run) → IsRun (codes "run") (map string_bytes words.now.items) r → ⊥)
+        → ((r : Run) → IsRun (codes "eval") (map string_bytes words.now.items) r → ⊥)
         → Told usage (seen_output S.written S.faults S.calls out.old) result
         (seen_output S.written S.faults S.calls out.new) × (files.new ≡ files.old) }
 
@@ -46,17 +56,40 @@ pub fn pitchfork<F: Files, S: Sink>(
         (seen_output S.written S.faults S.calls out.new) }
 
     // The same of the words of `run`.
-    ensures runs { (r : Run) → IsRun (map string_bytes words.now.items) r
-        → (v : RunVerdict) × RanTo r (seen F.held F.faults F.calls files.old) v (seen F.held F.faults F.calls files.new)
-        × Tells (run_due r v) (seen_output S.written S.faults S.calls out.old) result
+    ensures runs { (r : Run) → IsRun (codes "run") (map string_bytes words.now.items) r
+        → (v : RunVerdict TextRefusal) × RanTo programs r (seen F.held F.faults F.calls files.old) v (seen F.held F.faults F.calls files.new)
+        × Tells (run_due text_due r v) (seen_output S.written S.faults S.calls out.old) result
         (seen_output S.written S.faults S.calls out.new) }
+
+    // The same of the words of `eval`.
+    ensures evals { (e : Run) → IsRun (codes "eval") (map string_bytes words.now.items) e
+        → (v : RunVerdict KernelRefusal) × RanTo kernels e (seen F.held F.faults F.calls files.old) v (seen F.held F.faults F.calls files.new)
+        × Tells (run_due kernel_due e v) (seen_output S.written S.faults S.calls out.old) result
+        (seen_output S.written S.faults S.calls out.new) }
+
+    // `run` does its work, or memory is wanting, on a text and images such as it asks for on which
+    // all rows of its run return, where neither the store nor the output failed.
+    ensures completes { (r : Run) (held : Contents) → IsRun (codes "run") (map string_bytes words.now.items) r
+        → F.held files.old ≡ Some held → IsRunnable programs r held
+        → IsCalm (F.faults files.old) (F.faults files.new) → IsCalm (S.faults out.old) (S.faults out.new)
+        → (result ≡ 0) ⊎ (result ≡ 13) }
+
+    // `eval` does its work, or memory is wanting, on a kernel and images such as it asks for.
+    ensures completes_eval { (e : Run) (held : Contents) → IsRun (codes "eval") (map string_bytes words.now.items) e
+        → F.held files.old ≡ Some held → IsRunnable kernels e held
+        → IsCalm (F.faults files.old) (F.faults files.new) → IsCalm (S.faults out.old) (S.faults out.new)
+        → (result ≡ 0) ⊎ (result ≡ 13) }
 {
     if let Some(words) = selection_of(words.as_slice()) {
         let verdict = select(alloc, &words, files);
         return tell_verdict(alloc, &words, verdict, out);
     }
-    if let Some(words) = run_of(words.as_slice()) {
+    if let Some(words) = run_of("run", words.as_slice()) {
         let verdict = run(alloc, &words, files);
+        return tell_run_verdict(alloc, &words, verdict, out);
+    }
+    if let Some(words) = run_of("eval", words.as_slice()) {
+        let verdict = eval(alloc, &words, files);
         return tell_run_verdict(alloc, &words, verdict, out);
     }
     tell_usage(alloc, out)

@@ -1,7 +1,7 @@
-use Rattle.std.proofs.Common.{◌≡◌, ◌≤◌, rules, to_z, of_z, to_z-of_z, refl, sym, ap, subst, ◌∙◌, arith, length}
+use Rattle.std.proofs.Common.{◌≡◌, ◌≤◌, rules, to_z, of_z, to_z-of_z, refl, sym, ap, subst, ◌∙◌, length}
 use Rattle.std.specs.Prelude.{pos, ◌≤ℤ◌, unsigned_abs}
 use Rattle.std.specs.Int.{w16}
-use Rattle.pf_isa.specs.Runs.{columns, rows, row_budget}
+use Rattle.pf_isa.specs.Runs.{columns, row_budget}
 use Rattle.pf_terms.specs.Kernels.{left_reach, up_reach}
 use Rattle.pf_run.specs.declared.reach.Axis.TheVariants.{Columns, Rows}
 use Rattle.pf_run.specs.Reach.{extent}

@@ -1,4 +1,4 @@
-use Rattle.std.proofs.Common.{◌≡◌, ◌+◌, length, Ok, Err, refl, sym, ap, subst, ◌∙◌}
+use Rattle.std.proofs.Common.{◌+◌, length, Ok, Err, refl, sym, ap, subst, ◌∙◌}
 use Rattle.pf_run.specs.Answers.{IsReady, run_end}
 use Rattle.pf_run.specs.Rows.{IsPlanOf, RowsAnswer}
 use Rattle.pf_run.proofs.ProgramLaws.{is_ready, failed_ran, has_output, ran}

@@ -1,4 +1,3 @@
-use Rattle.std.proofs.Common.{ℕ, ◌≤◌}
 use Rattle.pf_run.proofs.SetLaws.{in_range_more, in_range_all}
 use Rattle.pf_run.proofs.set.judge_pixels.Goals as goal
 

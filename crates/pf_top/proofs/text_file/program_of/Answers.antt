@@ -1,7 +1,7 @@
 use Rattle.std.proofs.Common.{◌≤◌, length, rules}
 use Rattle.pf_neon.specs.Forms.{IsForm}
 use Rattle.pf_neon.specs.Neon.{table}
-use Rattle.pf_top.specs.Running.{text_limit}
+use Rattle.pf_top.specs.TextFiles.{text_limit}
 use Rattle.pf_run.proofs.TextLengths.{short_code}
 use Rattle.pf_top.proofs.TextFiles.{limit_low, other_text}
 use Rattle.pf_top.proofs.text_file.program_of.Goals as goal

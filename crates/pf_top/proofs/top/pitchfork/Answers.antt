@@ -1,6 +1,13 @@
-use Rattle.std.proofs.Common.{◌≡◌}
+use Rattle.std.proofs.Common.{◌≡◌, subst, sym}
 use Rattle.pf_top.specs.Steps.{the_words}
 use Rattle.pf_top.specs.RunSteps.{the_run}
+use Rattle.pf_top.specs.Completeness.{IsRunnable}
+use Rattle.pf_top.specs.KernelFiles.{kernels}
+use Rattle.pf_top.specs.KernelStatuses.{kernel_due}
+use Rattle.pf_top.specs.RunStatuses.{text_due}
+use Rattle.pf_top.specs.TextFiles.{programs}
+use Rattle.pf_top.proofs.Completing.{complete}
+use Rattle.pf_top.proofs.Fits.{kernels_fit, programs_fit}
 use Rattle.pf_top.proofs.SameWords.{same_run}
 use Rattle.pf_top.proofs.top.pitchfork.Goals as goal
 
@@ -12,5 +19,23 @@ returns-in-Some-run_of-clause-usage g c = λ none_select none_run. absurd (none_
 
 pub returns-in-Some-run_of-clause-runs : goal.returns-in-Some-run_of-clause-runs
 returns-in-Some-run_of-clause-runs g c = λ r is.
-    let same : the_run c.in-Some-run_of.words ≡ r = same_run _ _ _ c.in-Some-run_of.ensures (rw c.as_slice-2.ensures.value is) in
+    let same : the_run c.in-Some-run_of.words ≡ r = same_run _ _ _ _ c.in-Some-run_of.ensures (rw c.as_slice-2.ensures.value is) in
     rw (← same) (c.run-verdict.result, c.run-verdict.ensures, c.tell_run_verdict.ensures)
+
+pub returns-in-Some-run_of-2-clause-usage : goal.returns-in-Some-run_of-2-clause-usage
+returns-in-Some-run_of-2-clause-usage g c = λ none_select none_run none_eval. absurd (none_eval (the_run c.in-Some-run_of-2.words) (rw (← c.as_slice-3.ensures.value) c.in-Some-run_of-2.ensures))
+
+pub returns-in-Some-run_of-2-clause-evals : goal.returns-in-Some-run_of-2-clause-evals
+returns-in-Some-run_of-2-clause-evals g c = λ r is.
+    let same : the_run c.in-Some-run_of-2.words ≡ r = same_run _ _ _ _ c.in-Some-run_of-2.ensures (rw c.as_slice-3.ensures.value is) in
+    rw (← same) (c.eval-verdict.result, c.eval-verdict.ensures, c.tell_run_verdict-in-Some-run_of-2.ensures)
+
+pub returns-in-Some-run_of-clause-completes : goal.returns-in-Some-run_of-clause-completes
+returns-in-Some-run_of-clause-completes g c = λ r held is told can calm quiet.
+    let same : the_run c.in-Some-run_of.words ≡ r = same_run _ _ _ _ c.in-Some-run_of.ensures (rw c.as_slice-2.ensures.value is) in
+    complete programs programs_fit text_due (the_run c.in-Some-run_of.words) held _ _ _ _ _ c.run-verdict.result told (subst (λ t. IsRunnable programs t held) (sym same) can) calm quiet c.run-verdict.ensures c.tell_run_verdict.ensures
+
+pub returns-in-Some-run_of-2-clause-completes_eval : goal.returns-in-Some-run_of-2-clause-completes_eval
+returns-in-Some-run_of-2-clause-completes_eval g c = λ r held is told can calm quiet.
+    let same : the_run c.in-Some-run_of-2.words ≡ r = same_run _ _ _ _ c.in-Some-run_of-2.ensures (rw c.as_slice-3.ensures.value is) in
+    complete kernels kernels_fit kernel_due (the_run c.in-Some-run_of-2.words) held _ _ _ _ _ c.eval-verdict.result told (subst (λ t. IsRunnable kernels t held) (sym same) can) calm quiet c.eval-verdict.ensures c.tell_run_verdict-in-Some-run_of-2.ensures

@@ -1,0 +1,12 @@
+use Rattle.std.proofs.Common.{◌≡◌, rules, sym, subst}
+use Rattle.std.specs.Prelude.{IfOk}
+use Rattle.pf_isa.specs.declared.so_far.Stage.TheVariants.{Declarations}
+use Rattle.pf_isa.specs.HeadWords.{IsTheOne}
+use Rattle.pf_isa.specs.HeadSteps.{WordsGoOn}
+use Rattle.pf_isa.specs.TextFaults.{texts}
+use Rattle.pf_isa.proofs.so_far.HeadSoFar.with_words.Goals as goal
+
+pub returns-in-Declarations : goal.returns-in-Declarations
+returns-in-Declarations c =
+    let is : c.args.self.stage ≡ Declarations = search rules in
+    subst (λ st. IfOk c.with_declaration.result (IsTheOne (WordsGoOn st c.args.self.head (texts c.args.words.now)))) (sym is) c.with_declaration.ensures

@@ -1,0 +1,23 @@
+use Rattle.std.proofs.Common.{◌≡◌, true, rules, subst, refl}
+use Rattle.pf_terms.specs.Meanings.{IsTermText}
+use Rattle.pf_terms.specs.Terms.{IsWellTyped}
+use Rattle.pf_terms.specs.TermTexts.{is_named}
+use Rattle.pf_isa.specs.HeadWords.{IsTheOne}
+use Rattle.pf_isa.proofs.HeadStepLaws.{definition_only, no_definition, unfitting}
+use Rattle.pf_isa.proofs.so_far.definition_of.Goals as goal
+
+pub returns-in-None-clause-found : goal.returns-in-None-clause-found
+returns-in-None-clause-found c =
+    no_definition c.args.names.now c.args.name.now c.args.ty c.args.text.now c.args.before (subst (IsTheOne (λ t. IsTermText c.args.names.now c.args.text.now t c.args.names.now)) c.in-None.is c.in_ok-term.ensures.found)
+
+pub returns-then-not-is_fitting-clause-found : goal.returns-then-not-is_fitting-clause-found
+returns-then-not-is_fitting-clause-found c =
+    let told = subst (IsTheOne (λ t. IsTermText c.args.names.now c.args.text.now t c.args.names.now)) c.in-Some.is c.in_ok-term.ensures.found in
+    unfitting c.args.names.now c.args.name.now c.args.ty c.args.text.now c.args.before c.in-Some.term told.1 (λ f. let is = c.is_fitting.ensures.1 f in absurd (search rules))
+
+pub returns-clause-found : goal.returns-clause-found
+returns-clause-found c =
+    let told = subst (IsTheOne (λ t. IsTermText c.args.names.now c.args.text.now t c.args.names.now)) c.in-Some.is c.in_ok-term.ensures.found in
+    let typed : IsWellTyped c.in-Some.term = search rules in
+    let named : is_named c.args.names.now c.in-Some.term ≡ true = search rules in
+    definition_only c.args.names.now c.args.name.now c.args.ty c.args.text.now c.args.before c.in-Some.term told typed named (c.if-not-is_fitting.ensures.0 refl)

@@ -1,0 +1,283 @@
+ghost use Rattle.std.specs.Prelude.{◌≡◌, ◌+◌, ◌≤◌, ◌-◌, ◌^◌, ◌<◌, min, true, false, not, length, IfOk, IfErr, OnOk, Ok, Err, Some, None, slice_index_or};
+ghost use Rattle.pf_terms.specs.declared.limit.LimitKind.TheVariants.{Definitions, Depth, Nodes};
+ghost use Rattle.pf_terms.specs.declared.draft.Draft.{Draft};
+ghost use Rattle.pf_terms.specs.declared.meaning.ReadFault.TheVariants.{Limit, Memory};
+ghost use Rattle.pf_terms.specs.declared.term.Term.{Term};
+ghost use Rattle.pf_terms.specs.Drafts.{IsDraftText};
+ghost use Rattle.pf_terms.specs.KernelNames.{IsNames};
+ghost use Rattle.pf_terms.specs.Meanings.{IsReadFault, in_order, def_number, image_number, IsTermOr, IsTermText, first_some, names_after, term_of};
+ghost use Rattle.pf_terms.specs.Terms.{stated_type, same_type, node_count, depth_of, result_type, typed_as, doubled};
+ghost use Rattle.pf_terms.specs.TermTexts.{no_image, no_def};
+ghost use Rattle.pf_kernel.specs.Expressions.{Judges, JudgesTerm, Tells, IsRefused, draft_type, term_fault, limit_fault, defs_before};
+ghost use Rattle.pf_kernel.specs.Kernels.{IsTermOf};
+ghost use Rattle.pf_kernel.specs.Lines.{expression_faults, mistyped, more_than, counted};
+
+use pf_ints::{Bits, LaneType, Name};
+use pf_terms::{DefName, Draft, Gives, ImageName, LimitKind, Names, ReadFault, Term, depth, nodes, read_draft, read_term};
+use std::alloc::{AllocError, Global};
+
+// How many definitions a kernel may have, how deep a term may be, and how many nodes all terms may
+// have.
+const MOST_DEFS: usize = 64;
+const MOST_DEPTH: u64 = 128;
+const MOST_NODES: u64 = 512;
+
+// The greatest count that a limit tells.
+const MOST_COUNT: u64 = 0x7fff_ffff_ffff_ffff;
+
+// The type of what has no entry.
+const NO_TYPE: LaneType = LaneType {
+    signed: false,
+    bits: Bits::Eight,
+};
+
+/// What a term is judged by beside its names.
+#[derive(Clone, Copy, Debug)]
+pub struct Measure {
+    /// The type that its line declares.
+    pub ty: LaneType,
+    /// The definitions of all lines up to and with its own.
+    pub defs: usize,
+    /// The nodes of all terms of the lines before.
+    pub nodes: u64,
+}
+
+/// The term of an expression. Its new taps are added at the end of the names' taps.
+pub fn read_expression(alloc: Global, text: &[u8], by: Measure, names: &mut Names) -> Result<Term, ReadFault>
+    requires names { IsNames names.old }
+    requires few { by.defs ≤ 65 }
+    requires small { by.nodes ≤ 512 }
+    ensures found { Judges names.old by.nodes by.ty by.defs text.now result names.new }
+    ensures only { (d : Draft) → IsDraftText text.now d → first_some (expression_faults names.old by.nodes by.ty by.defs d) ≡ None → IsTermOr (term_of (names_after names.old d) d) (names_after names.old d) result names.new }
+    ensures kept { OnOk result (IsNames names.new) }
+    ensures typed { IfOk result (λ t. IsTermOf names.new by.ty t) }
+    ensures room { OnOk result (by.defs ≤ 64) }
+    ensures nodes { IfOk result (λ t. by.nodes + node_count t ≤ 512) }
+{
+    match read_term(alloc, text, names) {
+        Ok(term) => judge(term, by),
+        Err(fault) => Err(told(alloc, text, by, names, fault)),
+    }
+}
+
+fn judge(term: Term, by: Measure) -> Result<Term, ReadFault>
+    requires few { by.defs ≤ 65 }
+    requires small { by.nodes ≤ 512 }
+    ensures { JudgesTerm term (term_fault by.ty (stated_type term) by.defs (depth_of term) (by.nodes + node_count term)) result }
+{
+    match term_fault(&term, by) {
+        Some(fault) => Err(fault),
+        None => Ok(term),
+    }
+}
+
+#[tactic(auto, unfolding(crate::specs::Expressions::term_fault))]
+fn term_fault(term: &Term, by: Measure) -> Option<ReadFault>
+    requires few { by.defs ≤ 65 }
+    requires small { by.nodes ≤ 512 }
+    ensures { result ≡ term_fault by.ty (stated_type term.now) by.defs (depth_of term.now) (by.nodes + node_count term.now) }
+{
+    mistyped(by.ty, stated_type(term)).or(too_many_defs(by.defs).or(too_deep(term).or(too_many_nodes(term, by.nodes))))
+}
+
+fn mistyped(want: LaneType, got: LaneType) -> Option<ReadFault>
+    ensures { result ≡ mistyped want (Ok got) }
+{
+    if is_same(want, got) {
+        None
+    } else {
+        Some(ReadFault::Types { want, got })
+    }
+}
+
+fn too_many_defs(defs: usize) -> Option<ReadFault>
+    requires { defs ≤ 65 }
+    ensures { result ≡ more_than 64 Definitions defs }
+{
+    if MOST_DEFS < defs {
+        Some(ReadFault::Limit {
+            what: LimitKind::Definitions,
+            count: defs as i64,
+        })
+    } else {
+        None
+    }
+}
+
+fn too_deep(term: &Term) -> Option<ReadFault>
+    ensures { result ≡ more_than 128 Depth (counted (depth_of term.now)) }
+{
+    let count = depth(term).min(MOST_COUNT);
+    if MOST_DEPTH < count {
+        Some(ReadFault::Limit {
+            what: LimitKind::Depth,
+            count: count as i64,
+        })
+    } else {
+        None
+    }
+}
+
+fn too_many_nodes(term: &Term, before: u64) -> Option<ReadFault>
+    requires { before ≤ 512 }
+    ensures { result ≡ more_than 512 Nodes (counted (before + node_count term.now)) }
+{
+    let count = before.saturating_add(nodes(term)).min(MOST_COUNT);
+    if MOST_NODES < count {
+        Some(ReadFault::Limit {
+            what: LimitKind::Nodes,
+            count: count as i64,
+        })
+    } else {
+        None
+    }
+}
+
+// What is told of an expression that isn't read. The declared type is judged before the limits of
+// taps and offsets, and the limit of definitions between these two.
+fn told(alloc: Global, text: &[u8], by: Measure, names: &Names, fault: ReadFault) -> ReadFault
+    requires few { by.defs ≤ 65 }
+    requires fault { IsReadFault names.now text.now fault }
+    ensures found { Tells names.now by.nodes by.ty by.defs text.now result }
+    ensures memory { fault ≡ Memory → result ≡ Memory }
+{
+    match fault {
+        ReadFault::Limit { what, count } => limit_told(alloc, text, by, names, what, count),
+        other => other,
+    }
+}
+
+fn limit_told(alloc: Global, text: &[u8], by: Measure, names: &Names, what: LimitKind, count: i64) -> ReadFault
+    requires few { by.defs ≤ 65 }
+    requires fault { IsRefused names.now text.now (Limit what count) }
+    ensures { Tells names.now by.nodes by.ty by.defs text.now result }
+{
+    let Ok(draft) = read_draft(alloc, text) else {
+        return ReadFault::Memory;
+    };
+    match draft_type(alloc, names, &draft) {
+        Ok(got) => limit_fault(by.ty, got, by.defs, what, count),
+        Err(_) => ReadFault::Memory,
+    }
+}
+
+#[tactic(auto, unfolding(crate::specs::Expressions::limit_fault))]
+fn limit_fault(ty: LaneType, got: LaneType, defs: usize, what: LimitKind, count: i64) -> ReadFault
+    requires { defs ≤ 65 }
+    ensures { limit_fault ty got defs what count ≡ Some result }
+{
+    mistyped(ty, got).or(defs_before(what, defs)).unwrap_or(ReadFault::Limit { what, count })
+}
+
+fn defs_before(what: LimitKind, defs: usize) -> Option<ReadFault>
+    requires { defs ≤ 65 }
+    ensures { result ≡ defs_before what defs }
+{
+    match what {
+        LimitKind::Offset => too_many_defs(defs),
+        _ => None,
+    }
+}
+
+// The type that an expression has by its outermost operator.
+fn draft_type(alloc: Global, names: &Names, draft: &Draft) -> Result<LaneType, AllocError>
+    ensures { IfOk result (λ t. t ≡ draft_type names.now draft.now) }
+{
+    match draft {
+        Draft::Number(_, ty) => Ok(*ty),
+        Draft::Named(name) => Ok(def_type(names.defs.as_slice(), name)),
+        Draft::Placed(name, ..) => Ok(image_type(names.images.as_slice(), name)),
+        Draft::Node {
+            op, less, ty, args, ..
+        } => {
+            let mut types = Vec::new(alloc);
+            for arg in args.as_slice() {
+                types.push(draft_type(alloc, names, arg)?)?;
+            }
+            put_in_order(*less, types.as_mut_slice());
+            Ok(result_type(op.gives(), ty.unwrap_or(NO_TYPE), types.as_slice()))
+        }
+    }
+}
+
+// Operands that are compared by `<` change places.
+fn put_in_order(less: bool, types: &mut [LaneType])
+    ensures { types.new ≡ in_order less types.old }
+{
+    if less && 2 <= types.len() {
+        types.swap(0, 1);
+    }
+}
+
+fn def_type(defs: &[DefName], name: &Name) -> LaneType
+    ensures { result ≡ (slice_index_or defs.now (def_number defs.now name.now) no_def).ty }
+{
+    match defs {
+        [] => NO_TYPE,
+        [def, rest @ ..] => {
+            if def.name.as_slice() == name.as_slice() {
+                def.ty
+            } else {
+                def_type(rest, name)
+            }
+        }
+    }
+}
+
+fn image_type(images: &[ImageName], name: &Name) -> LaneType
+    ensures { result ≡ (slice_index_or images.now (image_number images.now name.now) no_image).ty }
+{
+    match images {
+        [] => NO_TYPE,
+        [image, rest @ ..] => {
+            if image.name.as_slice() == name.as_slice() {
+                image.ty
+            } else {
+                image_type(rest, name)
+            }
+        }
+    }
+}
+
+fn result_type(gives: Gives, ty: LaneType, types: &[LaneType]) -> LaneType
+    ensures { result ≡ result_type gives ty types.now }
+{
+    match (gives, types) {
+        (Gives::First, [x, ..]) => *x,
+        (Gives::Unsigned, [x, ..]) => of_bits(false, x.bits),
+        (Gives::Twice, [x, ..]) => of_bits(x.signed, doubled(x.bits)),
+        (Gives::SignedTwice, [x, ..]) => of_bits(true, doubled(x.bits)),
+        (Gives::Third, [_, _, x, ..]) => *x,
+        _ => ty,
+    }
+}
+
+fn of_bits(signed: bool, bits: Bits) -> LaneType
+    ensures { result ≡ typed_as signed bits }
+{
+    LaneType { signed, bits }
+}
+
+fn doubled(bits: Bits) -> Bits
+    ensures { result ≡ doubled bits }
+{
+    match bits {
+        Bits::Eight => Bits::Sixteen,
+        _ => Bits::ThirtyTwo,
+    }
+}
+
+fn stated_type(term: &Term) -> LaneType
+    ensures { result ≡ stated_type term.now }
+{
+    match term {
+        Term::Leaf { ty, .. } => *ty,
+        Term::Node { ty, .. } => *ty,
+    }
+}
+
+fn is_same(a: LaneType, b: LaneType) -> bool
+    ensures { result ≡ same_type a b }
+{
+    a == b
+}

@@ -1,0 +1,244 @@
+-- Environments that serve a kernel's terms.
+use Rattle.std.proofs.Common.{◌≡◌, refl, sym, ◌∙◌, ap, subst, ℕ, ◌+◌, ◌*◌, ◌<◌, ◌≤◌, Bool, true, false, List, [], ◌∷◌, ◌++◌, length, map, take, drop, get_or, All, arith, length-append}
+use Rattle.std.specs.Prelude.{ℤ, pos, nat_lt, ◌&&◌, ◌+ℤ◌, ◌-ℤ◌, ◌≤ℤ◌, int_le, unsigned_abs, zip}
+use Rattle.std.proofs.lemmas.Bool.Decides.{nat_tests}
+use Rattle.std.proofs.lemmas.Int.{ints}
+use Rattle.pf_ints.specs.Lanes.{IsIn, least, greatest}
+use Rattle.pf_ints.specs.declared.lane.LaneType.{LaneType}
+use Rattle.pf_terms.specs.declared.names.DefName.{DefName}
+use Rattle.pf_terms.specs.declared.names.Names.{Names}
+use Rattle.pf_terms.specs.declared.term.Env.{Env}
+use Rattle.pf_terms.specs.declared.term.Leaf.{Leaf as LeafOf}
+use Rattle.pf_terms.specs.declared.term.Leaf.TheVariants.{Tap, Const, Def}
+use Rattle.pf_terms.specs.declared.term.Term.{Term, roll-Term, map-Term}
+use Rattle.pf_terms.specs.declared.term.Term.TheOpen.{Term-F}
+use Rattle.pf_terms.specs.declared.term.Term.TheOpen.Term-F.{Leaf, Node}
+use Rattle.pf_terms.specs.declared.term.Term.TheFolds.{fold-roll-Term, ind-Term}
+use Rattle.pf_terms.specs.Terms.{all_true, is_in, is_env_of, is_env_leaf, env_step}
+use Rattle.pf_terms.specs.TermTexts.{is_named, is_named_leaf, is_named_tap, named_step, no_tap, no_image, no_def}
+use Rattle.pf_terms.proofs.NodeRanges.{same_type_is}
+use Rattle.std.proofs.lemmas.List.{get_or_append_left, get_or_at, get_or-map, length-map, take_more, drop_more, take_all, drop_all, map-append}
+use Rattle.std.proofs.lemmas.List.Elements.{All-nil, All-cons, All-get_or, All-from_get_or, All-weaker}
+use Rattle.std.proofs.lemmas.Slice.Zip.{get_or-zip, length-zip}
+use Rattle.std.proofs.lemmas.Nat.{column_fits}
+use Rattle.std.proofs.lemmas.Int.{int_min_is, int_max_is}
+use Rattle.pf_ints.specs.Images.{Picture, IsPicture}
+use Rattle.pf_terms.specs.declared.kernel.Definition.{Definition}
+use Rattle.pf_terms.specs.declared.kernel.ImageDecl.{ImageDecl}
+use Rattle.pf_terms.specs.declared.names.Tap.{Tap as TapOf}
+use Rattle.pf_terms.specs.KernelNames.{IsNearTap}
+use Rattle.pf_terms.specs.Kernels.{Source, Keeps, KeepsRange, no_picture, left_reach, right_reach, up_reach, down_reach, width_of, height_of, tap_column, tap_row, tap_value, tap_values, def_values}
+use Rattle.pf_terms.specs.Terms.{Val, IsWellTyped, stated_type}
+use Rattle.pf_kernel.specs.Kernels.{AreDefinitions, names_behind, def_name, image_name}
+use Rattle.pf_run.specs.declared.eval.Reach.{Reach}
+use Rattle.pf_run.specs.declared.reach.Axis.{Axis}
+use Rattle.pf_run.specs.declared.reach.Axis.TheVariants.{Columns, Rows}
+use Rattle.pf_run.specs.Reach.{offset_along, least_offset, greatest_offset}
+use Rattle.pf_run.specs.Pixels.{AreTaps, AreDefs, IsReach, LiesInside}
+
+and_left : (a b : Bool) → (a && b) ≡ true → a ≡ true
+and_left true b h = refl
+and_left false b h = absurd (cc)
+
+and_right : (a b : Bool) → (a && b) ≡ true → b ≡ true
+and_right true b h = h
+and_right false b h = absurd (cc)
+
+both : (a b : Bool) → a ≡ true → b ≡ true → (a && b) ≡ true
+both true b h k = k
+both false b h k = absurd (cc)
+
+below : (n m : ℕ) → nat_lt n m ≡ true → n < m
+below n m h = grind (arith, nat_tests)
+
+test_below : (n m : ℕ) → n < m → nat_lt n m ≡ true
+test_below n m h = grind (arith, nat_tests)
+
+not_below : (n m : ℕ) → nat_lt n m ≡ false → m ≤ n
+not_below n m h = grind (arith, nat_tests)
+
+test_int : (a b : ℤ) → a ≤ℤ b → int_le a b ≡ true
+test_int a b h = grind (arith, ints)
+
+pub is_in_from : (t : LaneType) (n : ℤ) → IsIn t n → is_in t n ≡ true
+is_in_from t n inside = both (int_le (least t) n) (int_le n (greatest t)) (test_int (least t) n inside.low) (test_int n (greatest t) inside.high)
+
+-- an environment that matches the names serves each term that the names serve
+module _ (names : Names) (env : Env) (taps : AreTaps names.images names.taps env.taps) (defs : AreDefs names.defs env.defs) where
+  leaf_served : (leaf : LeafOf) (ty : LaneType) → is_named_leaf names leaf ty ≡ true → is_env_leaf env leaf ty ≡ true
+  leaf_served (Tap n) ty h =
+      let t = get_or names.taps n no_tap in
+      let less : n < length names.taps = below n (length names.taps) (and_left _ _ h) in
+      let named : is_named_tap names.images t ty ≡ true = and_right (nat_lt n (length names.taps)) _ h in
+      let same : (get_or names.images t.image no_image).ty ≡ ty = same_type_is (get_or names.images t.image no_image).ty ty (and_right (nat_lt t.image (length names.images)) _ named) in
+      let inside : n < length env.taps = subst (λ m. n < m) (sym taps.count) less in
+      both _ _ (test_below n (length env.taps) inside) (subst (λ u. is_in u (get_or env.taps n (pos 0)) ≡ true) same (taps.each n less))
+  leaf_served (Const n) ty h = refl
+  leaf_served (Def n) ty h =
+      let less : n < length names.defs = below n (length names.defs) (and_left _ _ h) in
+      let same : (get_or names.defs n no_def).ty ≡ ty = same_type_is (get_or names.defs n no_def).ty ty (and_right (nat_lt n (length names.defs)) _ h) in
+      let inside : n < length env.defs = subst (λ m. n < m) (sym defs.count) less in
+      both _ _ (test_below n (length env.defs) inside) (subst (λ u. is_in u (get_or env.defs n (pos 0)) ≡ true) same (defs.each n less))
+
+  abbrev Served : Term → Type 0
+  Served t = is_named names t ≡ true → is_env_of env t ≡ true
+
+  each_served : (fs : List ((t : Term) × Served t)) → all_true (map (is_named names) (map (λ e. e.0) fs)) ≡ true → all_true (map (is_env_of env) (map (λ e. e.0) fs)) ≡ true
+  each_served [] h = refl
+  each_served (e ∷ fs) h = both _ _ (e.1 (and_left _ _ h)) (each_served fs (and_right (is_named names e.0) _ h))
+
+  layer_served : (y : Term-F ((t : Term) × Served t)) → Served (roll-Term (map-Term _ Term (λ e. e.0) y))
+  layer_served (Leaf leaf ty) h =
+      let known : is_named_leaf names leaf ty ≡ true = sym (fold-roll-Term Bool (named_step names) (Leaf leaf ty)) ∙ h in
+      fold-roll-Term Bool (env_step env) (Leaf leaf ty) ∙ leaf_served leaf ty known
+  layer_served (Node op ty k fs) h =
+      let args = map (λ e. e.0) fs in
+      let known : all_true (map (is_named names) args) ≡ true = sym (fold-roll-Term Bool (named_step names) (Node op ty k args)) ∙ h in
+      fold-roll-Term Bool (env_step env) (Node op ty k args) ∙ each_served fs known
+
+  pub served : (t : Term) → is_named names t ≡ true → is_env_of env t ≡ true
+  served = ind-Term Served (λ x y is. subst (λ z. Served (roll-Term z)) is (layer_served y))
+
+-- one definition more
+pub are_defs_more : (ds : List DefName) (ns : List ℤ) (d : DefName) (n : ℤ) → AreDefs ds ns → is_in d.ty n ≡ true → AreDefs (ds ++ d ∷ []) (ns ++ n ∷ [])
+are_defs_more ds ns d n are here = record {
+  count = let same = are.count in simp length-append (omega arith);
+  each = λ k inside. by k (nat_lt k (length ds)) refl inside;
+}
+  where
+    by : (k : ℕ) (b : Bool) → nat_lt k (length ds) ≡ b → k < length (ds ++ d ∷ []) → is_in (get_or (ds ++ d ∷ []) k no_def).ty (get_or (ns ++ n ∷ []) k (pos 0)) ≡ true
+    by k true e inside =
+        let less : k < length ds = below k (length ds) e in
+        let same = are.count in
+        let other : k < length ns = omega arith in
+        rw (get_or_append_left ds (d ∷ []) no_def k less, get_or_append_left ns (n ∷ []) (pos 0) k other) (are.each k less)
+    by k false e inside =
+        let past : length ds ≤ k = not_below k (length ds) e in
+        let all : length (ds ++ d ∷ []) ≡ length ds + 1 = length-append ds (d ∷ []) in
+        let last : k ≡ length ds = omega arith in
+        let other : k ≡ length ns = last ∙ sym are.count in
+        rw (get_or_at ds d [] no_def k (sym last), get_or_at ns n [] (pos 0) k (sym other)) here
+
+-- what stands when k definitions are done
+pub record DefsSoFar (s : Source) (taps : List ℤ) (defs : List Definition) (k : ℕ) (values : List ℤ) : Type 0 where
+  pub onwards : def_values taps values (drop k defs) ≡ def_values taps [] defs
+  pub each : AreDefs (map def_name (take k defs)) values
+  pub rest : AreDefinitions (names_behind s.images s.taps (take k defs)) (drop k defs)
+
+pub no_defs : (s : Source) (taps : List ℤ) (defs : List Definition) (values : List ℤ) → values ≡ [] → defs ≡ s.defs → AreDefinitions (names_behind s.images s.taps []) s.defs → DefsSoFar s taps defs 0 values
+no_defs s taps defs values none same are = record {
+  onwards = ap (λ vs. def_values taps vs defs) none;
+  each = record { count = ap (λ (vs : List ℤ). length vs) none; each = λ n inside. absurd (omega arith) };
+  rest = subst (λ ds. AreDefinitions (names_behind s.images s.taps []) ds) (sym same) are;
+}
+
+module _ (s : Source) (taps : List ℤ) (defs : List Definition) (k : ℕ) (values : List ℤ) (so_far : DefsSoFar s taps defs k values) (d : Definition) (is : d ≡ get_or defs k d) (inside : k < length defs) where
+  split : drop k defs ≡ d ∷ drop (k + 1) defs
+  split = drop_more defs k d inside ∙ ap (λ e. e ∷ drop (k + 1) defs) (sym is)
+
+  front : take (k + 1) defs ≡ take k defs ++ d ∷ []
+  front = take_more defs k d inside ∙ ap (λ e. take k defs ++ e ∷ []) (sym is)
+
+  names_front : map def_name (take (k + 1) defs) ≡ map def_name (take k defs) ++ def_name d ∷ []
+  names_front = ap (map def_name) front ∙ map-append def_name (take k defs) (d ∷ [])
+
+  here_and_rest : AreDefinitions (names_behind s.images s.taps (take k defs)) (d ∷ drop (k + 1) defs)
+  here_and_rest = subst (AreDefinitions (names_behind s.images s.taps (take k defs))) split so_far.rest
+
+  pub typed_here : IsWellTyped d.term
+  typed_here = here_and_rest.0.formed
+
+  pub served_here : (env : Env) → env.taps ≡ taps → env.defs ≡ values → AreTaps (map image_name s.images) s.taps taps → is_env_of env d.term ≡ true
+  served_here env of_taps of_defs are =
+      served (names_behind s.images s.taps (take k defs)) env (subst (AreTaps (map image_name s.images) s.taps) (sym of_taps) are) (subst (AreDefs (map def_name (take k defs))) (sym of_defs) so_far.each) d.term here_and_rest.0.named
+
+  pub one_def_more : (env : Env) (number : ℤ) (values' : List ℤ) → env.taps ≡ taps → env.defs ≡ values → number ≡ Val env d.term → IsIn (stated_type d.term) number → values' ≡ values ++ number ∷ [] → DefsSoFar s taps defs (k + 1) values'
+  one_def_more env number values' of_taps of_defs value member now =
+      let here : env ≡ record { taps = taps; defs = values } = ap (λ ts. record { taps = ts; defs = env.defs }) of_taps ∙ ap (λ ds. record { taps = taps; defs = ds }) of_defs in
+      let told : number ≡ Val (record { taps = taps; defs = values }) d.term = value ∙ ap (λ e. Val e d.term) here in
+      let inside_type : is_in d.ty number ≡ true = subst (λ u. is_in u number ≡ true) here_and_rest.0.typed (is_in_from (stated_type d.term) number member) in
+      record {
+        onwards = ap (λ vs. def_values taps vs (drop (k + 1) defs)) (now ∙ ap (λ n. values ++ n ∷ []) told) ∙ sym (ap (def_values taps values) split) ∙ so_far.onwards;
+        each = subst (λ ns. AreDefs ns values') (sym names_front) (subst (AreDefs (map def_name (take k defs) ++ def_name d ∷ [])) (sym now) (are_defs_more (map def_name (take k defs)) values (def_name d) number so_far.each inside_type));
+        rest = subst (λ ns. AreDefinitions (record { images = map image_name s.images; taps = s.taps; defs = ns }) (drop (k + 1) defs)) (sym names_front) here_and_rest.1;
+      }
+
+pub all_defs : (s : Source) (taps : List ℤ) (defs : List Definition) (k : ℕ) (values : List ℤ) → DefsSoFar s taps defs k values → length defs ≤ k → defs ≡ s.defs
+    → (values ≡ def_values taps [] s.defs) × AreDefs (map def_name s.defs) values
+all_defs s taps defs k values so_far past same =
+    let none : drop k defs ≡ [] = drop_all k defs past in
+    let all : take k defs ≡ defs = take_all k defs past in (
+      ap (def_values taps values) (sym none) ∙ so_far.onwards ∙ ap (def_values taps []) same,
+      subst (λ ds. AreDefs (map def_name ds) values) (all ∙ same) so_far.each,
+    )
+
+-- Taps, and where their pixels lie
+
+least_each : (axis : Axis) (taps : List TapOf) → All (λ t. least_offset axis taps ≤ℤ offset_along axis t) taps
+least_each axis [] = All-nil (λ (t : TapOf). least_offset axis [] ≤ℤ offset_along axis t)
+least_each axis (t ∷ ts) =
+    let low = int_min_is (offset_along axis t) (least_offset axis ts) in
+    All-cons (λ u. least_offset axis (t ∷ ts) ≤ℤ offset_along axis u) t ts (omega (arith, ints, low))
+    (All-weaker (λ u. least_offset axis ts ≤ℤ offset_along axis u) (λ u. least_offset axis (t ∷ ts) ≤ℤ offset_along axis u) (λ u more. omega (arith, ints, low)) ts (least_each axis ts))
+
+greatest_each : (axis : Axis) (taps : List TapOf) → All (λ t. offset_along axis t ≤ℤ greatest_offset axis taps) taps
+greatest_each axis [] = All-nil (λ (t : TapOf). offset_along axis t ≤ℤ greatest_offset axis [])
+greatest_each axis (t ∷ ts) =
+    let high = int_max_is (offset_along axis t) (greatest_offset axis ts) in
+    All-cons (λ u. offset_along axis u ≤ℤ greatest_offset axis (t ∷ ts)) t ts (omega (arith, ints, high))
+    (All-weaker (λ u. offset_along axis u ≤ℤ greatest_offset axis ts) (λ u. offset_along axis u ≤ℤ greatest_offset axis (t ∷ ts)) (λ u more. omega (arith, ints, high)) ts (greatest_each axis ts))
+
+least_low : (axis : Axis) (taps : List TapOf) → least_offset axis taps ≤ℤ pos 0
+least_low axis [] = omega (arith, ints)
+least_low axis (t ∷ ts) =
+    let rest = least_low axis ts in
+    omega (arith, ints, int_min_is (offset_along axis t) (least_offset axis ts))
+
+place_inside : (low high d : ℤ) (size count x : ℕ) → low ≤ℤ pos 0 → low ≤ℤ d → d ≤ℤ high → pos count ≡ (pos size -ℤ (high -ℤ low)) → x < count → unsigned_abs ((pos x -ℤ low) +ℤ d) < size
+place_inside low high d size count x reach before behind same inside = omega (arith, ints)
+
+abbrev no_decl : ImageDecl
+no_decl = record { name = []; ty = no_picture.ty; lo = 0; hi = 0 }
+
+module _ (s : Source) (pictures : List Picture) (keeps : Keeps s pictures) (r : Reach) (of : IsReach s.taps pictures r) (near : All (IsNearTap (length s.images)) s.taps) (x y : ℕ) (column : x < r.columns) (row : y < r.rows) where
+  size_at : (k : ℕ) → k < length pictures → ((get_or pictures k no_picture).width ≡ width_of pictures) × ((get_or pictures k no_picture).height ≡ height_of pictures)
+  size_at k inside = All-get_or (λ (p : Picture). (p.width ≡ width_of pictures) × (p.height ≡ height_of pictures)) pictures k no_picture inside keeps.sizes
+
+  pub lies_inside : All (LiesInside s.taps pictures x y) s.taps
+  lies_inside = All-from_get_or (LiesInside s.taps pictures x y) s.taps no_tap (λ k inside.
+      let t = get_or s.taps k no_tap in
+      let tap = All-get_or (IsNearTap (length s.images)) s.taps k no_tap inside near in
+      let known : t.image < length pictures = subst (λ n. t.image < n) (sym keeps.count) tap.image in
+      let size = size_at t.image known in
+      record {
+        image = known;
+        column = subst (λ n. tap_column s.taps x t < n) (sym size.0) (place_inside (left_reach s.taps) (right_reach s.taps) t.dx (width_of pictures) r.columns x (least_low Columns s.taps)
+            (All-get_or (λ u. least_offset Columns s.taps ≤ℤ offset_along Columns u) s.taps k no_tap inside (least_each Columns s.taps)) (All-get_or (λ u. offset_along Columns u ≤ℤ greatest_offset Columns s.taps) s.taps k no_tap inside (greatest_each Columns s.taps)) of.columns column);
+        row = subst (λ n. tap_row s.taps y t < n) (sym size.1) (place_inside (up_reach s.taps) (down_reach s.taps) t.dy (height_of pictures) r.rows y (least_low Rows s.taps)
+            (All-get_or (λ u. least_offset Rows s.taps ≤ℤ offset_along Rows u) s.taps k no_tap inside (least_each Rows s.taps)) (All-get_or (λ u. offset_along Rows u ≤ℤ greatest_offset Rows s.taps) s.taps k no_tap inside (greatest_each Rows s.taps)) of.rows row);
+      })
+
+  value_inside : (t : TapOf) → LiesInside s.taps pictures x y t → is_in (get_or (map image_name s.images) t.image no_image).ty (tap_value s.taps pictures x y t) ≡ true
+  value_inside t lies =
+      let p = get_or pictures t.image no_picture in
+      let declared : t.image < length s.images = subst (λ n. t.image < n) keeps.count lies.image in
+      let picture : IsPicture p = All-get_or IsPicture pictures t.image no_picture lies.image keeps.limits in
+      let pair : get_or (zip s.images pictures) t.image (no_decl, no_picture) ≡ (get_or s.images t.image no_decl, p) = get_or-zip s.images pictures t.image (no_decl, no_picture) declared lies.image in
+      let both_long : t.image < length (zip s.images pictures) = omega (arith, length-zip s.images pictures) in
+      let kept : KeepsRange (get_or s.images t.image no_decl) p = subst (λ q. KeepsRange q.0 q.1) pair (All-get_or (λ q. KeepsRange q.0 q.1) (zip s.images pictures) t.image (no_decl, no_picture) both_long keeps.each) in
+      let fits : p.width * tap_row s.taps y t + p.width ≤ p.width * p.height = column_fits p.width (tap_row s.taps y t) p.width p.height lies.row (omega arith) in
+      let first = lies.column in
+      let count = picture.count in
+      let place : p.width * tap_row s.taps y t + tap_column s.taps x t < length p.pixels = omega arith in
+      let member : IsIn p.ty (tap_value s.taps pictures x y t) = All-get_or (λ n. IsIn p.ty (pos n)) p.pixels (p.width * tap_row s.taps y t + tap_column s.taps x t) 0 place picture.each in
+      let same : (get_or (map image_name s.images) t.image no_image).ty ≡ p.ty = ap (λ i. i.ty) (get_or-map image_name s.images t.image no_decl no_image declared) ∙ sym kept.ty in
+      rw same (is_in_from p.ty (tap_value s.taps pictures x y t) member)
+
+  pub taps_are : (numbers : List ℤ) → numbers ≡ tap_values s.taps pictures x y → AreTaps (map image_name s.images) s.taps numbers
+  taps_are numbers same = record {
+    count = ap (λ (l : List ℤ). length l) same ∙ length-map s.taps (tap_value s.taps pictures x y);
+    each = λ n inside.
+        let t = get_or s.taps n no_tap in
+        let here : get_or numbers n (pos 0) ≡ tap_value s.taps pictures x y t = ap (λ l. get_or l n (pos 0)) same ∙ get_or-map (tap_value s.taps pictures x y) s.taps n no_tap (pos 0) inside in
+        subst (λ v. is_in (get_or (map image_name s.images) t.image no_image).ty v ≡ true) (sym here) (value_inside t (All-get_or (LiesInside s.taps pictures x y) s.taps n no_tap inside lies_inside));
+  }

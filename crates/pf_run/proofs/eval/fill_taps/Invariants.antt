@@ -1,0 +1,6 @@
+use Rattle.std.proofs.Common.{◌≡◌, map, take}
+use Rattle.pf_terms.specs.Kernels.{tap_value}
+use Rattle.pf_run.proofs.eval.fill_taps.Given as goal
+
+abbrev pub invariant-taps : goal.invariant-taps
+invariant-taps l = l.numbers.items ≡ map (tap_value l.taps l.images l.x l.y) (take l.tap-index l.taps)

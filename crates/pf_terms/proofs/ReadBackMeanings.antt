@@ -1,0 +1,305 @@
+-- What a well-typed term's printed text spells means the term.
+use Rattle.std.proofs.Common.{◌≡◌, refl, sym, ap, ◌∙◌, subst, ℕ, ◌+◌, ◌≤◌, ◌<◌, ℤ, pos, Bool, true, false, ◌&&◌, List, [], ◌∷◌, ◌++◌, length, get_or, map, arith, eqb-true}
+use Rattle.std.specs.Prelude.{Option, None, Result, Ok, int_le, ◌≤ℤ◌, ◌==◌, bytes_eq, nat_lt}
+use Rattle.std.specs.List.{flat_map, position_or_len}
+use Rattle.std.proofs.lemmas.Bool.Decides.{Decides-eqb}
+use Rattle.std.proofs.lemmas.Int.{ints}
+use Rattle.std.proofs.lemmas.List.{length-map}
+use Rattle.std.proofs.lemmas.List.Concat.{flat_map-cons}
+use Rattle.std.proofs.lemmas.List.Folds.{list_any_at}
+use Rattle.std.proofs.lemmas.List.Sums.{position_or_len_is}
+use Rattle.std.proofs.lemmas.Slice.Eq.{bytes_eq-Decides}
+use borrow.Author.Tests.{ltb-true}
+use Rattle.pf_ints.specs.declared.lane.LaneType.{LaneType}
+use Rattle.pf_terms.specs.declared.draft.Draft.{Draft}
+use Rattle.pf_terms.specs.declared.draft.Draft.TheVariants.{Number, Named, Placed, Node as DraftNode, rolls-Number, rolls-Named, rolls-Placed, rolls-Node as rolls-DraftNode}
+use Rattle.pf_terms.specs.declared.draft.Draft.TheOpen.Draft-F.{Number as NumberLayer, Named as NamedLayer, Placed as PlacedLayer, Node as DraftNodeLayer}
+use Rattle.pf_terms.specs.declared.draft.Draft.TheFolds.{fold-roll-Draft}
+use Rattle.pf_terms.specs.declared.meaning.ReadFault.{ReadFault}
+use Rattle.pf_terms.specs.declared.names.DefName.{DefName}
+use Rattle.pf_terms.specs.declared.names.ImageName.{ImageName}
+use Rattle.pf_terms.specs.declared.names.Names.{Names}
+use Rattle.pf_terms.specs.declared.names.Tap.{Tap as TapOf}
+use Rattle.pf_terms.specs.declared.op.Op.{Op}
+use Rattle.pf_terms.specs.declared.op.Op.TheVariants.{Cast, Add, Sub, Mul, ShiftLeft, ShiftRight, Min, Max, SelectGreater, SelectEqual, Abs, WideningAdd, WideningSub, WideningMul, ExtendingAdd, HalvingAdd, RoundingHalvingAdd, HalvingSub, SaturatingAdd, SaturatingSub, SaturatingCast, Absd, RoundingShr, MulShr, RoundingMulShr}
+use Rattle.pf_terms.specs.declared.term.Leaf.{Leaf as LeafOf}
+use Rattle.pf_terms.specs.declared.term.Leaf.TheVariants.{Tap, Const, Def}
+use Rattle.pf_terms.specs.declared.term.Term.{Term}
+use Rattle.pf_terms.specs.declared.term.Term.TheVariants.{Leaf, Node, rolls-Leaf, rolls-Node}
+use Rattle.pf_terms.specs.declared.term.Term.TheOpen.{Term-F}
+use Rattle.pf_terms.specs.declared.term.Term.TheOpen.Term-F.{Leaf as LeafLayer, Node as NodeLayer}
+use Rattle.pf_terms.specs.declared.term.Term.TheViews.{roll-Term}
+use Rattle.pf_terms.specs.declared.term.Term.TheFolds.{ind-Term, map-Term}
+use Rattle.pf_terms.specs.KernelNames.{IsNames, IsNear}
+use Rattle.pf_terms.specs.Meanings.{first_some, unknown_step, first_unknown, is_near, far_step, first_far, tap_at, uses_step, tap_uses, same_tap, with_tap, with_taps, names_after, image_number, def_number, is_image, is_def, tap_number, written_type, node_over, term_step, term_of, Means, IsTermText, IsTermOr}
+use Rattle.pf_terms.specs.Operators.{row_of, int_same}
+use Rattle.pf_terms.specs.ReadBack.{draft_of, leaf_draft, type_beside}
+use Rattle.pf_terms.specs.Terms.{all_true, result_type, stated_type, typing, operand_count, depth_of, IsWellTyped}
+use Rattle.pf_terms.specs.TermTexts.{term_text, spelling_of, is_named, is_named_leaf, is_named_tap, no_image, no_tap, no_def}
+use Rattle.pf_terms.proofs.NodeRanges.{judged, same_type_is}
+use Rattle.pf_terms.proofs.Printing.{by_one, by_two, by_four}
+use Rattle.pf_terms.proofs.ReadBackLeaves.{names_long, image_at, def_at}
+use Rattle.pf_terms.proofs.ReadBackTerms.{draft_node, draft_leaf, named_node, named_leaf, printed_is_draft}
+use Rattle.pf_terms.proofs.TermRanges.{AreTyped, typed_node}
+use Rattle.pf_terms.proofs.Typing.{and_left, and_right}
+
+-- the draft means the term, and asks for nothing new
+record IsMeant (names : Names) (d : Draft) (t : Term) : Type 0 where
+  known : first_unknown names d ≡ None
+  near : first_far d ≡ None
+  used : with_taps names.taps (tap_uses names.images d) ≡ names.taps
+  term : term_of names d ≡ t
+
+-- ---- places
+fails : (r : Bool) → (r ≡ true → ⊥) → r ≡ false
+fails true = λ no. absurd (no refl)
+fails false = λ no. refl
+
+-- the only element that passes stands at the first place that does
+only_place : {X : Type 0} (p : X → Bool) (xs : List X) (n : ℕ) (d : X) → n < length xs → p (get_or xs n d) ≡ true → ((k : ℕ) → k < n → p (get_or xs k d) ≡ true → ⊥) → position_or_len p xs ≡ n
+only_place p xs n d below here none =
+    position_or_len_is p xs n d (omega arith) (λ k under. fails (p (get_or xs k d)) (none k under)) (λ _. here)
+
+same_bytes : (s : List ℕ) → bytes_eq s s ≡ true
+same_bytes s = (bytes_eq-Decides s s).1 refl
+
+image_place : (names : Names) → IsNames names → (i : ℕ) → i < length names.images → image_number names.images (get_or names.images i no_image).name ≡ i
+image_place names all i below =
+    let s = (get_or names.images i no_image).name in
+    only_place (λ (x : ImageName). bytes_eq x.name s) names.images i no_image below (same_bytes s) (λ k under e.
+    all.distinct_names k i [] under (omega (arith, names_long names)) (image_at names k (omega arith) ∙ (bytes_eq-Decides (get_or names.images k no_image).name s).0 e ∙ sym (image_at names i below)))
+
+def_place : (names : Names) → IsNames names → (i : ℕ) → i < length names.defs → def_number names.defs (get_or names.defs i no_def).name ≡ i
+def_place names all i below =
+    let s = (get_or names.defs i no_def).name in
+    let m = length names.images in
+    only_place (λ (x : DefName). bytes_eq x.name s) names.defs i no_def below (same_bytes s) (λ k under e.
+    all.distinct_names (m + k) (m + i) [] (omega arith) (omega (arith, names_long names)) (def_at names k (omega arith) ∙ (bytes_eq-Decides (get_or names.defs k no_def).name s).0 e ∙ sym (def_at names i below)))
+
+image_known : (names : Names) (i : ℕ) → i < length names.images → is_image names.images (get_or names.images i no_image).name ≡ true
+image_known names i below = let s = (get_or names.images i no_image).name in list_any_at (λ (x : ImageName). bytes_eq x.name s) names.images i no_image below (same_bytes s)
+
+def_known : (names : Names) (i : ℕ) → i < length names.defs → is_def names.defs (get_or names.defs i no_def).name ≡ true
+def_known names i below = let s = (get_or names.defs i no_def).name in list_any_at (λ (x : DefName). bytes_eq x.name s) names.defs i no_def below (same_bytes s)
+
+int_le_means : (a b : ℤ) → int_le a b ≡ true → a ≤ℤ b
+int_le_means a b h = grind (arith, ints)
+
+int_le_holds : (a b : ℤ) → a ≤ℤ b → int_le a b ≡ true
+int_le_holds a b h = grind (arith, ints)
+
+int_same_means : (a b : ℤ) → int_same a b ≡ true → a ≡ b
+int_same_means a b h =
+    let up = int_le_means a b (and_left _ (int_le b a) h) in
+    let down = int_le_means b a (and_right (int_le a b) _ h) in
+    omega (arith, ints)
+
+int_same_self : (a : ℤ) → int_same a a ≡ true
+int_same_self a = let le : int_le a a ≡ true = int_le_holds a a (omega (arith, ints)) in rw le
+
+same_tap_means : (t u : TapOf) → same_tap t u ≡ true → t ≡ u
+same_tap_means t u h =
+    let first = and_left ((t.image == u.image) && int_same t.dx u.dx) (int_same t.dy u.dy) h in
+    let image : t.image ≡ u.image = eqb-true t.image u.image (and_left (t.image == u.image) (int_same t.dx u.dx) first) in
+    let across : t.dx ≡ u.dx = int_same_means t.dx u.dx (and_right (t.image == u.image) (int_same t.dx u.dx) first) in
+    let down : t.dy ≡ u.dy = int_same_means t.dy u.dy (and_right ((t.image == u.image) && int_same t.dx u.dx) (int_same t.dy u.dy) h) in
+    let tap : ℕ → ℤ → ℤ → TapOf = λ i x y. record { image = i; dx = x; dy = y } in
+    ap (λ i. tap i t.dx t.dy) image ∙ ap (λ x. tap u.image x t.dy) across ∙ ap (λ y. tap u.image u.dx y) down
+
+same_tap_self : (t : TapOf) → same_tap t t ≡ true
+same_tap_self t = rw ((Decides-eqb t.image t.image).1 refl, int_same_self t.dx) (int_same_self t.dy)
+
+tap_place : (names : Names) → IsNames names → (n : ℕ) → n < length names.taps → tap_number names.taps (get_or names.taps n no_tap) ≡ n
+tap_place names all n below =
+    let t = get_or names.taps n no_tap in
+    only_place (same_tap t) names.taps n no_tap below (same_tap_self t) (λ k under e. all.distinct_taps k n no_tap under below (sym (same_tap_means t (get_or names.taps k no_tap) e)))
+
+tap_known : (names : Names) (n : ℕ) → n < length names.taps → with_tap names.taps (get_or names.taps n no_tap) ≡ names.taps
+tap_known names n below = let t = get_or names.taps n no_tap in rw (list_any_at (same_tap t) names.taps n no_tap below (same_tap_self t))
+
+near_test : (n : ℤ) → IsNear n → is_near n ≡ true
+near_test n h = rw (int_le_holds _ n h.low) (int_le_holds n _ h.high)
+
+-- ---- leaves
+meant_number : (names : Names) (n : ℤ) (ty : LaneType) → IsMeant names (Number n ty) (Leaf (Const n) ty)
+meant_number names n ty =
+    record {
+      known = ap (first_unknown names) (sym (rolls-Number n ty)) ∙ fold-roll-Draft (Option (List ℕ)) (unknown_step names) (NumberLayer n ty);
+      near = ap first_far (sym (rolls-Number n ty)) ∙ fold-roll-Draft (Option ℤ) far_step (NumberLayer n ty);
+      used = ap (with_taps names.taps) (ap (tap_uses names.images) (sym (rolls-Number n ty)) ∙ fold-roll-Draft (List TapOf) (uses_step names.images) (NumberLayer n ty));
+      term = ap (term_of names) (sym (rolls-Number n ty)) ∙ fold-roll-Draft Term (term_step names) (NumberLayer n ty);
+    }
+
+meant_named : (names : Names) (s : List ℕ) (n : ℕ) (ty : LaneType) → is_def names.defs s ≡ true → def_number names.defs s ≡ n → (get_or names.defs n no_def).ty ≡ ty → IsMeant names (Named s) (Leaf (Def n) ty)
+meant_named names s n ty is number type =
+    record {
+      known = ap (first_unknown names) (sym (rolls-Named s)) ∙ fold-roll-Draft (Option (List ℕ)) (unknown_step names) (NamedLayer s) ∙ rw is;
+      near = ap first_far (sym (rolls-Named s)) ∙ fold-roll-Draft (Option ℤ) far_step (NamedLayer s);
+      used = ap (with_taps names.taps) (ap (tap_uses names.images) (sym (rolls-Named s)) ∙ fold-roll-Draft (List TapOf) (uses_step names.images) (NamedLayer s));
+      term =
+          ap (term_of names) (sym (rolls-Named s)) ∙ fold-roll-Draft Term (term_step names) (NamedLayer s)
+          ∙ ap (λ m. Leaf (Def m) (get_or names.defs m no_def).ty) number ∙ ap (λ t. Leaf (Def n) t) type;
+    }
+
+meant_placed : (names : Names) (s : List ℕ) (t : TapOf) (n : ℕ) (ty : LaneType) → is_image names.images s ≡ true → image_number names.images s ≡ t.image → is_near t.dx ≡ true → is_near t.dy ≡ true →
+    with_tap names.taps t ≡ names.taps → tap_number names.taps t ≡ n → (get_or names.images t.image no_image).ty ≡ ty → IsMeant names (Placed s t.dx t.dy) (Leaf (Tap n) ty)
+meant_placed names s t n ty is image across down taps number type =
+    let tap : tap_at names.images s t.dx t.dy ≡ t = ap (λ i. record { image = i; dx = t.dx; dy = t.dy }) image in
+    record {
+      known = ap (first_unknown names) (sym (rolls-Placed s t.dx t.dy)) ∙ fold-roll-Draft (Option (List ℕ)) (unknown_step names) (PlacedLayer s t.dx t.dy) ∙ rw is;
+      near = ap first_far (sym (rolls-Placed s t.dx t.dy)) ∙ fold-roll-Draft (Option ℤ) far_step (PlacedLayer s t.dx t.dy) ∙ rw (across, down);
+      used =
+          ap (with_taps names.taps) (ap (tap_uses names.images) (sym (rolls-Placed s t.dx t.dy)) ∙ fold-roll-Draft (List TapOf) (uses_step names.images) (PlacedLayer s t.dx t.dy) ∙ ap (λ x. x ∷ []) tap)
+          ∙ taps;
+      term =
+          ap (term_of names) (sym (rolls-Placed s t.dx t.dy)) ∙ fold-roll-Draft Term (term_step names) (PlacedLayer s t.dx t.dy)
+          ∙ ap (λ x. Leaf (Tap (tap_number names.taps x)) (get_or names.images (image_number names.images s) no_image).ty) tap
+          ∙ ap (λ m. Leaf (Tap m) (get_or names.images (image_number names.images s) no_image).ty) number
+          ∙ ap (λ i. Leaf (Tap n) (get_or names.images i no_image).ty) image ∙ ap (λ u. Leaf (Tap n) u) type;
+    }
+
+meant_leaf : (names : Names) (leaf : LeafOf) (ty : LaneType) → IsNames names → is_named_leaf names leaf ty ≡ true → IsMeant names (leaf_draft names leaf ty) (Leaf leaf ty)
+meant_leaf names (Tap n) ty all has =
+    let t = get_or names.taps n no_tap in
+    let below : n < length names.taps = ltb-true n (length names.taps) (and_left _ (is_named_tap names.images t ty) has) in
+    let type : (get_or names.images t.image no_image).ty ≡ ty = same_type_is _ _ (and_right (nat_lt t.image (length names.images)) _ (and_right (nat_lt n (length names.taps)) _ has)) in
+    let near = all.near n no_tap below in
+    meant_placed names (get_or names.images t.image no_image).name t n ty (image_known names t.image near.image) (image_place names all t.image near.image) (near_test t.dx near.across) (near_test t.dy near.down)
+    (tap_known names n below) (tap_place names all n below) type
+meant_leaf names (Const n) ty all has = meant_number names n ty
+meant_leaf names (Def n) ty all has =
+    let below : n < length names.defs = ltb-true n (length names.defs) (and_left _ _ has) in
+    meant_named names (get_or names.defs n no_def).name n ty (def_known names n below) (def_place names all n below) (same_type_is _ _ (and_right (nat_lt n (length names.defs)) _ has))
+
+-- ---- nodes
+abbrev AllMeant : Names → List Term → Type 0
+AllMeant names [] = Unit {0}
+AllMeant names (t ∷ ts) = IsMeant names (draft_of names t) t × AllMeant names ts
+
+all_known : (names : Names) (ts : List Term) → AllMeant names ts → first_some (map (first_unknown names) (map (draft_of names) ts)) ≡ None
+all_known names [] h = refl
+all_known names (t ∷ ts) h = rw h.0.known (all_known names ts h.1)
+
+all_near : (names : Names) (ts : List Term) → AllMeant names ts → first_some (map first_far (map (draft_of names) ts)) ≡ None
+all_near names [] h = refl
+all_near names (t ∷ ts) h = rw h.0.near (all_near names ts h.1)
+
+taps_append : (taps xs ys : List TapOf) → with_taps taps (xs ++ ys) ≡ with_taps (with_taps taps xs) ys
+taps_append taps [] ys = refl
+taps_append taps (x ∷ xs) ys = taps_append (with_tap taps x) xs ys
+
+all_used : (names : Names) (ts : List Term) → AllMeant names ts → with_taps names.taps (flat_map (λ us. us) (map (tap_uses names.images) (map (draft_of names) ts))) ≡ names.taps
+all_used names [] h = refl
+all_used names (t ∷ ts) h =
+    let first = tap_uses names.images (draft_of names t) in
+    let others = map (tap_uses names.images) (map (draft_of names) ts) in
+    ap (with_taps names.taps) (flat_map-cons (λ us. us) first others) ∙ taps_append names.taps first (flat_map (λ us. us) others)
+    ∙ ap (λ taps. with_taps taps (flat_map (λ us. us) others)) h.0.used ∙ all_used names ts h.1
+
+all_terms : (names : Names) (ts : List Term) → AllMeant names ts → map (term_of names) (map (draft_of names) ts) ≡ ts
+all_terms names [] h = refl
+all_terms names (t ∷ ts) h = rw h.0.term (ap (λ us. t ∷ us) (all_terms names ts h.1))
+
+-- the result's type is by what is written with the operator
+abbrev IsResult : Op → LaneType → List LaneType → Type 0
+IsResult op ty ts = result_type (row_of op).gives (written_type (type_beside (spelling_of op) ty)) ts ≡ result_type (row_of op).gives ty ts
+
+result_is : (op : Op) (ty : LaneType) (ts : List LaneType) → length ts ≡ operand_count (row_of op).operands → IsResult op ty ts
+result_is Cast ty ts n = by_one (IsResult Cast ty) (λ t. refl) ts n
+result_is Add ty ts n = by_two (IsResult Add ty) (λ t u. refl) ts n
+result_is Sub ty ts n = by_two (IsResult Sub ty) (λ t u. refl) ts n
+result_is Mul ty ts n = by_two (IsResult Mul ty) (λ t u. refl) ts n
+result_is ShiftLeft ty ts n = by_one (IsResult ShiftLeft ty) (λ t. refl) ts n
+result_is ShiftRight ty ts n = by_one (IsResult ShiftRight ty) (λ t. refl) ts n
+result_is Min ty ts n = by_two (IsResult Min ty) (λ t u. refl) ts n
+result_is Max ty ts n = by_two (IsResult Max ty) (λ t u. refl) ts n
+result_is SelectGreater ty ts n = by_four (IsResult SelectGreater ty) (λ a b x y. refl) ts n
+result_is SelectEqual ty ts n = by_four (IsResult SelectEqual ty) (λ a b x y. refl) ts n
+result_is Abs ty ts n = by_one (IsResult Abs ty) (λ t. refl) ts n
+result_is WideningAdd ty ts n = by_two (IsResult WideningAdd ty) (λ t u. refl) ts n
+result_is WideningSub ty ts n = by_two (IsResult WideningSub ty) (λ t u. refl) ts n
+result_is WideningMul ty ts n = by_two (IsResult WideningMul ty) (λ t u. refl) ts n
+result_is ExtendingAdd ty ts n = by_two (IsResult ExtendingAdd ty) (λ t u. refl) ts n
+result_is HalvingAdd ty ts n = by_two (IsResult HalvingAdd ty) (λ t u. refl) ts n
+result_is RoundingHalvingAdd ty ts n = by_two (IsResult RoundingHalvingAdd ty) (λ t u. refl) ts n
+result_is HalvingSub ty ts n = by_two (IsResult HalvingSub ty) (λ t u. refl) ts n
+result_is SaturatingAdd ty ts n = by_two (IsResult SaturatingAdd ty) (λ t u. refl) ts n
+result_is SaturatingSub ty ts n = by_two (IsResult SaturatingSub ty) (λ t u. refl) ts n
+result_is SaturatingCast ty ts n = by_one (IsResult SaturatingCast ty) (λ t. refl) ts n
+result_is Absd ty ts n = by_two (IsResult Absd ty) (λ t u. refl) ts n
+result_is RoundingShr ty ts n = by_one (IsResult RoundingShr ty) (λ t. refl) ts n
+result_is MulShr ty ts n = by_two (IsResult MulShr ty) (λ t u. refl) ts n
+result_is RoundingMulShr ty ts n = by_two (IsResult RoundingMulShr ty) (λ t u. refl) ts n
+
+meant_node : (names : Names) (op : Op) (ty : LaneType) (k : ℕ) (args : List Term) → length args ≡ operand_count (row_of op).operands → result_type (row_of op).gives ty (map stated_type args) ≡ ty → AllMeant names args →
+    IsMeant names (DraftNode op false (type_beside (spelling_of op) ty) (pos k) (map (draft_of names) args)) (Node op ty k args)
+meant_node names op ty k args count type h =
+    let beside = type_beside (spelling_of op) ty in
+    let ds = map (draft_of names) args in
+    let rolled = sym (rolls-DraftNode op false beside (pos k) ds) in
+    let layer = DraftNodeLayer op false beside (pos k) ds in
+    let types : length (map stated_type args) ≡ operand_count (row_of op).operands = length-map args stated_type ∙ count in
+    record {
+      known = ap (first_unknown names) rolled ∙ fold-roll-Draft (Option (List ℕ)) (unknown_step names) layer ∙ all_known names args h;
+      near = ap first_far rolled ∙ fold-roll-Draft (Option ℤ) far_step layer ∙ all_near names args h;
+      used = ap (with_taps names.taps) (ap (tap_uses names.images) rolled ∙ fold-roll-Draft (List TapOf) (uses_step names.images) layer) ∙ all_used names args h;
+      term =
+          ap (term_of names) rolled ∙ fold-roll-Draft Term (term_step names) layer ∙ ap (node_over op beside (pos k)) (all_terms names args h)
+          ∙ ap (λ u. Node op u k args) (result_is op ty (map stated_type args) types ∙ type);
+    }
+
+-- ---- terms
+-- said of each term
+abbrev MeansTerm : Names → Term → Type 0
+MeansTerm names t = IsWellTyped t → is_named names t ≡ true → IsMeant names (draft_of names t) t
+
+operands_mean : (names : Names) (ps : List ((t : Term) × MeansTerm names t)) → AreTyped (map (λ p. p.0) ps) → all_true (map (is_named names) (map (λ p. p.0) ps)) ≡ true → AllMeant names (map (λ p. p.0) ps)
+operands_mean names [] typed h = tt
+operands_mean names (p ∷ ps) typed h =
+    (p.1 typed.0 (and_left _ (all_true (map (is_named names) (map (λ q. q.0) ps))) h), operands_mean names ps typed.1 (and_right (is_named names p.0) _ h))
+
+leaf_means : (names : Names) (leaf : LeafOf) (ty : LaneType) → IsNames names → MeansTerm names (Leaf leaf ty)
+leaf_means names leaf ty all typed h = subst (λ d. IsMeant names d (Leaf leaf ty)) (sym (draft_leaf names leaf ty)) (meant_leaf names leaf ty all (sym (named_leaf names leaf ty) ∙ h))
+
+node_means : (names : Names) (op : Op) (ty : LaneType) (k : ℕ) (args : List Term) → IsWellTyped (Node op ty k args) → (AreTyped args → AllMeant names args) → IsMeant names (draft_of names (Node op ty k args)) (Node op ty k args)
+node_means names op ty k args typed each =
+    let parts = typed_node op ty k args typed in
+    let found = (judged (row_of op) ty ty k (map stated_type args) parts.node).0 in
+    subst (λ d. IsMeant names d (Node op ty k args)) (sym (draft_node names op ty k args)) (meant_node names op ty k args parts.count found.result (each parts.operands))
+
+layer_means : (names : Names) → IsNames names → (y : Term-F ((t : Term) × MeansTerm names t)) → MeansTerm names (roll-Term (map-Term ((t : Term) × MeansTerm names t) Term (λ e. e.0) y))
+layer_means names all (LeafLayer leaf ty) = subst (MeansTerm names) (sym (rolls-Leaf leaf ty)) (leaf_means names leaf ty all)
+layer_means names all (NodeLayer op ty k ps) =
+    let args = map (λ p. p.0) ps in
+    subst (MeansTerm names) (sym (rolls-Node op ty k args)) (λ typed h.
+    node_means names op ty k args typed (λ each. operands_mean names ps each (sym (named_node names op ty k args) ∙ h)))
+
+term_meant : (names : Names) → IsNames names → (t : Term) → MeansTerm names t
+term_meant names all = ind-Term (MeansTerm names) (λ x y is. subst (λ z. MeansTerm names (roll-Term z)) is (layer_means names all y))
+
+draft_means : (names : Names) (t : Term) (d : Draft) → IsNames names → IsWellTyped t → IsMeant names d t → Means names d t names
+draft_means names t d all typed m =
+    let same : names_after names d ≡ names = ap (λ taps. record names { taps = taps }) m.used in
+    let is : term_of (names_after names d) d ≡ t = ap (λ after. term_of after d) same ∙ m.term in
+    record {
+      known = m.known;
+      typed = subst (λ u. typing u ≡ Ok (stated_type u)) (sym is) typed.typed;
+      few = subst (λ after. length after.taps ≤ 64) (sym same) all.few_taps;
+      near = m.near;
+      term = sym m.term;
+      made = sym same;
+    }
+
+-- what was printed of a term is read as the term, and no name is new
+pub printed_is_read : (names : Names) (t : Term) → IsNames names → IsWellTyped t → is_named names t ≡ true → depth_of t ≤ 1024 → IsTermText names (term_text names t) t names
+printed_is_read names t all typed has deep =
+    record {
+      draft = draft_of names t;
+      spelled = printed_is_draft names t all typed has deep;
+      means = draft_means names t (draft_of names t) all typed (term_meant names all t typed has);
+    }
+
+-- so a reader that reads what a text means reads a printed term
+pub read_back : (names : Names) (text : List ℕ) (r : Result Term ReadFault) (now : Names) → IsNames names → ((t : Term) (after : Names) → IsTermText names text t after → IsTermOr t after r now) →
+    (t : Term) → IsWellTyped t → is_named names t ≡ true → depth_of t ≤ 1024 → text ≡ term_text names t → IsTermOr t names r now
+read_back names text r now all only t typed has deep is = only t names (subst (λ xs. IsTermText names xs t names) (sym is) (printed_is_read names t all typed has deep))

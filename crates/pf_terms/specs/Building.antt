@@ -1,0 +1,64 @@
+-- What the steps between a draft and its term say.
+use Rattle.std.specs.Prelude.{◌≡◌, ℕ, Bool, true, ◌&&◌, ◌||◌, not, nat_le, unsigned_abs, List, length, zero, suc, Result, Ok, Err}
+use Rattle.pf_ints.specs.declared.lane.LaneType.{LaneType}
+use Rattle.pf_terms.specs.declared.draft.Draft.{Draft}
+use Rattle.pf_terms.specs.declared.draft.Draft.TheOpen.{Draft-F}
+use Rattle.pf_terms.specs.declared.draft.Draft.TheOpen.Draft-F.{Number, Named, Placed, Node}
+use Rattle.pf_terms.specs.declared.draft.Draft.TheFolds.{fold-Draft}
+use Rattle.pf_terms.specs.declared.fault.TermFault.{TermFault}
+use Rattle.pf_terms.specs.declared.fault.TermFault.TheVariants.{Types as TypesAt, Amount as AmountAt}
+use Rattle.pf_terms.specs.declared.meaning.ReadFault.{ReadFault}
+use Rattle.pf_terms.specs.declared.meaning.ReadFault.TheVariants.{Types, Amount, Memory}
+use Rattle.pf_terms.specs.declared.names.Names.{Names}
+use Rattle.pf_terms.specs.declared.names.Tap.{Tap}
+use Rattle.pf_terms.specs.declared.term.Term.{Term}
+use Rattle.pf_terms.specs.KernelNames.{IsNear}
+use Rattle.pf_terms.specs.Meanings.{IsMeaningFault}
+use Rattle.pf_terms.specs.Operators.{row_of}
+use Rattle.pf_terms.specs.Terms.{is_in, all_true, is_formed_node, stated_type}
+
+abbrev pub formed_draft_step : Draft-F Bool → Bool
+formed_draft_step (Number n t) = is_in t n
+formed_draft_step (Named s) = true
+formed_draft_step (Placed s dx dy) = true
+formed_draft_step (Node op less ty k args) = is_formed_node (row_of op) (unsigned_abs k) (length args) && (not less || nat_le 2 (length args)) && all_true args
+
+-- each number lies in its type, and each operator has as many operands as its row says
+abbrev pub is_formed_draft : Draft → Bool
+is_formed_draft = fold-Draft Bool formed_draft_step
+
+-- the place in the text of operand n of the term
+abbrev pub place_in_order : Bool → ℕ → ℕ
+place_in_order true zero = 1
+place_in_order true (suc zero) = 0
+place_in_order _ n = n
+
+-- the names with other taps
+abbrev pub with_these : Names → List Tap → Names
+with_these names taps = record names { taps = taps }
+
+-- offsets that a tap may have
+pub record HasNearOffsets (t : Tap) : Type 0 where
+  pub across : IsNear t.dx
+  pub down : IsNear t.dy
+
+-- a fault is that of a node
+abbrev pub IsNodeFault : Result LaneType TermFault → ReadFault → Type 0
+IsNodeFault told (Types want got) = (path : List ℕ) × (told ≡ Err (TypesAt path want got))
+IsNodeFault told (Amount k) = (path : List ℕ) × (told ≡ Err (AmountAt path k))
+IsNodeFault told Memory = Unit {0}
+IsNodeFault told _ = ⊥
+
+-- what is found at a node is its type or its fault, unless memory was wanting
+abbrev pub IsFound : Result LaneType TermFault → Result LaneType ReadFault → Type 0
+IsFound told (Ok t) = told ≡ Ok t
+IsFound told (Err fault) = IsNodeFault told fault
+
+abbrev pub IsBuilt : Result LaneType TermFault → Result Term ReadFault → Type 0
+IsBuilt told (Ok t) = told ≡ Ok (stated_type t)
+IsBuilt told (Err fault) = IsNodeFault told fault
+
+-- the draft means nothing, and this is its first fault, unless memory was wanting
+abbrev pub IsFaultOrMemory : Names → Draft → ReadFault → Type 0
+IsFaultOrMemory names d Memory = Unit {0}
+IsFaultOrMemory names d fault = IsMeaningFault names d fault

@@ -1,0 +1,121 @@
+ghost use Rattle.std.specs.Prelude.{◌≡◌, ◌≤◌, ◌<◌, length, IfSome};
+ghost use Rattle.std.specs.List.{position};
+ghost use Rattle.std.specs.Str.{bytes_eq};
+ghost use Rattle.pf_terms.specs.Meanings.{image_number, def_number, is_image, is_def, first_unknown, first_far, is_near};
+
+use crate::draft::Draft;
+use crate::names::{DefName, DefNames, ImageName, ImageNames, Names};
+use pf_ints::Name;
+
+/// The number of the image of this name, or the count of the images where there is none.
+pub fn image_number(images: &ImageNames, name: &Name) -> usize
+    ensures value { result ≡ image_number images.now name.now }
+    ensures most { result ≤ length images.now }
+{
+    image_place(images.as_slice(), name).unwrap_or(images.len())
+}
+
+fn image_place(images: &[ImageName], name: &Name) -> Option<usize>
+    ensures value { result ≡ position (λ image. bytes_eq image.name name.now) images.now }
+    ensures within { IfSome result (λ n. n < length images.now) }
+{
+    images
+        .iter()
+        .position(|image| image.name.as_slice() == name.as_slice())
+}
+
+/// The number of the definition of this name, or the count of the definitions where there is none.
+pub fn def_number(defs: &DefNames, name: &Name) -> usize
+    ensures value { result ≡ def_number defs.now name.now }
+    ensures most { result ≤ length defs.now }
+{
+    def_place(defs.as_slice(), name).unwrap_or(defs.len())
+}
+
+fn def_place(defs: &[DefName], name: &Name) -> Option<usize>
+    ensures value { result ≡ position (λ def. bytes_eq def.name name.now) defs.now }
+    ensures within { IfSome result (λ n. n < length defs.now) }
+{
+    defs.iter()
+        .position(|def| def.name.as_slice() == name.as_slice())
+}
+
+fn is_image(images: &ImageNames, name: &Name) -> bool
+    ensures { result ≡ is_image images.now name.now }
+{
+    images
+        .as_slice()
+        .iter()
+        .any(|image| image.name.as_slice() == name.as_slice())
+}
+
+fn is_def(defs: &DefNames, name: &Name) -> bool
+    ensures { result ≡ is_def defs.now name.now }
+{
+    defs.as_slice()
+        .iter()
+        .any(|def| def.name.as_slice() == name.as_slice())
+}
+
+/// The first name in the order of the text that stands for nothing.
+pub fn first_unknown(draft: &Draft, names: &Names) -> Option<Name>
+    ensures { result ≡ first_unknown names.now draft.now }
+{
+    match draft {
+        Draft::Number(..) => None,
+        Draft::Named(name) => {
+            if is_def(&names.defs, name) {
+                None
+            } else {
+                Some(*name)
+            }
+        }
+        Draft::Placed(name, ..) => {
+            if is_image(&names.images, name) {
+                None
+            } else {
+                Some(*name)
+            }
+        }
+        Draft::Node { args, .. } => {
+            for arg in args.as_slice() {
+                if let Some(name) = first_unknown(arg, names) {
+                    return Some(name);
+                }
+            }
+            None
+        }
+    }
+}
+
+/// The first offset in the order of the text that no tap may have.
+pub fn first_far(draft: &Draft) -> Option<i64>
+    ensures { result ≡ first_far draft.now }
+{
+    match draft {
+        Draft::Number(..) | Draft::Named(_) => None,
+        Draft::Placed(_, dx, dy) => {
+            if !is_near(*dx) {
+                Some(*dx)
+            } else if !is_near(*dy) {
+                Some(*dy)
+            } else {
+                None
+            }
+        }
+        Draft::Node { args, .. } => {
+            for arg in args.as_slice() {
+                if let Some(offset) = first_far(arg) {
+                    return Some(offset);
+                }
+            }
+            None
+        }
+    }
+}
+
+fn is_near(offset: i64) -> bool
+    ensures { result ≡ is_near offset }
+{
+    -64 <= offset && offset <= 64
+}

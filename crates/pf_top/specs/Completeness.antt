@@ -1,0 +1,33 @@
+-- Where `run` and `eval` do their work.
+use Rattle.std.specs.Prelude.{◌≡◌, ℕ, ◌+◌, ◌≤◌, List, length, zip}
+use Rattle.std.specs.List.{AllZip}
+use Rattle.pf_ints.specs.declared.lane.LaneType.{LaneType}
+use Rattle.pf_ints.specs.Images.{Picture}
+use Rattle.pf_terms.specs.declared.kernel.ImageDecl.{ImageDecl}
+use Rattle.pf_images.specs.Counts.{Rose}
+use Rattle.pf_images.specs.Outside.{Contents}
+use Rattle.pf_images.specs.Pgm.{IsPgm}
+use Rattle.pf_top.specs.Courses.{Begins}
+use Rattle.pf_top.specs.ImageFiles.{image_limit}
+use Rattle.pf_top.specs.Running.{Language, Run}
+
+-- the bytes are a PGM file of this image, within the limit
+abbrev pub IsSomeImage : LaneType → Picture → List ℕ → Type 0
+IsSomeImage ty picture bytes = (length bytes ≤ image_limit) × IsPgm bytes ty picture
+
+-- the file of this name holds an image of the declared type
+abbrev pub IsImageThere : Contents → List ℕ × ImageDecl → Picture → Type 0
+IsImageThere files w picture = Begins w.0 (image_limit + 1) (IsSomeImage w.1.ty picture) files
+
+-- the files hold a text and as many images as it is for, and it makes an image of them
+pub record IsRunnable {P R : Type 0} (l : Language P R) (r : Run) (files : Contents) : Type 0 where
+  pub meaning : P
+  pub pictures : List Picture
+  pub text : Begins r.text (l.most + 1) (l.Spells meaning) files
+  pub count : length r.images ≡ length (l.decls meaning)
+  pub images : AllZip (IsImageThere files) (zip r.images (l.decls meaning)) pictures
+  pub works : l.Works meaning pictures
+
+-- a count of faults didn't rise
+abbrev pub IsCalm : ℕ → ℕ → Type 0
+IsCalm before after = Rose before after → ⊥
