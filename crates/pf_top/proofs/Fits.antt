@@ -1,5 +1,5 @@
 -- Texts of programs and of kernels are fit for `run` and `eval`.
-use Rattle.std.proofs.Common.{◌≡◌, ℕ, ◌≤◌, ◌<◌, List, length, Err, refl, arith}
+use Rattle.std.proofs.Common.{ℕ, ◌≤◌, ◌<◌, List, length, Err, refl, arith}
 use Rattle.pf_ints.specs.Images.{Picture}
 use Rattle.pf_isa.specs.Programs.{Text}
 use Rattle.pf_neon.specs.declared.neon.Neon.{Neon}

@@ -17,9 +17,15 @@ use std::alloc::Global;
 #[derive(Clone, Copy, Debug)]
 pub enum KernelRefusal {
     /// The line begins none that may stand there, up to and with the token at this column.
-    Syntax { line: u32, column: u64 },
+    Syntax {
+        line: u32,
+        column: u64,
+    },
     /// A name that is unknown, or that is taken.
-    Name { line: u32, name: Name },
+    Name {
+        line: u32,
+        name: Name,
+    },
     /// A term of type `got` where `want` is asked for.
     Types {
         line: u32,
@@ -27,7 +33,10 @@ pub enum KernelRefusal {
         got: LaneType,
     },
     /// A limit that is passed, and the counted number.
-    Limit { what: LimitKind, count: i64 },
+    Limit {
+        what: LimitKind,
+        count: i64,
+    },
 }
 
 /// The most bytes of a kernel's text.

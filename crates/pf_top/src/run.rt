@@ -116,11 +116,7 @@ fn run_files<F: Files>(
 }
 
 /// What the command `run` comes to.
-pub fn run<F: Files>(
-    alloc: Global,
-    words: &RunWords<'_>,
-    files: &mut F,
-) -> RunVerdict<TextRefusal>
+pub fn run<F: Files>(alloc: Global, words: &RunWords<'_>, files: &mut F) -> RunVerdict<TextRefusal>
     ensures { RanTo programs (the_run words.now) (seen F.held F.faults F.calls files.old) result
         (seen F.held F.faults F.calls files.new) }
 {
