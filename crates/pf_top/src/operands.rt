@@ -48,7 +48,13 @@ fn taps_of(term: &Term) -> Option<Operands>
     ensures { MatchOption result ((m n : ℕ) → term.now ≡ least_term m n → ⊥)
         (λ o. term.now ≡ least_term o.first o.second) }
 {
-    let Term::Node { op: Op::Min, ty, k: 0, args } = term else {
+    let Term::Node {
+        op: Op::Min,
+        ty,
+        k: 0,
+        args,
+    } = term
+    else {
         return None;
     };
     let [first, second] = args.as_slice() else {
@@ -68,7 +74,10 @@ pub fn operands_of(kernel: &Kernel) -> Option<Operands>
     ensures { MatchOption result ((m n : ℕ) → IsLeastOf kernel.now.source m n → ⊥)
         (λ o. IsLeastOf kernel.now.source o.first o.second) }
 {
-    if !kernel.defs().is_empty() || !is_byte(kernel.out_ty()) || !are_bytes(kernel.images().as_slice()) {
+    if !kernel.defs().is_empty()
+        || !is_byte(kernel.out_ty())
+        || !are_bytes(kernel.images().as_slice())
+    {
         return None;
     }
     taps_of(kernel.out())
