@@ -15,7 +15,7 @@ evaluate() {
     python3 "$here/png.py" "$here/$name.pgm" "$here/$name.png"
 }
 evaluate blur sky
-evaluate sobel ink
+evaluate sobel sky
 evaluate blend sky ink fade
 evaluate median ink
 evaluate contrast sky
