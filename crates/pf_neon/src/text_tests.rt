@@ -6,7 +6,7 @@ ghost use Rattle.pf_isa.specs.Machines.{IsMemory, HasTable};
 use crate::Neon;
 use pf_ints::{Memory, Sequence, Target};
 use pf_isa::{
-    Machine, Program, Region, RegionList, TextFault, TextKind, Trap, read_text, target_of,
+    Machine, Program, Region, RegionList, TextFault, TextKind, Trap, read_text, reread, target_of,
     write_text,
 };
 use std::alloc::Global;
@@ -122,10 +122,16 @@ fn goes_to_labels(rt: HostRuntime) -> Result<(), Fail> {
     )
 }
 
+/// The program of a text, read a second time from its own text.
+fn read_twice(alloc: Global, text: &[u8]) -> Result<Program<Neon>, TextFault> {
+    let program = read_text::<Neon>(alloc, text)?;
+    reread(alloc, &program)
+}
+
 /// Reads the text, and writes it.
 fn try_text<R: Abort + AllocGlobal>(rt: &R, text: &[u8], wanted: &[u8]) -> Result<(), Fail> {
     let alloc = rt.alloc();
-    match read_text::<Neon>(alloc, text) {
+    match read_twice(alloc, text) {
         Ok(program) => {
             let written = write_text(alloc, &program)?;
             assert_eq!(rt; written.as_slice(), wanted);
