@@ -14,3 +14,5 @@ pub mod FrontLaws
 pub mod Judging
 pub mod ReadLaws
 pub mod KernelLines
+pub mod Fewer
+pub mod WrittenReads
