@@ -1,5 +1,5 @@
 -- A term's text with the names of the whole kernel means the term behind the lines before it.
-use Rattle.std.proofs.Common.{◌≡◌, refl, sym, ◌∙◌, ap, subst, ℕ, ◌+◌, ◌≤◌, ◌<◌, ◌||◌, ◌&&◌, Bool, true, false, List, [], ◌∷◌, ◌++◌, length, map, take, drop, append_assoc, append-nil, arith, length-append}
+use Rattle.std.proofs.Common.{◌≡◌, refl, sym, ◌∙◌, ap, subst, ℕ, ◌+◌, ◌-◌, ◌≤◌, ◌<◌, ◌||◌, ◌&&◌, Bool, true, false, List, [], ◌∷◌, ◌++◌, length, map, take, drop, append_assoc, append-nil, arith, length-append}
 use Rattle.std.specs.Prelude.{None, max, nat_lt}
 use Rattle.std.specs.List.{concat, list_any, position_or_len}
 use Rattle.std.proofs.Math.ListN.{get_or-append}
@@ -29,7 +29,7 @@ use Rattle.pf_kernel.proofs.Extending.{more_names, stays_named}
 use Rattle.pf_kernel.proofs.Turns.{there, place_later, adds_by, term_uses}
 
 -- ---- numbers in turn
-pub turn_grows : (ns : List ℕ) (n m : ℕ) → AreInTurn n ns m → n ≤ m
+turn_grows : (ns : List ℕ) (n m : ℕ) → AreInTurn n ns m → n ≤ m
 turn_grows [] n m h = omega arith
 turn_grows (t ∷ ts) n m h = let rest = turn_grows ts (max n (t + 1)) m h.1 in omega arith
 
@@ -38,13 +38,34 @@ turn_below [] n m h = tt
 turn_below (t ∷ ts) n m h = (let rest = turn_grows ts (max n (t + 1)) m h.1 in omega arith, turn_below ts (max n (t + 1)) m h.1)
 
 -- the count between two lists of numbers
-pub turn_split : (xs ys : List ℕ) (n l : ℕ) → AreInTurn n (xs ++ ys) l → (m : ℕ) × AreInTurn n xs m × AreInTurn m ys l
+turn_split : (xs ys : List ℕ) (n l : ℕ) → AreInTurn n (xs ++ ys) l → (m : ℕ) × AreInTurn n xs m × AreInTurn m ys l
 turn_split [] ys n l h = (n, refl, h)
 turn_split (x ∷ xs) ys n l h = let rest = turn_split xs ys (max n (x + 1)) l h.1 in (rest.0, (h.0, rest.1), rest.2)
 
--- a list in two parts, the first of them so long
-pub parts_at : {A : Type 0} (n : ℕ) (xs : List A) → n ≤ length xs → (us : List A) × ((vs : List A) × (xs ≡ us ++ vs) × (length us ≡ n))
-parts_at n xs h = (take n xs, (drop n xs, sym (take-append-drop n xs), length-take-le n xs h))
+-- behind the known taps the new ones of the first numbers, and those that are left
+pub record IsTurn (known rest : List TapOf) (xs ys : List ℕ) : Type 0 where
+  pub new : List TapOf
+  pub left : List TapOf
+  pub parts : known ++ rest ≡ (known ++ new) ++ left
+  pub here : AreInTurn (length known) xs (length (known ++ new))
+  pub onward : AreInTurn (length (known ++ new)) ys (length (known ++ rest))
+
+pub taps_split : (known rest : List TapOf) (xs ys : List ℕ) → AreInTurn (length known) (xs ++ ys) (length (known ++ rest)) → IsTurn known rest xs ys
+taps_split known rest xs ys h =
+    let split = turn_split xs ys (length known) (length (known ++ rest)) h in
+    let m : ℕ = split.0 in
+    let low : length known ≤ m = turn_grows xs (length known) m split.1 in
+    let high : m ≤ length (known ++ rest) = turn_grows ys m (length (known ++ rest)) split.2 in
+    let n : ℕ = m - length known in
+    let fits : n ≤ length rest = omega (arith, length-append known rest) in
+    let count : m ≡ length (known ++ take n rest) = omega (arith, length-append known (take n rest), length-take-le n rest fits) in
+    record {
+      new = take n rest;
+      left = drop n rest;
+      parts = ap (λ ts. known ++ ts) (sym (take-append-drop n rest)) ∙ sym (append_assoc known (take n rest) (drop n rest));
+      here = subst (λ (k : ℕ). AreInTurn (length known) xs k) count split.1;
+      onward = subst (λ (k : ℕ). AreInTurn k ys (length (known ++ rest))) count split.2;
+    }
 
 -- ---- a term whose taps are among the first ones
 both : (a b : Bool) → a ≡ true → b ≡ true → (a && b) ≡ true

@@ -1,5 +1,5 @@
 -- The lines of a kernel's written text are read as the kernel.
-use Rattle.std.proofs.Common.{◌≡◌, ◌≢◌, refl, sym, ◌∙◌, ap, subst, ℕ, ◌+◌, ◌-◌, ◌≤◌, ◌<◌, ◌||◌, ◌&&◌, not, Bool, true, false, List, [], ◌∷◌, ◌++◌, length, map, sum, get_or, append_assoc, append-nil, arith, length-append}
+use Rattle.std.proofs.Common.{◌≡◌, ◌≢◌, refl, sym, ◌∙◌, ap, subst, ℕ, ◌+◌, ◌≤◌, ◌<◌, ◌||◌, ◌&&◌, not, Bool, true, false, List, [], ◌∷◌, ◌++◌, length, map, sum, get_or, append_assoc, append-nil, arith, length-append}
 use Rattle.std.specs.Prelude.{ℤ, pos, Option, Some, None, Result, Ok, All, nat_lt, codes}
 use Rattle.std.specs.List.{AllPairs, flat_map, list_any}
 use Rattle.std.specs.Option.{option_or, option_map}
@@ -36,10 +36,10 @@ use Rattle.pf_terms.proofs.TapLists.{Each, each_front, each_behind, each_of_all,
 use Rattle.pf_terms.proofs.Typing.{same_self}
 use Rattle.pf_kernel.specs.declared.front.Front.TheVariants.{Kernel as KernelFront, Image as ImageFront, Def as DefFront, Out as OutFront}
 use Rattle.pf_kernel.specs.Kernels.{Meaning, image_name, def_name, names_behind, names_of, IsDecl, IsTermOf, AreDefinitions, terms_of, taps_in, AreInTurn, IsKernelOf}
-use Rattle.pf_kernel.specs.Lines.{Begun, nothing, is_empty, may_stand, Bare, Over, Says, if_so, counted, more_than, is_taken, taken, mistyped, names_with, term_with, nodes_in, judged, expression_faults, with_said, AreRead}
+use Rattle.pf_kernel.specs.Lines.{Begun, nothing, is_empty, may_stand, Said, Bare, Over, Says, if_so, counted, more_than, is_taken, taken, mistyped, names_with, term_with, nodes_in, judged, expression_faults, with_said, IsRead, AreRead}
 use Rattle.pf_kernel.specs.Texts.{all_of, image_text, typed_text, def_text}
 use Rattle.pf_kernel.proofs.Extending.{more_names}
-use Rattle.pf_kernel.proofs.Fewer.{turn_grows, turn_split, parts_at, IsSpoken, means_fewer}
+use Rattle.pf_kernel.proofs.Fewer.{taps_split, IsSpoken, means_fewer}
 use Rattle.pf_kernel.proofs.KernelLines.{out_text, kernel_lines}
 use Rattle.pf_kernel.proofs.Printing.{stays_with_defs}
 
@@ -206,126 +206,164 @@ behind_some : (xs : List ImageDecl) → 1 ≤ length xs → (not (is_empty xs) &
 behind_some [] h = absurd (omega arith)
 behind_some (x ∷ xs) h = refl
 
+-- ---- one line after another
+-- the line is read behind the first lines, and with it there is that
+record IsStep (b : Begun) (line : List ℕ) (c : Begun) : Type 0 where
+  said : Said
+  read : IsRead b line said
+  next : with_said b said ≡ c
+
+step_first : (b c e : Begun) (line : List ℕ) (more : List (List ℕ)) → IsStep b line c → AreRead c more e → AreRead b (line ∷ more) e
+step_first b c e line more s rest = (s.said, s.read, subst (λ (x : Begun). AreRead x more e) (sym s.next) rest)
+
 -- ---- the lines of a kernel
 module _ (f : LineFacts) (k : Meaning) (h : IsKernelOf k) where
   -- what the lines before the output say
   abbrev begun : List ImageDecl → List Tap → List Definition → Begun
   begun images taps defs = record { name = Some k.name; images = images; taps = taps; defs = defs; out = None }
 
+  fewer_names : (known rest : List Tap) (done later : List Definition) → k.source.taps ≡ known ++ rest → k.source.defs ≡ done ++ later → IsNames (names_behind k.source.images known done)
+  fewer_names known rest done later taps defs =
+      names_fewer k.source.images known rest done later
+      (subst (λ (ds : List Definition). IsNames (names_behind k.source.images (known ++ rest) ds)) defs (subst (λ (ts : List Tap). IsNames (names_behind k.source.images ts k.source.defs)) taps h.names))
+
+  spoken : (known new left : List Tap) (done later : List Definition) (ty : LaneType) (t : Term) → k.source.taps ≡ (known ++ new) ++ left → k.source.defs ≡ done ++ later → IsTermOf (names_behind k.source.images k.source.taps done) ty t →
+      AreInTurn (length known) (taps_in t) (length (known ++ new)) → IsSpoken (names_behind k.source.images known done) (names_behind k.source.images (known ++ new) done) (names_of k.source) t
+  spoken known new left done later ty t taps defs typed turn =
+      let before = names_behind k.source.images known done in
+      let after = names_behind k.source.images (known ++ new) done in
+      let names = fewer_names (known ++ new) left done later taps defs in
+      let named : is_named (names_behind k.source.images ((known ++ new) ++ left) done) t ≡ true = subst (λ (ts : List Tap). is_named (names_behind k.source.images ts done) t ≡ true) taps typed.named in
+      let deep : depth_of t ≤ 1024 = let low : depth_of t ≤ 128 = typed.depth in omega arith in
+      let same_defs : map def_name done ++ map def_name later ≡ map def_name k.source.defs = sym (map-append def_name done later) ∙ ap (map def_name) (sym defs) in
+      let same_taps : (known ++ new) ++ left ≡ k.source.taps = sym taps in
+      let all : more_names after left (map def_name later) ≡ names_of k.source = λ i. record { images = map image_name k.source.images; taps = same_taps i; defs = same_defs i } in
+      subst (λ (a : Names). IsSpoken before after a t) all (means_fewer before new left (map def_name later) t names typed.formed deep named turn)
+
+  -- ---- the output
+  out_step : (known new : List Tap) → k.source.taps ≡ known ++ new → AreInTurn (length known) (taps_in k.source.out) (length k.source.taps) → IsStep (begun k.source.images known k.source.defs) (out_text k) (all_of k)
+  out_step known new taps turn =
+      let out = k.source.out in
+      let ty = k.source.out_ty in
+      let before = names_behind k.source.images known k.source.defs in
+      let after = names_behind k.source.images (known ++ new) k.source.defs in
+      let b : Begun = begun k.source.images known k.source.defs in
+      let s : IsSpoken before after (names_of k.source) out =
+      spoken known new [] k.source.defs [] ty out (taps ∙ sym (append-nil (known ++ new))) (sym (append-nil k.source.defs)) h.out (subst (λ (ts : List Tap). AreInTurn (length known) (taps_in out) (length ts)) taps turn) in
+      let named : is_named (names_of k.source) out ≡ true = h.out.named in
+      let count : length k.source.defs ≤ 64 = let most : length (map def_name k.source.defs) ≤ 64 = h.names.few_defs in omega (arith, length-map k.source.defs def_name) in
+      let some_taps : length (known ++ new) ≤ 64 = subst (λ (ts : List Tap). length ts ≤ 64) taps h.names.few_taps in
+      let nodes : nodes_in b + node_count out ≤ 512 = let most : sum (map node_count (terms_of k.source)) ≤ 512 = h.nodes in let here = nodes_last k.source.defs out in omega arith in
+      let all_taps : (names_with b s.draft).taps ≡ k.source.taps = ap (λ (a : Names). a.taps) s.made ∙ sym taps in
+      let term : term_with b s.draft ≡ out = ap (λ (a : Names). term_of a s.draft) s.made ∙ s.term in
+      record {
+        said = Over (OutFront ty) s.draft;
+        read = record {
+          says = f.out_says b (names_of k.source) ty out s.draft h.names h.out_ty named h.out.formed (behind_some k.source.images h.some_images) s.spelled;
+          faultless = spoken_quiet before after (names_of k.source) out ty (nodes_in b) (length k.source.defs) s h.out.formed h.out.typed h.out.depth some_taps count nodes;
+        };
+        next = λ i. record { name = Some k.name; images = k.source.images; taps = all_taps i; defs = k.source.defs; out = Some (ty, term i) };
+      }
+
+  -- ---- the definitions
   all_named : (done later : List Definition) (t : Term) → k.source.defs ≡ done ++ later → is_named (names_behind k.source.images k.source.taps done) t ≡ true → is_named (names_of k.source) t ≡ true
   all_named done later t e named =
       let before = names_behind k.source.images k.source.taps done in
       let defs : map def_name done ++ map def_name later ≡ map def_name k.source.defs = sym (map-append def_name done later) ∙ ap (map def_name) (sym e) in
       subst (λ (ds : List DefName). is_named (record before { defs = ds }) t ≡ true) defs (stays_with_defs before (map def_name later) t named).named
 
-  fewer_names : (known rest : List Tap) (done later : List Definition) → k.source.taps ≡ known ++ rest → k.source.defs ≡ done ++ later → IsNames (names_behind k.source.images known done)
-  fewer_names known rest done later taps defs =
-      names_fewer k.source.images known rest done later
-      (subst (λ (ds : List Definition). IsNames (names_behind k.source.images (known ++ rest) ds)) defs (subst (λ (ts : List Tap). IsNames (names_behind k.source.images ts k.source.defs)) taps h.names))
+  next_def : (known : List Tap) (done later : List Definition) (d : Definition) → k.source.defs ≡ done ++ d ∷ later → IsNext (names_behind k.source.images known done) d.name
+  next_def known done later d defs =
+      next_name (names_of k.source) (names_behind k.source.images known done) d.name (map (λ (e : DefName). e.name) (map def_name later)) h.names
+      (ap (λ (ds : List Definition). all_names (names_behind k.source.images k.source.taps ds)) defs ∙ names_split k.source.images known k.source.taps done (d ∷ later))
 
-  spoken : (known new rest : List Tap) (done later : List Definition) (ty : LaneType) (t : Term) → k.source.taps ≡ (known ++ new) ++ rest → k.source.defs ≡ done ++ later → IsTermOf (names_behind k.source.images k.source.taps done) ty t →
-      AreInTurn (length known) (taps_in t) (length (known ++ new)) → IsSpoken (names_behind k.source.images known done) (names_behind k.source.images (known ++ new) done) (names_of k.source) t
-  spoken known new rest done later ty t taps defs typed turn =
+  few_nodes : (done later : List Definition) (d : Definition) → k.source.defs ≡ done ++ d ∷ later → sum (map (λ e. node_count e.term) done) + node_count d.term ≤ 512
+  few_nodes done later d defs =
+      let most : sum (map node_count (map (λ (e : Definition). e.term) (done ++ d ∷ later) ++ k.source.out ∷ [])) ≤ 512 =
+      subst (λ (ds : List Definition). sum (map node_count (map (λ (e : Definition). e.term) ds ++ k.source.out ∷ [])) ≤ 512) defs h.nodes in
+      let here = nodes_at done later d k.source.out in
+      omega arith
+
+  few_defs : (done later : List Definition) (d : Definition) → k.source.defs ≡ done ++ d ∷ later → length done + 1 ≤ 64
+  few_defs done later d defs =
+      let most : length (map def_name k.source.defs) ≤ 64 = h.names.few_defs in
+      omega (arith, length-map k.source.defs def_name, ap length defs, length-append done (d ∷ later))
+
+  def_step : (known new left : List Tap) (done later : List Definition) (d : Definition) → k.source.taps ≡ (known ++ new) ++ left → k.source.defs ≡ done ++ d ∷ later → IsTermOf (names_behind k.source.images k.source.taps done) d.ty d.term →
+      AreInTurn (length known) (taps_in d.term) (length (known ++ new)) → IsStep (begun k.source.images known done) (def_text (names_of k.source) d) (begun k.source.images (known ++ new) (done ++ d ∷ []))
+  def_step known new left done later d taps defs typed turn =
       let before = names_behind k.source.images known done in
       let after = names_behind k.source.images (known ++ new) done in
-      let names = fewer_names (known ++ new) rest done later taps defs in
-      let named : is_named (names_behind k.source.images ((known ++ new) ++ rest) done) t ≡ true = subst (λ (ts : List Tap). is_named (names_behind k.source.images ts done) t ≡ true) taps typed.named in
-      let deep : depth_of t ≤ 1024 = let low : depth_of t ≤ 128 = typed.depth in omega arith in
-      let same_defs : map def_name done ++ map def_name later ≡ map def_name k.source.defs = sym (map-append def_name done later) ∙ ap (map def_name) (sym defs) in
-      let same_taps : (known ++ new) ++ rest ≡ k.source.taps = sym taps in
-      let all : more_names after rest (map def_name later) ≡ names_of k.source = λ i. record { images = map image_name k.source.images; taps = same_taps i; defs = same_defs i } in
-      subst (λ (a : Names). IsSpoken before after a t) all (means_fewer before new rest (map def_name later) t names typed.formed deep named turn)
-
-  out_read : (known new : List Tap) → k.source.taps ≡ known ++ new → AreInTurn (length known) (taps_in k.source.out) (length k.source.taps) → AreRead (begun k.source.images known k.source.defs) (out_text k ∷ []) (all_of k)
-  out_read known new taps turn =
-      let out = k.source.out in
-      let ty = k.source.out_ty in
-      let before = names_behind k.source.images known k.source.defs in
-      let after = names_behind k.source.images (known ++ new) k.source.defs in
-      let b : Begun = begun k.source.images known k.source.defs in
-      let s : IsSpoken before after (names_of k.source) out = spoken known new [] k.source.defs [] ty out (taps ∙ sym (append-nil (known ++ new))) (sym (append-nil k.source.defs)) h.out (subst (λ (ts : List Tap). AreInTurn (length known) (taps_in out) (length ts)) taps turn) in
-      let named : is_named (names_of k.source) out ≡ true = h.out.named in
-      let count : length k.source.defs ≤ 64 = let most : length (map def_name k.source.defs) ≤ 64 = h.names.few_defs in omega (arith, length-map k.source.defs def_name) in
-      let some_taps : length (known ++ new) ≤ 64 = subst (λ (ts : List Tap). length ts ≤ 64) taps h.names.few_taps in
-      let nodes : nodes_in b + node_count out ≤ 512 = let most : sum (map node_count (terms_of k.source)) ≤ 512 = h.nodes in let here = nodes_last k.source.defs out in omega arith in
-      let last : with_said b (Over (OutFront ty) s.draft) ≡ all_of k =
-      let all_taps : (names_with b s.draft).taps ≡ k.source.taps = ap (λ (a : Names). a.taps) s.made ∙ sym taps in
-      let term : term_with b s.draft ≡ out = ap (λ (a : Names). term_of a s.draft) s.made ∙ s.term in
-      λ i. record { name = Some k.name; images = k.source.images; taps = all_taps i; defs = k.source.defs; out = Some (ty, term i) } in (
-        Over (OutFront ty) s.draft,
-        record {
-          says = f.out_says b (names_of k.source) ty out s.draft h.names h.out_ty named h.out.formed (behind_some k.source.images h.some_images) s.spelled;
-          faultless = spoken_quiet before after (names_of k.source) out ty (nodes_in b) (length k.source.defs) s h.out.formed h.out.typed h.out.depth some_taps count nodes;
-        },
-        last,
-      )
+      let b : Begun = begun k.source.images known done in
+      let s : IsSpoken before after (names_of k.source) d.term = spoken known new left done (d ∷ later) d.ty d.term taps defs typed turn in
+      let name = next_def known done later d defs in
+      let some_taps : length (known ++ new) ≤ 64 = (fewer_names (known ++ new) left done (d ∷ later) taps defs).few_taps in
+      let new_taps : (names_with b s.draft).taps ≡ known ++ new = ap (λ (a : Names). a.taps) s.made in
+      let term : term_with b s.draft ≡ d.term = ap (λ (a : Names). term_of a s.draft) s.made ∙ s.term in
+      record {
+        said = Over (DefFront d.name d.ty) s.draft;
+        read = record {
+          says = f.def_says b (names_of k.source) d s.draft h.names name.named (all_named done (d ∷ later) d.term defs typed.named) typed.formed (behind_some k.source.images h.some_images) s.spelled;
+          faultless =
+              quiet (taken b d.name) (expression_faults before (nodes_in b) d.ty (length done + 1) s.draft) (ap (λ v. if_so v (UnknownName d.name)) name.free)
+              (spoken_quiet before after (names_of k.source) d.term d.ty (nodes_in b) (length done + 1) s typed.formed typed.typed typed.depth some_taps (few_defs done later d defs) (few_nodes done later d defs));
+        };
+        next = λ i. record { name = Some k.name; images = k.source.images; taps = new_taps i; defs = done ++ record { name = d.name; ty = d.ty; term = term i } ∷ []; out = None };
+      }
 
   defs_read : (later : List Definition) (known rest : List Tap) (done : List Definition) → k.source.taps ≡ known ++ rest → k.source.defs ≡ done ++ later → AreDefinitions (names_behind k.source.images k.source.taps done) later →
       AreInTurn (length known) (flat_map taps_in (map (λ d. d.term) later ++ k.source.out ∷ [])) (length k.source.taps) → AreRead (begun k.source.images known done) (map (def_text (names_of k.source)) later ++ out_text k ∷ []) (all_of k)
   defs_read [] known rest done taps defs typed turn =
       subst (λ (ds : List Definition). AreRead (begun k.source.images known ds) (out_text k ∷ []) (all_of k)) (defs ∙ append-nil done)
-      (out_read known rest taps (subst (λ (ns : List ℕ). AreInTurn (length known) ns (length k.source.taps)) (append-nil (taps_in k.source.out)) turn))
+      (step_first (begun k.source.images known k.source.defs) (all_of k) (all_of k) (out_text k) [] (out_step known rest taps (subst (λ (ns : List ℕ). AreInTurn (length known) ns (length k.source.taps)) (append-nil (taps_in k.source.out)) turn)) refl)
   defs_read (d ∷ later) known rest done taps defs typed turn =
-      let others = map (λ (e : Definition). e.term) later ++ k.source.out ∷ [] in
-      let split = turn_split (taps_in d.term) (flat_map taps_in others) (length known) (length k.source.taps) (subst (λ (ns : List ℕ). AreInTurn (length known) ns (length k.source.taps)) (flat_map-cons taps_in d.term others) turn) in
-      let m : ℕ = split.0 in
-      let low : length known ≤ m = turn_grows (taps_in d.term) (length known) m split.1 in
-      let high : m ≤ length k.source.taps = turn_grows (flat_map taps_in others) m (length k.source.taps) split.2 in
-      let long : length k.source.taps ≡ length known + length rest = ap length taps ∙ length-append known rest in
-      let parts = parts_at (m - length known) rest (omega arith) in
-      let new : List Tap = parts.0 in
-      let left : List Tap = parts.1.0 in
-      let m_is : m ≡ length (known ++ new) = let count : length new ≡ m - length known = parts.1.2 in omega (arith, length-append known new) in
-      let more_taps : k.source.taps ≡ (known ++ new) ++ left = taps ∙ ap (λ ts. known ++ ts) parts.1.1 ∙ sym (append_assoc known new left) in
-      let more_defs : k.source.defs ≡ (done ++ d ∷ []) ++ later = defs ∙ sym (append_assoc done (d ∷ []) later) in
-      let before = names_behind k.source.images known done in
-      let after = names_behind k.source.images (known ++ new) done in
-      let b : Begun = begun k.source.images known done in
-      let s : IsSpoken before after (names_of k.source) d.term = spoken known new left done (d ∷ later) d.ty d.term more_taps defs typed.0 (subst (λ (n : ℕ). AreInTurn (length known) (taps_in d.term) n) m_is split.1) in
-      let named : is_named (names_of k.source) d.term ≡ true = all_named done (d ∷ later) d.term defs typed.0.named in
-      let next = next_name (names_of k.source) before d.name (map (λ (e : DefName). e.name) (map def_name later)) h.names (ap (λ (ds : List Definition). all_names (names_behind k.source.images k.source.taps ds)) defs ∙ names_split k.source.images known k.source.taps done (d ∷ later)) in
-      let count : length done + 1 ≤ 64 = let most : length (map def_name k.source.defs) ≤ 64 = h.names.few_defs in omega (arith, length-map k.source.defs def_name, ap length defs, length-append done (d ∷ later)) in
-      let some_taps : length (known ++ new) ≤ 64 = let most : length k.source.taps ≤ 64 = h.names.few_taps in omega arith in
-      let nodes : nodes_in b + node_count d.term ≤ 512 =
-      let most : sum (map node_count (map (λ (e : Definition). e.term) (done ++ d ∷ later) ++ k.source.out ∷ [])) ≤ 512 = subst (λ (ds : List Definition). sum (map node_count (map (λ (e : Definition). e.term) ds ++ k.source.out ∷ [])) ≤ 512) defs h.nodes in
-      let here = nodes_at done later d k.source.out in omega arith in
-      let said : with_said b (Over (DefFront d.name d.ty) s.draft) ≡ begun k.source.images (known ++ new) (done ++ d ∷ []) =
-      let new_taps : (names_with b s.draft).taps ≡ known ++ new = ap (λ (a : Names). a.taps) s.made in
-      let term : term_with b s.draft ≡ d.term = ap (λ (a : Names). term_of a s.draft) s.made ∙ s.term in
-      λ i. record { name = Some k.name; images = k.source.images; taps = new_taps i; defs = done ++ record { name = d.name; ty = d.ty; term = term i } ∷ []; out = None } in
-      let typed_later : AreDefinitions (names_behind k.source.images k.source.taps (done ++ d ∷ [])) later =
-      subst (λ (ds : List DefName). AreDefinitions (record (names_behind k.source.images k.source.taps done) { defs = ds }) later) (sym (map-append def_name done (d ∷ []))) typed.1 in (
-        Over (DefFront d.name d.ty) s.draft,
-        record {
-          says = f.def_says b (names_of k.source) d s.draft h.names next.named named typed.0.formed (behind_some k.source.images h.some_images) s.spelled;
-          faultless =
-              quiet (taken b d.name) (expression_faults before (nodes_in b) d.ty (length done + 1) s.draft) (ap (λ v. if_so v (UnknownName d.name)) next.free)
-              (spoken_quiet before after (names_of k.source) d.term d.ty (nodes_in b) (length done + 1) s typed.0.formed typed.0.typed typed.0.depth some_taps count nodes);
-        },
-        subst (λ (c : Begun). AreRead c (map (def_text (names_of k.source)) later ++ out_text k ∷ []) (all_of k)) (sym said)
-            (defs_read later (known ++ new) left (done ++ d ∷ []) more_taps more_defs typed_later (subst (λ (n : ℕ). AreInTurn n (flat_map taps_in others) (length k.source.taps)) m_is split.2)),
-      )
+      let others = flat_map taps_in (map (λ (e : Definition). e.term) later ++ k.source.out ∷ []) in
+      let joined : flat_map taps_in (map (λ (e : Definition). e.term) (d ∷ later) ++ k.source.out ∷ []) ≡ taps_in d.term ++ others = flat_map-cons taps_in d.term (map (λ (e : Definition). e.term) later ++ k.source.out ∷ []) in
+      let s = taps_split known rest (taps_in d.term) others (subst (λ (ts : List Tap). AreInTurn (length known) (taps_in d.term ++ others) (length ts)) taps (subst (λ (ns : List ℕ). AreInTurn (length known) ns (length k.source.taps)) joined turn)) in
+      let onward : AreInTurn (length (known ++ s.new)) others (length k.source.taps) = subst (λ (ts : List Tap). AreInTurn (length (known ++ s.new)) others (length ts)) (sym taps) s.onward in
+      let more_typed : AreDefinitions (names_behind k.source.images k.source.taps (done ++ d ∷ [])) later =
+      subst (λ (ds : List DefName). AreDefinitions (record { images = map image_name k.source.images; taps = k.source.taps; defs = ds }) later) (sym (map-append def_name done (d ∷ []))) typed.1 in
+      let parts : k.source.taps ≡ (known ++ s.new) ++ s.left = taps ∙ s.parts in
+      step_first (begun k.source.images known done) (begun k.source.images (known ++ s.new) (done ++ d ∷ [])) (all_of k) (def_text (names_of k.source) d) (map (def_text (names_of k.source)) later ++ out_text k ∷ [])
+      (def_step known s.new s.left done later d parts defs typed.0 s.here)
+      (defs_read later (known ++ s.new) s.left (done ++ d ∷ []) parts (defs ∙ sym (append_assoc done (d ∷ []) later)) more_typed onward)
+
+  -- ---- the images
+  next_image : (done later : List ImageDecl) (d : ImageDecl) → k.source.images ≡ done ++ d ∷ later → IsNext (names_behind done [] []) d.name
+  next_image done later d images =
+      next_name (names_of k.source) (names_behind done [] []) d.name (map (λ (i : ImageName). i.name) (map image_name later) ++ map (λ (e : DefName). e.name) (map def_name k.source.defs)) h.names
+      (ap (λ (ds : List ImageDecl). all_names (names_behind ds k.source.taps k.source.defs)) images ∙ images_split done (d ∷ later) k.source.taps k.source.defs)
+
+  image_step : (done later : List ImageDecl) (d : ImageDecl) → k.source.images ≡ done ++ d ∷ later → IsStep (begun done [] []) (image_text d) (begun (done ++ d ∷ []) [] [])
+  image_step done later d images =
+      let b : Begun = begun done [] [] in
+      let name = next_image done later d images in
+      let names : map image_name k.source.images ≡ map image_name done ++ image_name d ∷ map image_name later = ap (map image_name) images ∙ map-append image_name done (d ∷ later) in
+      let pixel : IsPixelType d.ty = all_at (λ (i : ImageName). IsPixelType i.ty) (map image_name done) (map image_name later) (image_name d) (subst (All (λ (i : ImageName). IsPixelType i.ty)) names h.names.pixels) in
+      let range : IsDecl d = all_at IsDecl done later d (subst (All IsDecl) images h.images) in
+      let count : length done + 1 ≤ 8 = let most : length (map image_name k.source.images) ≤ 8 = h.names.few_images in omega (arith, length-map k.source.images image_name, ap length images, length-append done (d ∷ later)) in
+      let few_images : first_some (more_than 8 Images (length done + 1) ∷ []) ≡ None = quiet (more_than 8 Images (length done + 1)) [] (few 8 Images (length done + 1) count) refl in
+      record {
+        said = Bare (ImageFront d);
+        read = record {
+          says = f.image_says b d name.named pixel range refl;
+          faultless = quiet (taken b d.name) (more_than 8 Images (length done + 1) ∷ []) (ap (λ v. if_so v (UnknownName d.name)) name.free) few_images;
+        };
+        next = refl;
+      }
 
   images_read : (later done : List ImageDecl) (behind : List (List ℕ)) → k.source.images ≡ done ++ later → AreRead (begun k.source.images [] []) behind (all_of k) → AreRead (begun done [] []) (map image_text later ++ behind) (all_of k)
   images_read [] done behind images rest = subst (λ (ds : List ImageDecl). AreRead (begun ds [] []) behind (all_of k)) (images ∙ append-nil done) rest
   images_read (d ∷ later) done behind images rest =
-      let b : Begun = begun done [] [] in
-      let next = next_name (names_of k.source) (names_behind done [] []) d.name _ h.names (ap (λ (ds : List ImageDecl). all_names (names_behind ds k.source.taps k.source.defs)) images ∙ images_split done (d ∷ later) k.source.taps k.source.defs) in
-      let names : map image_name k.source.images ≡ map image_name done ++ image_name d ∷ map image_name later = ap (map image_name) images ∙ map-append image_name done (d ∷ later) in
-      let pixel : IsPixelType d.ty = all_at (λ (i : ImageName). IsPixelType i.ty) (map image_name done) (map image_name later) (image_name d) (subst (All (λ (i : ImageName). IsPixelType i.ty)) names h.names.pixels) in
-      let range : IsDecl d = all_at IsDecl done later d (subst (All IsDecl) images h.images) in
-      let count : length done + 1 ≤ 8 = let most : length (map image_name k.source.images) ≤ 8 = h.names.few_images in omega (arith, length-map k.source.images image_name, ap length images, length-append done (d ∷ later)) in (
-        Bare (ImageFront d),
-        record {
-          says = f.image_says b d next.named pixel range refl;
-          faultless = quiet (taken b d.name) (more_than 8 Images (length done + 1) ∷ []) (ap (λ v. if_so v (UnknownName d.name)) next.free) (quiet (more_than 8 Images (length done + 1)) [] (few 8 Images (length done + 1) count) refl);
-        },
-        images_read later (done ++ d ∷ []) behind (images ∙ sym (append_assoc done (d ∷ []) later)) rest,
-      )
+      step_first (begun done [] []) (begun (done ++ d ∷ []) [] []) (all_of k) (image_text d) (map image_text later ++ behind) (image_step done later d images)
+      (images_read later (done ++ d ∷ []) behind (images ∙ sym (append_assoc done (d ∷ []) later)) rest)
+
+  -- ---- all lines
+  kernel_step : IsStep nothing (codes "kernel " ++ k.name) (begun [] [] [])
+  kernel_step = record { said = Bare (KernelFront k.name); read = record { says = f.kernel_says nothing k.name h.name refl; faultless = refl }; next = refl }
 
   pub lines_read : AreRead nothing (kernel_lines k) (all_of k)
-  lines_read = (
-    Bare (KernelFront k.name),
-    record { says = f.kernel_says nothing k.name h.name refl; faultless = refl },
-    images_read k.source.images [] (map (def_text (names_of k.source)) k.source.defs ++ out_text k ∷ []) refl (defs_read k.source.defs [] k.source.taps [] refl refl h.defs h.turn),
-  )
+  lines_read =
+      let behind = map (def_text (names_of k.source)) k.source.defs ++ out_text k ∷ [] in
+      step_first nothing (begun [] [] []) (all_of k) (codes "kernel " ++ k.name) (map image_text k.source.images ++ behind) kernel_step
+      (images_read k.source.images [] behind refl (defs_read k.source.defs [] k.source.taps [] refl refl h.defs h.turn))
