@@ -14,3 +14,6 @@ pub mod FrontLaws
 pub mod Judging
 pub mod ReadLaws
 pub mod KernelLines
+pub mod WrittenBytes
+pub mod WrittenLines
+pub mod WrittenTokens
