@@ -1,6 +1,6 @@
 -- The bytes of what is written: none ends a line or begins a comment, and there are few.
-use Rattle.std.proofs.Common.{◌≡◌, refl, sym, ap, ◌∙◌, subst, ⊎_elim, ℕ, zero, suc, ◌+◌, ◌-◌, ◌*◌, ◌/◌, ◌%◌, ◌^◌, ◌≤◌, ◌<◌, ℤ, pos, negsuc, Bool, true, false, not, ◌&&◌, ◌||◌, ◌==◌, List, [], ◌∷◌, ◌++◌, length, map, take, drop, get_or, arith, length-append}
-use Rattle.std.specs.Prelude.{All, codes, decimal, nat_le, sum, if◌then◌else◌}
+use Rattle.std.proofs.Common.{◌≡◌, refl, sym, ap, ◌∙◌, subst, ⊎_elim, ℕ, zero, suc, ◌+◌, ◌*◌, ◌/◌, ◌%◌, ◌≤◌, ◌<◌, ℤ, pos, negsuc, Bool, true, false, not, ◌&&◌, ◌==◌, List, [], ◌∷◌, ◌++◌, length, map, take, drop, get_or, arith, length-append}
+use Rattle.std.specs.Prelude.{codes, decimal, nat_le, sum, if◌then◌else◌}
 use Rattle.std.specs.Fmt.{signed_decimal, digits, digits_onto, digit_glyph}
 use Rattle.std.specs.List.{list_all}
 use Rattle.std.proofs.lemmas.Bool.{and_parts, lt-ltb, cases_lt, leb-true}
@@ -13,7 +13,7 @@ use Rattle.std.proofs.lemmas.List.Sums.{sum_by-cons}
 use Rattle.pf_ints.specs.declared.lane.LaneType.{LaneType}
 use Rattle.pf_ints.specs.declared.lane.Bits.{Bits}
 use Rattle.pf_ints.specs.declared.lane.Bits.TheVariants.{Eight, Sixteen, ThirtyTwo}
-use Rattle.pf_ints.specs.Words.{is_digit, is_letter, is_name_byte, is_name, is_spelled, is_reserved}
+use Rattle.pf_ints.specs.Words.{is_letter, is_name_byte, is_name, is_spelled, is_reserved}
 use Rattle.pf_terms.specs.declared.names.Names.{Names}
 use Rattle.pf_terms.specs.declared.names.Tap.{Tap as TapOf}
 use Rattle.pf_terms.specs.declared.op.Op.{Op}
@@ -96,7 +96,7 @@ pub decimal_written : (n : ℕ) → IsWritten (decimal n) 64
 unfolding digits
 decimal_written n = written_more _ (digits_before 64 n [] refl) (omega arith)
 
-pub signed_written : (z : ℤ) → IsWritten (signed_decimal z) 65
+signed_written : (z : ℤ) → IsWritten (signed_decimal z) 65
 signed_written (pos n) = written_more _ (decimal_written n) (omega arith)
 signed_written (negsuc n) = written_append (literal (codes "-") 1 refl (omega arith)) (decimal_written (suc n))
 
@@ -122,34 +122,34 @@ offset_written (negsuc n) h =
     record { plain = (decimal_written (suc n)).plain; short = let few : length (decimal (suc n)) ≤ 2 = length-decimal-le 2 (suc n) (omega arith) (omega (arith, ints, low)) (omega (arith, ints, low)) in omega arith }
 
 -- what the leaves are written by
-pub record AreWrittenNames (names : Names) : Type 0 where
-  pub images : (n : ℕ) → IsWritten (get_or names.images n no_image).name 32
-  pub defs : (n : ℕ) → IsWritten (get_or names.defs n no_def).name 32
-  pub across : (n : ℕ) → IsNear (get_or names.taps n no_tap).dx
-  pub down : (n : ℕ) → IsNear (get_or names.taps n no_tap).dy
+record AreWrittenNames (names : Names) : Type 0 where
+  images : (n : ℕ) → IsWritten (get_or names.images n no_image).name 32
+  defs : (n : ℕ) → IsWritten (get_or names.defs n no_def).name 32
+  across : (n : ℕ) → IsNear (get_or names.taps n no_tap).dx
+  down : (n : ℕ) → IsNear (get_or names.taps n no_tap).dy
 
 no_offset : IsNear (pos 0)
 no_offset = record { low = omega (arith, ints); high = omega (arith, ints) }
 
-pub names_written : (names : Names) → IsNames names → AreWrittenNames names
+names_written : (names : Names) → IsNames names → AreWrittenNames names
 names_written names h =
     record {
       images = λ n. ⊎_elim
-      (λ (below : n < length names.images). name_written _ (ap is_name (sym (image_at names n below)) ∙ h.named n [] (omega (arith, names_long names))))
-      (λ (past : length names.images ≤ n). rw (get_or_past names.images n no_image past) (literal [] 32 refl (omega arith)))
-      (cases_lt n (length names.images));
+          (λ (below : n < length names.images). name_written _ (ap is_name (sym (image_at names n below)) ∙ h.named n [] (omega (arith, names_long names))))
+          (λ (past : length names.images ≤ n). rw (get_or_past names.images n no_image past) (literal [] 32 refl (omega arith)))
+          (cases_lt n (length names.images));
       defs = λ n. ⊎_elim
-      (λ (below : n < length names.defs). name_written _ (ap is_name (sym (def_at names n below)) ∙ h.named (length names.images + n) [] (omega (arith, names_long names))))
-      (λ (past : length names.defs ≤ n). rw (get_or_past names.defs n no_def past) (literal [] 32 refl (omega arith)))
-      (cases_lt n (length names.defs));
+          (λ (below : n < length names.defs). name_written _ (ap is_name (sym (def_at names n below)) ∙ h.named (length names.images + n) [] (omega (arith, names_long names))))
+          (λ (past : length names.defs ≤ n). rw (get_or_past names.defs n no_def past) (literal [] 32 refl (omega arith)))
+          (cases_lt n (length names.defs));
       across = λ n. ⊎_elim
-      (λ (below : n < length names.taps). (h.near n no_tap below).across)
-      (λ (past : length names.taps ≤ n). rw (get_or_past names.taps n no_tap past) no_offset)
-      (cases_lt n (length names.taps));
+          (λ (below : n < length names.taps). (h.near n no_tap below).across)
+          (λ (past : length names.taps ≤ n). rw (get_or_past names.taps n no_tap past) no_offset)
+          (cases_lt n (length names.taps));
       down = λ n. ⊎_elim
-      (λ (below : n < length names.taps). (h.near n no_tap below).down)
-      (λ (past : length names.taps ≤ n). rw (get_or_past names.taps n no_tap past) no_offset)
-      (cases_lt n (length names.taps));
+          (λ (below : n < length names.taps). (h.near n no_tap below).down)
+          (λ (past : length names.taps ≤ n). rw (get_or_past names.taps n no_tap past) no_offset)
+          (cases_lt n (length names.taps));
     }
 
 placed_written : (name : List ℕ) (t : TapOf) → IsWritten name 32 → IsNear t.dx → IsNear t.dy → IsWritten (placed_text name t) 41

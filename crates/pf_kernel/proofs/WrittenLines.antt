@@ -1,10 +1,10 @@
 -- The lines of a kernel's text as it is written are those that were written, and it is short.
-use Rattle.std.proofs.Common.{◌≡◌, refl, sym, ap, ◌∙◌, subst, ℕ, suc, ◌+◌, ◌-◌, ◌*◌, ◌≤◌, ◌<◌, Bool, true, false, not, ◌&&◌, ◌==◌, cond, List, [], ◌∷◌, ◌++◌, length, map, get_or, arith, append_assoc, append-nil, length-append, sum}
-use Rattle.std.specs.Prelude.{All, codes, if◌then◌else◌}
-use Rattle.std.specs.List.{list_all, flat_map, slice_split, onto_first, position_or_len, AllByRecursion}
+use Rattle.std.proofs.Common.{◌≡◌, refl, ap, ◌∙◌, ℕ, ◌+◌, ◌-◌, ◌*◌, ◌≤◌, ◌<◌, Bool, true, false, not, ◌&&◌, ◌==◌, List, [], ◌∷◌, ◌++◌, length, map, get_or, arith, append_assoc, append-nil, length-append, sum}
+use Rattle.std.specs.Prelude.{All, codes}
+use Rattle.std.specs.List.{list_all, flat_map, slice_split, position_or_len, AllByRecursion}
 use Rattle.std.specs.Str.Lines.{lines, lines_of_parts, strip_carriage_return}
 use Rattle.std.proofs.lemmas.Bool.{and_parts, not-true}
-use Rattle.std.proofs.lemmas.List.{take_all}
+use Rattle.std.proofs.lemmas.List.{take_all, length-map}
 use Rattle.std.proofs.lemmas.List.Concat.{flat_map-append}
 use Rattle.std.proofs.lemmas.List.Elements.{recursion_from_All}
 use Rattle.std.proofs.lemmas.List.Folds.{flat_map-map}
@@ -18,7 +18,7 @@ use Rattle.pf_terms.specs.declared.names.Names.{Names}
 use Rattle.pf_terms.specs.declared.term.Term.{Term}
 use Rattle.pf_terms.specs.KernelNames.{IsNames}
 use Rattle.pf_terms.specs.Terms.{node_count}
-use Rattle.pf_kernel.specs.Kernels.{Meaning, IsKernelOf, image_name, def_name, names_of, terms_of}
+use Rattle.pf_kernel.specs.Kernels.{Meaning, IsKernelOf, image_name, def_name, names_of}
 use Rattle.pf_kernel.specs.Lines.{uncommented}
 use Rattle.pf_kernel.specs.Texts.{byte_limit, image_text, typed_text, def_text, ended, kernel_text}
 use Rattle.pf_kernel.proofs.KernelLines.{out_text, kernel_lines}
@@ -120,13 +120,23 @@ lines_written k h =
     let names = recursion_from_All (λ s. is_name s ≡ true) _ h.names.named in
     let images = images_written s.images (map (λ d. d.name) (map def_name s.defs)) names in
     let terms = terms_written (names_of s) s.defs s.out_ty s.out h.names images.1 in
-    let few_images = h.names.few_images in
-    let few_defs = h.names.few_defs in
-    let nodes = h.nodes in
-    all_more _ (first_written (kernel_written k.name h.name) (all_append images.0 terms)) ?
+    let few_images : length s.images ≤ 8 = omega (arith, h.names.few_images, length-map s.images image_name) in
+    let few_defs : length s.defs ≤ 64 = omega (arith, h.names.few_defs, length-map s.defs def_name) in
+    let nodes : sum (map node_count (map (λ (d : Definition). d.term) s.defs ++ s.out ∷ [])) ≤ 512 = h.nodes in
+    all_more _ (first_written (kernel_written k.name h.name) (all_append images.0 terms)) (omega arith)
+
+parts_printed : {A B : Type 0} (f : A → List ℕ) (g : B → List ℕ) (first last : List ℕ) (xs : List A) (ys : List B) →
+    ended first ++ (flat_map (λ x. ended (f x)) xs ++ (flat_map (λ y. ended (g y)) ys ++ ended last)) ≡ printed (first ∷ (map f xs ++ (map g ys ++ last ∷ [])))
+parts_printed f g first last xs ys =
+    let firsts : printed (map f xs ++ (map g ys ++ last ∷ [])) ≡ printed (map f xs) ++ printed (map g ys ++ last ∷ []) = flat_map-append ended (map f xs) (map g ys ++ last ∷ []) in
+    let lasts : printed (map g ys ++ last ∷ []) ≡ printed (map g ys) ++ (ended last ++ []) = flat_map-append ended (map g ys) (last ∷ []) in
+    let one : printed (map f xs) ≡ flat_map (λ x. ended (f x)) xs = flat_map-map ended f xs in
+    let two : printed (map g ys) ≡ flat_map (λ y. ended (g y)) ys = flat_map-map ended g ys in
+    let end : ended last ++ [] ≡ ended last = append-nil (ended last) in
+    rw (firsts, lasts, one, two, end) refl
 
 text_printed : (k : Meaning) → kernel_text k ≡ printed (kernel_lines k)
-text_printed k = ?
+text_printed k = parts_printed image_text (def_text (names_of k.source)) (codes "kernel " ++ k.name) (out_text k) k.source.images k.source.defs
 
 pub written_lines : (k : Meaning) → IsKernelOf k → lines (kernel_text k) ≡ kernel_lines k
 written_lines k h = ap lines (text_printed k) ∙ lines_printed (kernel_lines k) (lines_written k h).plain

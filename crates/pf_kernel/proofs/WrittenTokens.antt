@@ -25,13 +25,13 @@ use Rattle.pf_terms.specs.KernelNames.{IsNames}
 use Rattle.pf_terms.specs.Parsing.{kinds}
 use Rattle.pf_terms.specs.Terms.{IsWellTyped, typed_as}
 use Rattle.pf_terms.specs.TermTexts.{type_word, term_text, is_named}
-use Rattle.pf_terms.specs.Tokens.{IsLexed, ended, blank, token}
-use Rattle.pf_terms.proofs.ReadBackTexts.{IsReadAt, Reads, reads_nothing, reads_blank, reads_spaced_sign, reads_run}
+use Rattle.pf_terms.specs.Tokens.{IsNoRun, IsLexed, ended, blank, token}
+use Rattle.pf_terms.proofs.ReadBackTexts.{Reads, reads_nothing, reads_blank, reads_spaced_sign, reads_run}
 use Rattle.pf_terms.proofs.ReadBackWords.{reads_number, reads_type, reads_name}
 use Rattle.pf_kernel.specs.declared.front.Front.{Front}
 use Rattle.pf_kernel.specs.declared.front.Front.TheVariants.{Kernel as KernelFront, Image as ImageFront, Def as DefFront, Out as OutFront}
 use Rattle.pf_kernel.specs.Kernels.{IsDecl}
-use Rattle.pf_kernel.specs.Lines.{Begun, may_stand, IsShape, kernel, ranged, def, out, equals_of, end_of, uncommented, Bare, Over, SaysOf, Says}
+use Rattle.pf_kernel.specs.Lines.{Begun, may_stand, IsShape, kernel, ranged, def, out, equals_of, end_of, Bare, Over, SaysOf, Says}
 use Rattle.pf_kernel.specs.Texts.{image_text, typed_text, def_text}
 use Rattle.pf_kernel.proofs.WrittenBytes.{is_plain}
 use Rattle.pf_kernel.proofs.WrittenLines.{uncommented_plain, kernel_written, image_written, def_written, out_written}
@@ -67,7 +67,7 @@ behind _ _ _ (token m size text k ts solid front h) (suc n) less =
     let x = behind (m + size) (drop size text) ts h n (omega arith) in
     let far = x.far in
     let on : size + (end_of ts n - (m + size)) ≡ end_of ts n - m = omega arith in
-    record { far = omega arith; reads = subst (λ xs. Reads xs (kinds (drop (suc n) ts))) (drop-drop text size (end_of ts n - (m + size)) ∙ ap (λ i. drop i text) on) x.reads }
+    record { far = omega arith; reads = subst (λ xs. Reads xs (kinds (drop (suc n) ts))) (drop-drop (end_of ts n - (m + size)) size text ∙ ap (λ i. drop i text) on) x.reads }
 
 kinds_drop : (n : ℕ) (ts : List Token) → kinds (drop n ts) ≡ drop n (kinds ts)
 kinds_drop zero ts = refl
@@ -125,24 +125,39 @@ pixel_small t n pixel inside = by t.signed t.bits pixel.unsigned inside.high whe
 reads_last_number : (n : ℕ) → n < 10 ^ 10 → Reads (decimal n) (Number (pos n) ∷ [])
 reads_last_number n small = subst (λ xs. Reads xs (Number (pos n) ∷ [])) (append-nil (decimal n)) (reads_number n [] [] small tt reads_nothing)
 
-image_of : (w u v x : List ℕ) (t : LaneType) (lo hi : ℕ) → is_name w ≡ true → ((r : List ℕ) (ls : List Kind) → Reads r ls → Reads (u ++ 32 ∷ r) (TypeWord t ∷ ls)) → ((r : List ℕ) (ls : List Kind) → Reads r ls → Reads (v ++ 32 ∷ r) (Number (pos lo) ∷ ls)) → Reads x (Number (pos hi) ∷ []) →
+-- a text of one token, before something that doesn't go on so
+abbrev IsTextOf : List ℕ → Kind → Type 0
+IsTextOf w k = (r : List ℕ) (ls : List Kind) → IsNoRun r → Reads r ls → Reads (w ++ r) (k ∷ ls)
+
+reads_image : (w u v x : List ℕ) (t : LaneType) (lo hi : ℕ) → is_name w ≡ true → IsTextOf u (TypeWord t) → IsTextOf v (Number (pos lo)) → Reads x (Number (pos hi) ∷ []) →
     Reads (codes "image " ++ w ++ codes " " ++ u ++ codes " " ++ v ++ codes " " ++ x) (Line Image ∷ Name w ∷ TypeWord t ∷ Number (pos lo) ∷ Number (pos hi) ∷ [])
-image_of w u v x t lo hi name type low high =
-    simp append_assoc (reads_run (codes "image") (Line Image) (32 ∷ _) _ (omega arith) refl refl refl (reads_blank _ _ (reads_name w (32 ∷ _) _ name refl (reads_blank _ _ (type _ _ (reads_blank _ _ (low _ _ (reads_blank _ _ high))))))))
+reads_image w u v x t lo hi name type low high =
+    simp append_assoc (reads_run (codes "image") (Line Image) _ _ (omega arith) refl refl refl (reads_blank _ _ (reads_name w _ _ name refl (reads_blank _ _ (type _ _ refl (reads_blank _ _ (low _ _ refl (reads_blank _ _ high))))))))
 
 pub image_says : (b : Begun) (d : ImageDecl) → is_name d.name ≡ true → IsPixelType d.ty → IsDecl d → may_stand b Image ≡ true → Says b (image_text d) (Bare (ImageFront d))
-image_says b d name pixel is may = ?
+image_says b d name pixel is may =
+    let ordered = is.ordered in
+    let high : d.hi < 10 ^ 10 = pixel_small d.ty d.hi pixel is.inside in
+    let low : d.lo < 10 ^ 10 = omega arith in
+    let reads = reads_image d.name (type_word d.ty) (decimal d.lo) (decimal d.hi) d.ty d.lo d.hi name (reads_type d.ty) (λ r ls none h. reads_number d.lo r ls low none h) (reads_last_number d.hi high) in
+    bare_says b (image_text d) _ (ImageFront d) (image_written d name) reads (ranged d.name d.ty d.lo d.hi may pixel ordered is.inside) refl
 
--- what stands behind a line's word and name
-reads_typed : (t : LaneType) (text : List ℕ) (ks : List Kind) → Reads text ks → Reads (type_word t ++ (codes " = " ++ text)) (TypeWord t ∷ Equals ∷ ks)
-reads_typed t text ks h = reads_type t (32 ∷ 61 ∷ 32 ∷ text) (Equals ∷ ks) refl (reads_blank _ _ (reads_spaced_sign 61 Equals text ks refl (λ e. omega arith) refl refl (reads_blank text ks h)))
+-- a type, `=` and an expression
+reads_typed : (u text : List ℕ) (t : LaneType) (ks : List Kind) → IsTextOf u (TypeWord t) → Reads text ks → Reads (u ++ codes " = " ++ text) (TypeWord t ∷ Equals ∷ ks)
+reads_typed u text t ks type h = simp append_assoc (type _ _ refl (reads_blank _ _ (reads_spaced_sign 61 Equals text ks refl (λ e. omega arith) refl refl (reads_blank text ks h))))
+
+reads_def : (w text : List ℕ) (ks : List Kind) → is_name w ≡ true → Reads text ks → Reads (codes "def " ++ w ++ codes " " ++ text) (Line Def ∷ Name w ∷ ks)
+reads_def w text ks name h = simp append_assoc (reads_run (codes "def") (Line Def) _ _ (omega arith) refl refl refl (reads_blank _ _ (reads_name w _ _ name refl (reads_blank _ _ h))))
+
+reads_out : (text : List ℕ) (ks : List Kind) → Reads text ks → Reads (codes "out " ++ text) (Line Out ∷ ks)
+reads_out text ks h = reads_run (codes "out") (Line Out) (32 ∷ text) ks (omega arith) refl refl refl (reads_blank text ks h)
 
 pub def_says : (b : Begun) (names : Names) (d : Definition) (e : Draft) → IsNames names → is_name d.name ≡ true → is_named names d.term ≡ true → IsWellTyped d.term → may_stand b Def ≡ true → IsDraftText (term_text names d.term) e → Says b (def_text names d) (Over (DefFront d.name d.ty) e)
 def_says b names d e all name named typed may draft =
     over_says b (def_text names d) (term_text names d.term) (Line Def ∷ Name d.name ∷ TypeWord d.ty ∷ Equals ∷ []) (DefFront d.name d.ty) e 3 (def_written names d all name).plain refl refl
-    (λ ks. def d.name d.ty ks may) (λ ks h. ?) draft
+    (λ ks. def d.name d.ty ks may) (λ ks h. reads_def d.name (typed_text names d.ty d.term) (TypeWord d.ty ∷ Equals ∷ ks) name (reads_typed (type_word d.ty) (term_text names d.term) d.ty ks (reads_type d.ty) h)) draft
 
 pub out_says : (b : Begun) (names : Names) (ty : LaneType) (t : Term) (e : Draft) → IsNames names → IsPixelType ty → is_named names t ≡ true → IsWellTyped t → may_stand b Out ≡ true → IsDraftText (term_text names t) e → Says b (codes "out " ++ typed_text names ty t) (Over (OutFront ty) e)
 out_says b names ty t e all pixel named typed may draft =
     over_says b (codes "out " ++ typed_text names ty t) (term_text names t) (Line Out ∷ TypeWord ty ∷ Equals ∷ []) (OutFront ty) e 2 (out_written names ty t all).plain refl refl
-    (λ ks. out ty ks may pixel) (λ ks h. ?) draft
+    (λ ks. out ty ks may pixel) (λ ks h. reads_out (typed_text names ty t) (TypeWord ty ∷ Equals ∷ ks) (reads_typed (type_word ty) (term_text names t) ty ks (reads_type ty) h)) draft
