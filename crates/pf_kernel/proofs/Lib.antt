@@ -16,3 +16,6 @@ pub mod ReadLaws
 pub mod KernelLines
 pub mod Fewer
 pub mod WrittenReads
+pub mod WrittenBytes
+pub mod WrittenLines
+pub mod WrittenTokens
