@@ -19,3 +19,4 @@ pub mod WrittenReads
 pub mod WrittenBytes
 pub mod WrittenLines
 pub mod WrittenTokens
+pub mod WrittenKernels

@@ -26,29 +26,21 @@ use Rattle.pf_terms.specs.declared.names.ImageName.{ImageName}
 use Rattle.pf_terms.specs.declared.names.Names.{Names}
 use Rattle.pf_terms.specs.declared.names.Tap.{Tap}
 use Rattle.pf_terms.specs.declared.term.Term.{Term}
-use Rattle.pf_terms.specs.declared.token.LineWord.TheVariants.{Kernel, Image, Def, Out}
-use Rattle.pf_terms.specs.Drafts.{IsDraftText}
 use Rattle.pf_terms.specs.KernelNames.{IsNames, IsNearTap, all_names}
 use Rattle.pf_terms.specs.Meanings.{first_some, names_after, term_of}
 use Rattle.pf_terms.specs.Terms.{typing, stated_type, node_count, depth_of, IsWellTyped}
-use Rattle.pf_terms.specs.TermTexts.{is_named, term_text}
+use Rattle.pf_terms.specs.TermTexts.{is_named}
 use Rattle.pf_terms.proofs.TapLists.{Each, each_front, each_behind, each_of_all, all_of_each}
 use Rattle.pf_terms.proofs.Typing.{same_self}
 use Rattle.pf_kernel.specs.declared.front.Front.TheVariants.{Kernel as KernelFront, Image as ImageFront, Def as DefFront, Out as OutFront}
 use Rattle.pf_kernel.specs.Kernels.{Meaning, image_name, def_name, names_behind, names_of, IsDecl, IsTermOf, AreDefinitions, terms_of, taps_in, AreInTurn, IsKernelOf}
-use Rattle.pf_kernel.specs.Lines.{Begun, nothing, is_empty, may_stand, Said, Bare, Over, Says, if_so, counted, more_than, is_taken, taken, mistyped, names_with, term_with, nodes_in, judged, expression_faults, with_said, IsRead, AreRead}
-use Rattle.pf_kernel.specs.Texts.{all_of, image_text, typed_text, def_text}
+use Rattle.pf_kernel.specs.Lines.{Begun, nothing, is_empty, Said, Bare, Over, if_so, counted, more_than, is_taken, taken, mistyped, names_with, term_with, nodes_in, judged, expression_faults, with_said, IsRead, AreRead}
+use Rattle.pf_kernel.specs.Texts.{all_of, image_text, def_text}
 use Rattle.pf_kernel.proofs.Extending.{more_names}
 use Rattle.pf_kernel.proofs.Fewer.{taps_split, IsSpoken, means_fewer}
 use Rattle.pf_kernel.proofs.KernelLines.{out_text, kernel_lines}
 use Rattle.pf_kernel.proofs.Printing.{stays_with_defs}
-
--- what each written line says
-pub record LineFacts : Type 0 where
-  pub kernel_says : (b : Begun) (n : List ℕ) → is_name n ≡ true → may_stand b Kernel ≡ true → Says b (codes "kernel " ++ n) (Bare (KernelFront n))
-  pub image_says : (b : Begun) (d : ImageDecl) → is_name d.name ≡ true → IsPixelType d.ty → IsDecl d → may_stand b Image ≡ true → Says b (image_text d) (Bare (ImageFront d))
-  pub def_says : (b : Begun) (names : Names) (d : Definition) (e : Draft) → IsNames names → is_name d.name ≡ true → is_named names d.term ≡ true → IsWellTyped d.term → may_stand b Def ≡ true → IsDraftText (term_text names d.term) e → Says b (def_text names d) (Over (DefFront d.name d.ty) e)
-  pub out_says : (b : Begun) (names : Names) (ty : LaneType) (t : Term) (e : Draft) → IsNames names → IsPixelType ty → is_named names t ≡ true → IsWellTyped t → may_stand b Out ≡ true → IsDraftText (term_text names t) e → Says b (codes "out " ++ typed_text names ty t) (Over (OutFront ty) e)
+use Rattle.pf_kernel.proofs.WrittenTokens.{kernel_says, image_says, def_says, out_says}
 
 -- ---- parts of lists
 all_at : {X : Type 0} (P : X → Type 0) (xs ys : List X) (x : X) → All P (xs ++ x ∷ ys) → P x
@@ -217,7 +209,7 @@ step_first : (b c e : Begun) (line : List ℕ) (more : List (List ℕ)) → IsSt
 step_first b c e line more s rest = (s.said, s.read, subst (λ (x : Begun). AreRead x more e) (sym s.next) rest)
 
 -- ---- the lines of a kernel
-module _ (f : LineFacts) (k : Meaning) (h : IsKernelOf k) where
+module _ (k : Meaning) (h : IsKernelOf k) where
   -- what the lines before the output say
   abbrev begun : List ImageDecl → List Tap → List Definition → Begun
   begun images taps defs = record { name = Some k.name; images = images; taps = taps; defs = defs; out = None }
@@ -259,7 +251,7 @@ module _ (f : LineFacts) (k : Meaning) (h : IsKernelOf k) where
       record {
         said = Over (OutFront ty) s.draft;
         read = record {
-          says = f.out_says b (names_of k.source) ty out s.draft h.names h.out_ty named h.out.formed (behind_some k.source.images h.some_images) s.spelled;
+          says = out_says b (names_of k.source) ty out s.draft h.names h.out_ty named h.out.formed (behind_some k.source.images h.some_images) s.spelled;
           faultless = spoken_quiet before after (names_of k.source) out ty (nodes_in b) (length k.source.defs) s h.out.formed h.out.typed h.out.depth some_taps count nodes;
         };
         next = λ i. record { name = Some k.name; images = k.source.images; taps = all_taps i; defs = k.source.defs; out = Some (ty, term i) };
@@ -303,7 +295,7 @@ module _ (f : LineFacts) (k : Meaning) (h : IsKernelOf k) where
       record {
         said = Over (DefFront d.name d.ty) s.draft;
         read = record {
-          says = f.def_says b (names_of k.source) d s.draft h.names name.named (all_named done (d ∷ later) d.term defs typed.named) typed.formed (behind_some k.source.images h.some_images) s.spelled;
+          says = def_says b (names_of k.source) d s.draft h.names name.named (all_named done (d ∷ later) d.term defs typed.named) typed.formed (behind_some k.source.images h.some_images) s.spelled;
           faultless =
               quiet (taken b d.name) (expression_faults before (nodes_in b) d.ty (length done + 1) s.draft) (ap (λ v. if_so v (UnknownName d.name)) name.free)
               (spoken_quiet before after (names_of k.source) d.term d.ty (nodes_in b) (length done + 1) s typed.formed typed.typed typed.depth some_taps (few_defs done later d defs) (few_nodes done later d defs));
@@ -346,7 +338,7 @@ module _ (f : LineFacts) (k : Meaning) (h : IsKernelOf k) where
       record {
         said = Bare (ImageFront d);
         read = record {
-          says = f.image_says b d name.named pixel range refl;
+          says = image_says b d name.named pixel range refl;
           faultless = quiet (taken b d.name) (more_than 8 Images (length done + 1) ∷ []) (ap (λ v. if_so v (UnknownName d.name)) name.free) few_images;
         };
         next = refl;
@@ -360,7 +352,7 @@ module _ (f : LineFacts) (k : Meaning) (h : IsKernelOf k) where
 
   -- ---- all lines
   kernel_step : IsStep nothing (codes "kernel " ++ k.name) (begun [] [] [])
-  kernel_step = record { said = Bare (KernelFront k.name); read = record { says = f.kernel_says nothing k.name h.name refl; faultless = refl }; next = refl }
+  kernel_step = record { said = Bare (KernelFront k.name); read = record { says = kernel_says nothing k.name h.name refl; faultless = refl }; next = refl }
 
   pub lines_read : AreRead nothing (kernel_lines k) (all_of k)
   lines_read =
