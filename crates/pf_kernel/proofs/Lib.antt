@@ -13,3 +13,10 @@ pub mod Growing
 pub mod FrontLaws
 pub mod Judging
 pub mod ReadLaws
+pub mod KernelLines
+pub mod Fewer
+pub mod WrittenReads
+pub mod WrittenBytes
+pub mod WrittenLines
+pub mod WrittenTokens
+pub mod WrittenKernels

@@ -3,7 +3,7 @@ ghost use Rattle.std.specs.List.{flat_map};
 ghost use Rattle.pf_terms.specs.declared.names.Names.{Names};
 ghost use Rattle.pf_terms.specs.Terms.{is_well_formed};
 ghost use Rattle.pf_terms.specs.TermTexts.{type_word, term_text, is_named};
-ghost use Rattle.pf_kernel.specs.Texts.{kernel_text, image_text, def_text, typed_text, ended};
+ghost use Rattle.pf_kernel.specs.Texts.{IsKernel, kernel_text, image_text, def_text, typed_text, ended};
 ghost use Rattle.pf_kernel.specs.Printable.{IsPrintable};
 
 use crate::kernel::Kernel;
@@ -13,9 +13,10 @@ use pf_terms::{Definition, ImageDecl, Names, Term, write_term, write_type};
 use std::alloc::{AllocError, Global};
 
 /// The text of a kernel: each image with its range, each operation between operands in round
-/// brackets, and each line ended by LF.
+/// brackets, and each line ended by LF. It is read back as the kernel.
 pub fn write_kernel(alloc: Global, kernel: &Kernel) -> Result<Vec<u8>, AllocError>
-    ensures { IfOk result (λ text. text.items ≡ kernel_text kernel.now) }
+    ensures value { IfOk result (λ text. text.items ≡ kernel_text kernel.now) }
+    ensures read_back { IfOk result (λ text. IsKernel text.items kernel.now) }
 {
     let mut text = Vec::new(alloc);
     text.extend_from_slice(b"kernel ")?;
