@@ -1,9 +1,9 @@
 -- Division that rounds down: there is one quotient and one rest.
-use Rattle.std.proofs.Common.{◌≡◌, sym, ◌∙◌, ℕ, ◌+◌, ◌-◌, ◌*◌, ◌/◌, ◌%◌, ◌≤◌, ◌<◌, ℤ, pos, negsuc, ◌+ℤ◌, ◌*ℤ◌, arith}
+use Rattle.std.proofs.Common.{◌≡◌, sym, ◌∙◌, ℕ, ◌+◌, ◌<◌, ℤ, pos, negsuc, ◌+ℤ◌, ◌*ℤ◌, arith}
 use Rattle.std.proofs.lemmas.Int.{ints}
 use Rattle.std.proofs.lemmas.Nat.{same_from_place, mod_below}
 use Rattle.std.proofs.Math.Nat.{div-add-mod}
-use borrow.Author.Differences.{up, down, product_is, sum_is_lem, same_in}
+use borrow.Author.Differences.{up, down, same_in}
 use Rattle.pf_ints.specs.Whole.{floor_div, floor_mod}
 
 -- the rest is below the divisor

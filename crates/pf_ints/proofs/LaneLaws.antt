@@ -1,5 +1,5 @@
 -- The wrapped number is the one congruent member, and the clamped number the nearest.
-use Rattle.std.proofs.Common.{◌≡◌, refl, sym, ap, ◌∙◌, ℕ, ◌+◌, ◌-◌, ◌*◌, ◌^◌, ◌≤◌, ◌<◌, ℤ, pos, negsuc, ◌+ℤ◌, ◌-ℤ◌, ◌*ℤ◌, ◌≤ℤ◌, ◌<ℤ◌, arith, Bool, true, false, lit<}
+use Rattle.std.proofs.Common.{◌≡◌, refl, ℕ, ◌-◌, ◌<◌, ℤ, pos, negsuc, ◌+ℤ◌, ◌-ℤ◌, ◌*ℤ◌, ◌≤ℤ◌, ◌<ℤ◌, arith, Bool, true, false, lit<}
 use Rattle.std.proofs.lemmas.Int.{ints, clamps}
 use borrow.Author.Differences.{up, down}
 use Rattle.std.specs.Int.{int_rem_euclid}
@@ -7,7 +7,7 @@ use Rattle.pf_ints.specs.declared.lane.LaneType.{LaneType}
 use Rattle.pf_ints.specs.declared.lane.Bits.{Bits}
 use Rattle.pf_ints.specs.declared.lane.Bits.TheVariants.{Eight, Sixteen, ThirtyTwo}
 use Rattle.pf_ints.specs.Whole.{floor_div, floor_mod}
-use Rattle.pf_ints.specs.Lanes.{modulus, lane_width, least, greatest, IsIn, wrapped, clamped, IsNearestIn}
+use Rattle.pf_ints.specs.Lanes.{modulus, least, greatest, IsIn, wrapped, clamped, IsNearestIn}
 use Rattle.pf_ints.proofs.Ring.{distribute_left}
 use Rattle.pf_ints.proofs.Floor.{floor_mod_below, floor_split, division_is}
 

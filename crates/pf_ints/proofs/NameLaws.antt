@@ -1,5 +1,5 @@
 -- Bytes over zeros are a name.
-use Rattle.std.proofs.Common.{◌≡◌, ℕ, ◌-◌, ◌≤◌, List, length, take, drop, ◌++◌, refl, arith}
+use Rattle.std.proofs.Common.{ℕ, ◌≤◌, List, length, drop, ◌++◌, refl, arith}
 use Rattle.std.specs.Prelude.{replicate}
 use Rattle.std.proofs.lemmas.List.{take_at, drop-replicate, length-append, length-drop, length-replicate}
 use Rattle.pf_ints.specs.Names.{IsPadded}

@@ -1,5 +1,5 @@
 -- Laws of the ring of whole numbers that linear arithmetic lacks.
-use Rattle.std.proofs.Common.{◌≡◌, ap, ℕ, ◌*◌, ℤ, ◌+ℤ◌, ◌-ℤ◌, ◌*ℤ◌, negsuc, arith}
+use Rattle.std.proofs.Common.{◌≡◌, ap, ℕ, ◌*◌, ℤ, ◌+ℤ◌, ◌*ℤ◌, arith}
 use Rattle.std.proofs.lemmas.Int.{ints}
 use borrow.Author.Differences.{up, down, product_is, sum_is_lem}
 

@@ -1,7 +1,6 @@
 -- Images of pixels without a sign.
 use Rattle.std.specs.Prelude.{◌≡◌, ℕ, pos, ◌+◌, ◌*◌, ◌≤◌, List, length, All, false, slice_index}
 use Rattle.pf_ints.specs.declared.lane.LaneType.{LaneType}
-use Rattle.pf_ints.specs.declared.lane.Bits.TheVariants.{ThirtyTwo}
 use Rattle.pf_ints.specs.Lanes.{IsIn, lane_width}
 
 -- an image: its size, the type of its pixels, and its pixels in rows from top to bottom

@@ -35,6 +35,7 @@ impl Model for Image {
 }
 
 impl Image {
+    /// The image of these pixels, row by row.
     pub fn new(width: u32, height: u32, ty: LaneType, pixels: PixelList) -> Image
         requires { IsPicture (record { width = width; height = height; ty = ty; pixels = pixels }) }
         ensures { result ≡ record { width = width; height = height; ty = ty; pixels = pixels } }

@@ -195,8 +195,8 @@ impl Interval {
         }
     }
 
-    /// Where a number is x if one of this interval is above one of `o`, and y else: `x` where
-    /// this interval is above `o`, `y` where no number of it is above one of `o`, else both.
+    /// Where "x if a is above b, and else y" lies, for a of this interval and b of `o`: `x` where
+    /// every a is above every b, `y` where none is, and else the least interval that holds both.
     pub fn choose(self, o: Interval, x: Interval, y: Interval) -> Interval
         ensures { result ≡ choice_range self o x y }
     {

@@ -136,7 +136,19 @@ pub fn wrap(t: LaneType, n: i128) -> i128
     wrapped_number(t, n)
 }
 
+// Most numbers that are wrapped are members already, and a quotient takes long.
+#[tactic(auto, using(crate::proofs::LaneLaws::wrapped_same))]
 fn wrapped_number(t: LaneType, n: i128) -> i128
+    ensures { result ≡ wrapped t n }
+{
+    if t.least() <= n && n <= t.greatest() {
+        n
+    } else {
+        congruent_member(t, n)
+    }
+}
+
+fn congruent_member(t: LaneType, n: i128) -> i128
     ensures { result ≡ wrapped t n }
 {
     let size = t.size();
