@@ -131,7 +131,7 @@ fn shifted(x: i128, k: u8) -> i128
     requires { k < 64 }
     ensures { result ≡ shifted x k }
 {
-    x.div_euclid(power(k))
+    x >> k
 }
 
 fn product(x: i128, y: i128) -> i128
