@@ -6,6 +6,7 @@ pub mod Turns
 pub mod Comments
 pub mod LineLaws
 pub mod Once
+pub mod OneFault
 pub mod Naming
 pub mod Steps
 pub mod Answering

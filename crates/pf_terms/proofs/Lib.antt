@@ -24,6 +24,7 @@ pub mod DraftForms
 pub mod TermUses
 pub mod TermNames
 pub mod Meant
+pub mod OneFault
 pub mod ReadBackTexts
 pub mod ReadBackWords
 pub mod ReadBackNodes
