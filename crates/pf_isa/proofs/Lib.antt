@@ -11,6 +11,7 @@ pub mod LineLaws
 pub mod HeadWordLaws
 pub mod NameLaws
 pub mod WordLines
+pub mod NodeLaws
 pub mod HeadStepLaws
 pub mod HeadLineLaws
 pub mod ListLaws

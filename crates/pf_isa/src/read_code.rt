@@ -17,7 +17,7 @@ use crate::isa::Isa;
 use crate::jumps::{Jump, LabelNames, first_missing, jump_label};
 use pf_ints::{Name, Sequence};
 use std::alloc::Global;
-use std::collections::HashSet;
+use std::collections::BTreeSet;
 
 /// What the lines so far say.
 #[derive(Drop)]
@@ -74,7 +74,7 @@ fn read_lines<'a, I: Isa>(
     let mut reading = Reading {
         code: Sequence::new(alloc),
         labels: Sequence::new(alloc),
-        names: HashSet::new(alloc),
+        names: BTreeSet::new(alloc),
         jumps: Vec::new(alloc),
     };
     for (n, line) in lines[start..].iter().enumerate() {

@@ -15,6 +15,7 @@ ghost use Rattle.pf_isa.specs.declared.so_far.Stage.TheVariants.{Declarations, L
 
 use crate::head_words::{cost_of, image_of, lifted_of, out_of, scratch_of, tap_of};
 use crate::program::Head;
+use crate::term_size::fewest_nodes;
 use crate::tight::tight_line;
 use crate::words::words_of;
 use pf_ints::{Bits, LaneType, Memory, Name, Sequence};
@@ -23,6 +24,9 @@ use pf_terms::{
 };
 use std::alloc::{AllocError, Global};
 use std::marker::Model;
+
+/// The most nodes that the lifted terms of a head have in all.
+const MOST_NODES: usize = 1536;
 
 /// What may come next in a text.
 #[derive(Clone, Copy, Debug, PartialEq, Eq)]
@@ -401,6 +405,10 @@ fn definition_of(
     ensures found { IfOk result (IsTheOne (IsDefinitionOf names.old name.now ty text.now before)) }
     ensures kept { IfOk result (λ found. IfSome found (λ d. names.new ≡ names.old)) }
 {
+    // Such a text is refused before a tree is made of it, which may be too deep to walk.
+    if MOST_NODES < fewest_nodes(alloc, text)? {
+        return Ok(None);
+    }
     let term = match lifted_term(alloc, text, names)? {
         Some(term) => term,
         None => return Ok(None),
