@@ -8,6 +8,7 @@ pub mod NodeRanges
 pub mod TermRanges
 pub mod Evaluating
 pub mod Lexing
+pub mod Chains
 pub mod Complete
 pub mod Sound
 pub mod Viable
