@@ -39,6 +39,6 @@ pub use program::{Head, Program};
 pub use registers::{Reg, RegFile, RegList, VectorList};
 pub use scan::{behind, checked, next_number, number_at};
 pub use steps::Trap;
-pub use text::{read_text, target_of};
+pub use text::{read_text, reread, target_of};
 pub use tight::{ShortLine, tighten};
 pub use write::{push_number, write_text};

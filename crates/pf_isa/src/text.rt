@@ -12,6 +12,7 @@ use crate::program::Program;
 use crate::read_code::read_code;
 use crate::read_head::read_head;
 use crate::target_line::is_for;
+use crate::write::write_text;
 use pf_ints::Target;
 use std::alloc::Global;
 
@@ -39,6 +40,15 @@ pub fn read_text<I: Isa>(alloc: Global, text: &[u8]) -> Result<Program<I>, TextF
     let (head, start) = read_head(alloc, I::TARGET, lines.as_slice())?;
     let (code, labels) = read_code::<I>(alloc, lines.as_slice(), start)?;
     Ok(Program::new(head, code, labels))
+}
+
+/// The program as whoever reads its text gets it: the program itself, of memory of its own. So what
+/// `write_text` writes of a program is read as that program, and the one fault is want of memory.
+pub fn reread<I: Isa>(alloc: Global, program: &Program<I>) -> Result<Program<I>, TextFault>
+    ensures { IsProgramOr program.now result }
+{
+    let text = write_text(alloc, program)?;
+    read_text(alloc, &text)
 }
 
 /// The target that line 1 of a text names, or None where it names none. It takes no memory.
