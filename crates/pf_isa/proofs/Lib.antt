@@ -27,4 +27,5 @@ pub mod CodeLineLaws
 pub mod CodeLaws
 pub mod CodeTexts
 pub mod CodeOnce
+pub mod OneFault
 pub mod JoinLaws
