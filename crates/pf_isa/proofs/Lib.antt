@@ -28,4 +28,5 @@ pub mod CodeLineLaws
 pub mod CodeLaws
 pub mod CodeTexts
 pub mod CodeOnce
+pub mod OneFault
 pub mod JoinLaws

@@ -4,9 +4,10 @@ ghost use Rattle.pf_ints.specs.Words.{is_name};
 ghost use Rattle.pf_isa.specs.declared.code.Label.{Label};
 ghost use Rattle.pf_isa.specs.declared.code.Line.{Line};
 ghost use Rattle.pf_isa.specs.declared.fault.TextFault.TheVariants.{At};
+ghost use Rattle.pf_isa.specs.declared.fault.TextKind.{TextKind};
 ghost use Rattle.pf_isa.specs.Programs.{IsLast};
 ghost use Rattle.pf_isa.specs.Texts.{Said, Does, IsCodeText};
-ghost use Rattle.pf_isa.specs.TextFaults.{texts, IsKnown, IsCodeRefusal, IsCodeOr};
+ghost use Rattle.pf_isa.specs.TextFaults.{texts, IsKnown, IsCodeFaultAt, IsCodeRefusal, IsCodeOr, IsTextFaultOr};
 ghost use Rattle.pf_isa.specs.CodeReading.{AddsLabel, AddsInstruction, TakesLine, IsReading, IsLineRefusal};
 
 use crate::code::{Code, Label, LabelList, Line};
@@ -38,6 +39,7 @@ pub fn read_code<I: Isa>(
     ensures says { IfOk result (λ r. IsCodeText I.table I.is_op (drop start (texts lines.now)) r.0 r.1) }
     ensures only { (code : List (Line I I.Op)) (labels : List Label) → IsCodeText I.table I.is_op (drop start (texts lines.now)) code labels → IsCodeOr code labels result }
     ensures fault { IfErr result (IsCodeRefusal I I.table I.is_op start (drop start (texts lines.now))) }
+    ensures told { (at : ℕ) (kind : TextKind) → IsCodeFaultAt I I.table I.is_op start (drop start (texts lines.now)) at kind → IsTextFaultOr at kind result }
 {
     read_whole_code(alloc, lines, start)
 }
