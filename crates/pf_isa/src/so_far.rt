@@ -1,5 +1,5 @@
 ghost use Rattle.std.specs.Prelude.{◌≡◌, ◌≢◌, ◌<◌, ◌≤◌, ◌+◌, ◌↔◌, [], ◌∷◌, length, map, true, IsTrue, IfOk, IfSome, Contains, codes};
-ghost use Rattle.std.specs.List.{position};
+ghost use Rattle.std.specs.List.{list_any, position};
 ghost use Rattle.std.specs.Str.{bytes_eq};
 ghost use Rattle.pf_ints.specs.Images.{IsPixelType};
 ghost use Rattle.pf_terms.specs.declared.meaning.ReadFault.TheVariants.{Memory as Refused};
@@ -465,34 +465,21 @@ fn stated_type(term: &Term) -> LaneType
 }
 
 fn has_image(images: &[ImageDecl], name: &[u8]) -> bool
-    ensures { IsTrue result ↔ Contains (map (λ d. d.name) images.now) name.now }
+    ensures { result ≡ list_any (λ d. bytes_eq d.name name.now) images.now }
 {
-    for image in images {
-        if image.name.as_slice() == name {
-            return true;
-        }
-    }
-    false
+    images.iter().any(|image| image.name.as_slice() == name)
 }
 
 fn has_lifted(lifted: &[Definition], name: &[u8]) -> bool
-    ensures { IsTrue result ↔ Contains (map (λ d. d.name) lifted.now) name.now }
+    ensures { result ≡ list_any (λ d. bytes_eq d.name name.now) lifted.now }
 {
-    for definition in lifted {
-        if definition.name.as_slice() == name {
-            return true;
-        }
-    }
-    false
+    lifted
+        .iter()
+        .any(|definition| definition.name.as_slice() == name)
 }
 
 fn has_tap(taps: &[Tap], tap: Tap) -> bool
     ensures { IsTrue result ↔ Contains taps.now tap }
 {
-    for other in taps {
-        if *other == tap {
-            return true;
-        }
-    }
-    false
+    taps.contains(&tap)
 }
