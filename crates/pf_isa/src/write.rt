@@ -13,7 +13,8 @@ use pf_ints::{Duplicate, LaneType, Memory, Name, Sequence, Target};
 use pf_terms::{DefName, Definition, ImageDecl, ImageName, Names, Tap, write_term, write_type};
 use std::alloc::Global;
 
-/// Appends the number in decimal digits.
+/// Appends the number in decimal digits. The only error is want of memory, after which the text may
+/// have got a part of the digits.
 pub fn push_number(text: &mut Vec<u8>, n: u64) -> Result<(), Memory>
     ensures { OnOk result (text.new.items ≡ text.old.items ++ decimal n) }
 {
