@@ -13,4 +13,4 @@ pub mod Growing
 pub mod FrontLaws
 pub mod Judging
 pub mod ReadLaws
-mod Reaching
+pub mod Reaching
