@@ -21,4 +21,4 @@ pub mod WrittenBytes
 pub mod WrittenLines
 pub mod WrittenTokens
 pub mod WrittenKernels
-mod Reaching
+pub mod Reaching

@@ -23,23 +23,28 @@ pub fn offset_along(axis: Axis, tap: &Tap) -> i16
 }
 
 /// The least of 0 and all offsets in this direction.
+// A loop: clang 22 drops the 0 of a recursive minimum.
+#[tactic(auto, using(pf_kernel::proofs::Reaching::least_start, pf_kernel::proofs::Reaching::least_step))]
 pub fn least_offset(axis: Axis, taps: &[Tap]) -> i16
     ensures { result ≡ least_offset axis taps.now }
 {
-    match taps {
-        [] => 0,
-        [tap, rest @ ..] => offset_along(axis, tap).min(least_offset(axis, rest)),
+    let mut least = 0;
+    for tap in taps {
+        least = offset_along(axis, tap).min(least);
     }
+    least
 }
 
 /// The greatest of 0 and all offsets in this direction.
+#[tactic(auto, using(pf_kernel::proofs::Reaching::most_start, pf_kernel::proofs::Reaching::most_step))]
 pub fn greatest_offset(axis: Axis, taps: &[Tap]) -> i16
     ensures { result ≡ greatest_offset axis taps.now }
 {
-    match taps {
-        [] => 0,
-        [tap, rest @ ..] => offset_along(axis, tap).max(greatest_offset(axis, rest)),
+    let mut most = 0;
+    for tap in taps {
+        most = offset_along(axis, tap).max(most);
     }
+    most
 }
 
 /// How many output pixels fit into so many pixels of an image in this direction; none where it

@@ -127,7 +127,13 @@ out u8 = saturating_cast(u8, absd(l, r) + absd(t, b))
 ";
 
 /// Kernels, an image for each, and the width and the pixels of the output.
-const KERNELS: [(&[u8], &[u8], u32, &[u16]); 3] = [
+const KERNELS: [(&[u8], &[u8], u32, &[u16]); 4] = [
+    (
+        b"kernel k\nimage a u8\nout u8 = a[1,0]",
+        b"P5 3 1 255 \x01\x02\x03",
+        2,
+        &[2, 3],
+    ),
     (SUM, b"P5 2 1 255 \xfa\x07", 2, &[4, 17]),
     (BLUR, b"P5 3 1 255 \x0a\x14\x28", 1, &[23]),
     (
