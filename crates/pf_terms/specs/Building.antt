@@ -17,7 +17,8 @@ use Rattle.pf_terms.specs.declared.term.Term.{Term}
 use Rattle.pf_terms.specs.KernelNames.{IsNear}
 use Rattle.pf_terms.specs.Meanings.{IsMeaningFault}
 use Rattle.pf_terms.specs.Operators.{row_of}
-use Rattle.pf_terms.specs.Terms.{is_in, all_true, is_formed_node, stated_type}
+use Rattle.pf_ints.specs.Lanes.{is_in}
+use Rattle.pf_terms.specs.Terms.{all_true, is_formed_node, stated_type}
 
 abbrev pub formed_draft_step : Draft-F Bool → Bool
 formed_draft_step (Number n t) = is_in t n
