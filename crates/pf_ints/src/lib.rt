@@ -4,6 +4,7 @@
 mod image;
 mod interval;
 mod lane;
+mod line;
 mod name;
 mod sequence;
 mod target;
@@ -12,6 +13,7 @@ mod word;
 pub use image::{Image, ImageSet, MOST_PIXELS, MOST_SIDE};
 pub use interval::{FURTHEST, Interval, IntervalList};
 pub use lane::{Bits, LaneType, sat, wrap};
+pub use line::next_line;
 pub use name::Name;
 pub use sequence::{
     ByteList, Duplicate, NameList, NameNumbers, NumberList, Path, PixelList, Sequence,
