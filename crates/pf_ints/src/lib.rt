@@ -6,6 +6,7 @@ mod interval;
 mod lane;
 mod line;
 mod name;
+mod number;
 mod sequence;
 mod target;
 mod word;
@@ -15,6 +16,7 @@ pub use interval::{FURTHEST, Interval, IntervalList};
 pub use lane::{Bits, LaneType, sat, wrap};
 pub use line::next_line;
 pub use name::Name;
+pub use number::{push_number, push_whole};
 pub use sequence::{
     ByteList, Duplicate, NameList, NameNumbers, NumberList, Path, PixelList, Sequence,
 };
