@@ -58,7 +58,7 @@ one_said t is_op laws line (Does l) (Does m) a b = ap (λ l. Does l) (one_line t
 
 -- ---- all lines
 
-all_said : {I O : Type 0} (t : Table O) (is_op : O → Type 0) → IsTable t is_op → (ls : List (List ℕ)) (s u : List (Said I O)) → AllZip (SaysKnown t is_op) ls s → AllZip (SaysKnown t is_op) ls u → s ≡ u
+pub all_said : {I O : Type 0} (t : Table O) (is_op : O → Type 0) → IsTable t is_op → (ls : List (List ℕ)) (s u : List (Said I O)) → AllZip (SaysKnown t is_op) ls s → AllZip (SaysKnown t is_op) ls u → s ≡ u
 all_said t is_op laws [] [] [] a b = refl
 all_said t is_op laws [] (s ∷ ss) u a b = absurd a
 all_said t is_op laws [] [] (u ∷ us) a b = absurd b
@@ -132,7 +132,7 @@ no_line_fault t is_op laws front before known line s after Target z y says disti
 no_line_fault t is_op laws front before known line s after Directive z y says distinct fault = fault
 no_line_fault t is_op laws front before known line s after NoEnd z y says distinct fault = fault
 
-no_bad_line : {I O : Type 0} (t : Table O) (is_op : O → Type 0) → IsTable t is_op → (ls : List (List ℕ)) (said : List (Said I O)) → AllZip (SaysKnown t is_op) ls said → AllPairs (λ a b. a ≢ b) (label_names said)
+pub no_bad_line : {I O : Type 0} (t : Table O) (is_op : O → Type 0) → IsTable t is_op → (ls : List (List ℕ)) (said : List (Said I O)) → AllZip (SaysKnown t is_op) ls said → AllPairs (λ a b. a ≢ b) (label_names said)
     → (n : ℕ) (kind : TextKind) → IsBadLine I t is_op ls n kind → ⊥
 no_bad_line t is_op laws ls said z distinct n kind bad =
     let split = zip_front (SaysKnown t is_op) bad.front bad.line bad.rest said (subst (λ l. AllZip (SaysKnown t is_op) l said) bad.parts z) in
@@ -154,7 +154,7 @@ place_back t labels names same (Does line ∷ said) lines =
     All-cons (λ s. HasPlace names s) (Does line) said (place_line t labels names same line (All-head (λ l. IsInstructionOf t labels l) line (code_of said) lines))
     (place_back t labels names same said (All-tail (λ l. IsInstructionOf t labels l) line (code_of said) lines))
 
-middle : {X : Type 0} (P : X → Type 0) (xs : List X) (x : X) (ys : List X) → All P (xs ++ x ∷ ys) → P x
+pub middle : {X : Type 0} (P : X → Type 0) (xs : List X) (x : X) (ys : List X) → All P (xs ++ x ∷ ys) → P x
 middle P xs x ys all =
     let size : length (xs ++ x ∷ ys) ≡ length xs + length (x ∷ ys) = length-append xs (x ∷ ys) in
     let inside : length xs < length (xs ++ x ∷ ys) = omega arith in
@@ -166,7 +166,7 @@ names_apart labels pairs = λ i j d low high e.
     let inside : j < length labels = rw length-map at high in
     (pairs i j x low inside).0 (sym (get_or-map (λ (l : Label). l.name) labels i x) ∙ e ∙ get_or-map (λ (l : Label). l.name) labels j x)
 
-no_bad_jump : {I O : Type 0} (t : Table O) (is_op : O → Type 0) → IsTable t is_op → (ls : List (List ℕ)) (said : List (Said I O)) → AllZip (SaysKnown t is_op) ls said → All (λ s. HasPlace (label_names said) s) said
+pub no_bad_jump : {I O : Type 0} (t : Table O) (is_op : O → Type 0) → IsTable t is_op → (ls : List (List ℕ)) (said : List (Said I O)) → AllZip (SaysKnown t is_op) ls said → All (λ s. HasPlace (label_names said) s) said
     → (n : ℕ) → IsBadJump I t is_op ls n → ⊥
 no_bad_jump t is_op laws ls said z places n bad =
     let same : said ≡ bad.front ++ bad.jump ∷ bad.rest = all_said t is_op laws ls said (bad.front ++ bad.jump ∷ bad.rest) z bad.read.each in
@@ -183,7 +183,7 @@ by_kind t is_op laws start ls said z distinct places last at NoEnd fault =
 by_kind t is_op laws start ls said z distinct places last at Target fault = fault
 by_kind t is_op laws start ls said z distinct places last at Directive fault = fault
 
-no_fault : {I O : Type 0} (t : Table O) (is_op : O → Type 0) → IsTable t is_op → (start : ℕ) (ls : List (List ℕ)) (code : List (Line I O)) (labels : List Label) → IsCodeText t is_op ls code labels
+pub no_fault : {I O : Type 0} (t : Table O) (is_op : O → Type 0) → IsTable t is_op → (start : ℕ) (ls : List (List ℕ)) (code : List (Line I O)) (labels : List Label) → IsCodeText t is_op ls code labels
     → (at : ℕ) (kind : TextKind) → IsCodeFaultAt I t is_op start ls at kind → ⊥
 no_fault {I} {O} t is_op laws start ls code labels c at kind fault =
     let z : AllZip (SaysKnown t is_op) ls c.said = known_text t is_op ls code labels c in

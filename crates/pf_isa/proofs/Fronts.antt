@@ -1,17 +1,32 @@
 -- Fronts of texts: words, digits and how large a number they write.
-use Rattle.std.proofs.Common.{◌≡◌, ℕ, ◌+◌, ◌*◌, ◌^◌, ◌<◌, ◌≤◌, List, [], ◌∷◌, length, true, false, ◌==◌, if◌then◌else◌, All, None, refl, arith, ⊎_elim}
+use Rattle.std.proofs.Common.{◌≡◌, ℕ, ◌+◌, ◌*◌, ◌^◌, ◌<◌, ◌≤◌, List, [], ◌∷◌, length, true, false, ◌==◌, All, Option, None, Some, refl, sym, ap, ◌∙◌, cond, take, drop, nat_eq, Bor, MatchOption, eqb-true, arith, ⊎_elim}
+use Rattle.std.specs.Cmp.Lexicographic.{pointwise}
 use Rattle.std.proofs.Math.Nat.{pow-le-pow_right}
 use Rattle.std.proofs.lemmas.List.Elements.{All-nil, All-cons}
-use Rattle.std.proofs.lemmas.Bool.{cases_Bool}
+use Rattle.std.proofs.lemmas.Bool.{cases_Bool, eq-eqb}
 use Rattle.std.proofs.lemmas.Bool.Decides.{nat_tests}
 use Rattle.pf_ints.specs.Words.{is_digit}
 use Rattle.pf_isa.specs.Scan.{behind, leading_digits}
 
--- a text doesn't begin with a longer word
-pub behind_longer : (ws t : List ℕ) → length t < length ws → behind ws t ≡ None
-behind_longer [] t h = absurd (omega arith)
-behind_longer (w ∷ ws) [] h = refl
-behind_longer (w ∷ ws) (c ∷ t) h = elim (w == c) as (λ b. (if b then behind ws t else None) ≡ None) [ true ↦ behind_longer ws t (omega arith) | false ↦ refl ]
+behind_is : (ws t : List ℕ) → behind ws t ≡ cond (pointwise nat_eq (take (length ws) t) ws) (Some (drop (length ws) t)) None
+behind_is [] t = refl
+behind_is (w ∷ ws) [] = refl
+behind_is (w ∷ ws) (c ∷ t) =
+    ⊎_elim
+    (λ (here : w == c ≡ true).
+    let same : nat_eq c w ≡ true = eq-eqb c w (sym (eqb-true w c here)) in
+    rw (here, same) (behind_is ws t))
+    (λ (other : w == c ≡ false). rw (other, unlike w c other) refl)
+    (cases_Bool (w == c))
+  where
+    unlike : (w c : ℕ) → w == c ≡ false → nat_eq c w ≡ false
+    unlike w c other = grind (arith, nat_tests)
+
+-- what is left of a text behind a word
+pub stripped : (ws t : List ℕ) (r : Option (Bor (List ℕ))) → MatchOption r (pointwise nat_eq (take (length ws) t) ws ≡ false) (λ x. (pointwise nat_eq (take (length ws) t) ws ≡ true) × (x.now ≡ drop (length ws) t) × (length x.now + length ws ≡ length t))
+    → MatchOption r (behind ws t ≡ None) (λ rest. behind ws t ≡ Some rest.now)
+stripped ws t None h = rw h at (behind_is ws t)
+stripped ws t (Some x) h = (rw h.0 at (behind_is ws t)) ∙ ap Some (sym h.1)
 
 pub leading_are_digits : (t : List ℕ) → All (λ c. is_digit c ≡ true) (leading_digits t)
 leading_are_digits [] = All-nil (λ c. is_digit c ≡ true)

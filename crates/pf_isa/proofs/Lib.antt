@@ -11,6 +11,7 @@ pub mod LineLaws
 pub mod HeadWordLaws
 pub mod NameLaws
 pub mod WordLines
+pub mod NodeLaws
 pub mod HeadStepLaws
 pub mod HeadLineLaws
 pub mod ListLaws
@@ -27,4 +28,5 @@ pub mod CodeLineLaws
 pub mod CodeLaws
 pub mod CodeTexts
 pub mod CodeOnce
+pub mod OneFault
 pub mod JoinLaws

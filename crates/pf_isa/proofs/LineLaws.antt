@@ -1,6 +1,5 @@
--- The lines of a text, from its front.
+-- The line of a target is short.
 use Rattle.std.proofs.Common.{ap, ℕ, ◌-◌, ◌<◌, ◌≤◌, List, length, arith, lit≤}
-use Rattle.std.specs.Str.Lines.{lines}
 use Rattle.pf_ints.specs.declared.target.Target.{Target}
 use Rattle.pf_ints.specs.declared.target.Target.TheVariants.{Neon, Avx2, Hvx}
 use Rattle.pf_isa.specs.Lines.{tight, IsLine}

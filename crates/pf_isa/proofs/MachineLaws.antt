@@ -1,10 +1,12 @@
 -- What the machine's calls need of lists and numbers.
-use Rattle.std.proofs.Common.{◌≡◌, ℕ, zero, suc, ◌+◌, ◌-◌, ◌*◌, ◌^◌, ◌<◌, ◌≤◌, List, [], ◌∷◌, ◌++◌, length, take, drop, set, get_or, arith, refl, sym, ap, ◌∙◌, append_assoc, append-nil, length-append, length-drop}
+use Rattle.std.proofs.Common.{◌≡◌, ℕ, zero, suc, ◌+◌, ◌-◌, ◌*◌, ◌/◌, ◌%◌, ◌^◌, ◌<◌, ◌≤◌, List, [], ◌∷◌, ◌++◌, length, take, drop, set, get_or, arith, refl, sym, ap, subst, ◌∙◌, append_assoc, append-nil, length-append, length-drop}
 use Rattle.std.specs.Prelude.{replicate}
-use Rattle.std.proofs.lemmas.List.{take_at, drop_at, drop-drop, drop_more, take_more, length-take-le, replicate_more}
-use Rattle.std.proofs.Math.Nat.{pow-le-pow_right}
-use Rattle.pf_isa.specs.Bytes.{bytes, packed}
-use Rattle.pf_isa.proofs.ByteLaws.{take-bytes, packed-append, length-packed, length-bytes}
+use Rattle.std.proofs.lemmas.List.{take_at, drop_at, drop-drop, drop_more, take_more, length-take-le, replicate_more, length-replicate}
+use Rattle.std.specs.Int.{to_le_bytes, from_le_bytes, bytes_low_first, byte_at, w64}
+use Rattle.std.proofs.Math.Nat.{pow-suc, div-div-eq-div-mul}
+use Rattle.std.proofs.lemmas.Nat.{le_bytes_8}
+use Rattle.pf_isa.specs.Bytes.{bytes, number, packed}
+use Rattle.pf_isa.proofs.ByteLaws.{take-bytes, packed-append, length-packed, length-bytes, number-bytes}
 
 -- the lowest bytes of a number
 pub lowest_bytes : (count n : ℕ) → count ≤ 8 → take count (bytes 8 n) ≡ bytes count n
@@ -12,12 +14,41 @@ lowest_bytes count n h =
     let rest : count + (8 - count) ≡ 8 = omega arith in
     rw rest at (take-bytes count (8 - count) n)
 
--- a number of fewer than eight bytes, with one byte more
-pub one_byte_more : (n k : ℕ) → n < 256 ^ k → k < 8 → 256 * n < 2 ^ 64 - 255
-one_byte_more n k below few =
-    let positive : 0 < 256 = omega arith in
-    let most : 256 ^ k ≤ 256 ^ 7 = pow-le-pow_right positive {i = k} {j = 7} (omega arith) in
-    omega (arith, most)
+low_first : (i k n : ℕ) → bytes_low_first i k n ≡ bytes k (n / 256 ^ i)
+low_first i zero n = refl
+low_first i (suc k) n =
+    let first : byte_at i n ≡ n / 256 ^ i % 256 = byte_is i n in
+    let next : n / 256 ^ suc i ≡ n / 256 ^ i / 256 = ap (λ m. n / m) (pow-suc 256 i) ∙ sym (div-div-eq-div-mul n (256 ^ i) 256) in
+    let rest : bytes_low_first (suc i) k n ≡ bytes k (n / 256 ^ suc i) = low_first (suc i) k n in
+    rw (first, rest, next) refl
+  where
+    byte_is : (i n : ℕ) → byte_at i n ≡ n / 256 ^ i % 256
+    byte_is zero n = omega arith
+    byte_is (suc i) n = refl
+
+-- the eight bytes of a number, as the standard library has them
+low_bytes : (n : ℕ) → to_le_bytes w64 n ≡ bytes 8 n
+low_bytes n = let one : n / 256 ^ 0 ≡ n = omega arith in low_first 0 8 n ∙ ap (bytes 8) one
+
+number_zeros : (bs : List ℕ) (k : ℕ) → number (bs ++ replicate k 0) ≡ number bs
+number_zeros [] zero = refl
+number_zeros [] (suc k) = let rest : number (replicate k 0) ≡ 0 = number_zeros [] k in omega arith
+number_zeros (b ∷ bs) k = ap (λ n. b + 256 * n) (number_zeros bs k)
+
+small_zeros : (bs : List ℕ) (k : ℕ) → ((i : ℕ) → get_or bs i 0 < 256) → (i : ℕ) → get_or (bs ++ replicate k 0) i 0 < 256
+small_zeros [] zero small i = omega arith
+small_zeros [] (suc k) small zero = omega arith
+small_zeros [] (suc k) small (suc i) = small_zeros [] k small i
+small_zeros (b ∷ bs) k small zero = small 0
+small_zeros (b ∷ bs) k small (suc i) = small_zeros bs k (λ j. small (suc j)) i
+
+-- the number of at most eight bytes, from those with zeros behind them
+pub number_read : (held all : List ℕ) (n : ℕ) → all ≡ held ++ replicate (8 - length held) 0 → length held ≤ 8 → ((i : ℕ) → get_or held i 0 < 256) → n < 2 ^ 64 → n ≡ from_le_bytes w64 all → n ≡ number held
+number_read held all n is few small fits read =
+    let long : length all ≡ 8 = ap length is ∙ length-append held (replicate (8 - length held) 0) ∙ omega (arith, length-replicate {A = ℕ} (8 - length held) 0) in
+    let back : bytes 8 n ≡ all = sym (low_bytes n) ∙ le_bytes_8 all n long (λ i. subst (λ bs. get_or bs i 0 < 256) (sym is) (small_zeros held (8 - length held) small i)) read in
+    let same : number (bytes 8 n) ≡ n = number-bytes 8 n (omega arith) in
+    sym same ∙ ap number back ∙ ap number is ∙ number_zeros held (8 - length held)
 
 -- items that are put in place one by one
 set_behind : {A : Type 0} (n : ℕ) (x y : A) (ys : List A) → set (replicate n x ++ y ∷ ys) n x ≡ replicate n x ++ x ∷ ys

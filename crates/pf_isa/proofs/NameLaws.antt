@@ -1,24 +1,44 @@
 -- Names in lists.
-use Rattle.std.proofs.Common.{◌≡◌, ◌≢◌, sym, ◌∙◌, ⊎_elim, ℕ, ◌+◌, ◌<◌, List, ◌++◌, length, map, get_or, arith, below_more, length-append}
+use Rattle.std.proofs.Common.{◌≡◌, ◌≢◌, sym, ◌∙◌, ⊎_elim, ℕ, ◌<◌, List, ◌++◌, length, map, get_or, arith, length-append, Bool, true, false, ap, [], ◌∷◌}
 use Rattle.std.specs.Prelude.{Contains}
-use Rattle.std.specs.List.{AllPairs}
+use Rattle.std.specs.List.{AllPairs, list_any}
+use Rattle.std.specs.Str.{bytes_eq}
+use Rattle.std.proofs.lemmas.List.Folds.{Any-from_list_any, list_any_at}
+use Rattle.std.proofs.lemmas.Slice.Eq.{bytes_eq-Decides}
 use Rattle.std.proofs.lemmas.List.{get_or-map, length-map, get_or_append_left}
-use Rattle.std.proofs.lemmas.List.Elements.{Contains-append_cases}
+use Rattle.std.proofs.lemmas.List.Elements.{Contains-append_cases, Contains-append_left, Contains-append_right}
 use Rattle.pf_terms.specs.declared.names.ImageName.{ImageName}
 use Rattle.pf_terms.specs.KernelNames.{IsNames}
 use Rattle.pf_isa.specs.declared.program.Head.{Head}
 use Rattle.pf_isa.specs.Heads.{image_name}
 use Rattle.pf_isa.specs.TextFaults.{names_so_far}
 
-pub name_at : {A : Type 0} (f : A → List ℕ) (xs : List A) (k : ℕ) (d : A) (name : List ℕ) → k < length xs → f (get_or xs k d) ≡ name → Contains (map f xs) name
+-- a name in the second of two lists that isn't in the first
+in_second : (xs ys : List (List ℕ)) (x : List ℕ) → (Contains xs x → ⊥) → Contains (xs ++ ys) x → Contains ys x
+in_second xs ys x none h = ⊎_elim (λ (l : Contains xs x). absurd (none l)) (λ (r : Contains ys x). r) (Contains-append_cases xs ys x h)
+
+name_at : {A : Type 0} (f : A → List ℕ) (xs : List A) (k : ℕ) (d : A) (name : List ℕ) → k < length xs → f (get_or xs k d) ≡ name → Contains (map f xs) name
 name_at f xs k d name lt e = (k, omega (arith, lt, length-map xs f), get_or-map f xs k d name lt ∙ e)
 
-pub other_names : {A : Type 0} (f : A → List ℕ) (xs : List A) (i : ℕ) (d : A) (name : List ℕ) → i < length xs → ((k : ℕ) → k < i → get_or (map f xs) k name ≢ name) → f (get_or xs i d) ≢ name → (k : ℕ) → k < i + 1 → get_or (map f xs) k name ≢ name
-other_names f xs i d name lt before other = below_more _ _ before (λ e. other (sym (get_or-map f xs i d name lt) ∙ e))
+any_named : {A : Type 0} (f : A → List ℕ) (xs : List A) (name : List ℕ) → list_any (λ x. bytes_eq (f x) name) xs ≡ true → Contains (map f xs) name
+any_named f xs name h = let a = Any-from_list_any (λ x. bytes_eq (f x) name) xs h in name_at f xs a.0 a.1 name a.2 (ap f a.3 ∙ (bytes_eq-Decides (f a.1) name).0 a.4)
 
--- a name in the second of two lists that isn't in the first
-pub in_second : (xs ys : List (List ℕ)) (x : List ℕ) → (Contains xs x → ⊥) → Contains (xs ++ ys) x → Contains ys x
-in_second xs ys x none h = ⊎_elim (λ (l : Contains xs x). absurd (none l)) (λ (r : Contains ys x). r) (Contains-append_cases xs ys x h)
+named_any : {A : Type 0} (f : A → List ℕ) (xs : List A) (name : List ℕ) → Contains (map f xs) name → list_any (λ x. bytes_eq (f x) name) xs ≡ true
+named_any f [] name (k, lt, at) = absurd (omega arith)
+named_any f (x ∷ xs) name (k, lt, at) =
+    let below : k < length (x ∷ xs) = omega (arith, lt, length-map (x ∷ xs) f) in
+    list_any_at (λ y. bytes_eq (f y) name) (x ∷ xs) k x below ((bytes_eq-Decides (f (get_or (x ∷ xs) k x)) name).1 (sym (get_or-map f (x ∷ xs) k x name below) ∙ at))
+
+-- a name in the first of two lists, and in the second
+pub is_first : {A : Type 0} (f : A → List ℕ) (xs : List A) (ys : List (List ℕ)) (name : List ℕ) → true ≡ list_any (λ x. bytes_eq (f x) name) xs → Contains (map f xs ++ ys) name
+is_first f xs ys name is = Contains-append_left (map f xs) ys name (any_named f xs name (sym is))
+
+pub is_second : {A B : Type 0} (f : A → List ℕ) (g : B → List ℕ) (xs : List A) (ys : List B) (name : List ℕ) (b : Bool) → false ≡ list_any (λ x. bytes_eq (f x) name) xs → b ≡ list_any (λ y. bytes_eq (g y) name) ys
+    → (b ≡ true → Contains (map f xs ++ map g ys) name) × (Contains (map f xs ++ map g ys) name → b ≡ true)
+is_second f g xs ys name b none is = (
+  λ h. Contains-append_right (map f xs) (map g ys) name (any_named g ys name (sym is ∙ h)),
+  λ h. is ∙ named_any g ys name (in_second (map f xs) (map g ys) name (λ l. let there = none ∙ named_any f xs name l in absurd (cc)) h),
+)
 
 pub distinct_in : {A : Type 0} (f : A → List ℕ) (xs : List A) (ys : List (List ℕ)) → AllPairs (λ s t. s ≢ t) (map f xs ++ ys) → AllPairs (λ a b. f a ≢ f b) xs
 distinct_in f xs ys h = λ i j d less lt e.

@@ -1,7 +1,7 @@
 -- What labels say of a name, one label after another.
 use Rattle.std.proofs.Common.{◌≡◌, ℕ, ◌+◌, ◌<◌, length, take, drop, List, [], ◌∷◌, ◌++◌, true, false, Option, Some, None, refl, sym, ◌∙◌, ap, append_assoc, ⊎_elim}
 use Rattle.std.specs.Borrow.{Bor}
-use Rattle.std.specs.HashMap.{HashMap}
+use Rattle.std.specs.BTreeMap.{BTreeMap}
 use Rattle.std.specs.Map.{update}
 use Rattle.std.specs.Option.{unwrap_or, is_some}
 use Rattle.std.specs.Str.{bytes_eq}
@@ -71,14 +71,14 @@ pub labelled_new : (ls : List Label) (l : Label) (name : List ℕ) → labelled 
 labelled_new ls l name is = rw is at (labelled-push ls l name)
 
 -- a map with one label more
-known_at : {S : Type 0} (places : HashMap (Bor (List ℕ)) ℕ S) (ls : List Label) (l : Label) (o : Option ℕ) → found places l.name ≡ o → is_some o ≡ true → Finds places ls → Finds places (ls ++ l ∷ [])
+known_at : (places : BTreeMap (Bor (List ℕ)) ℕ) (ls : List Label) (l : Label) (o : Option ℕ) → found places l.name ≡ o → is_some o ≡ true → Finds places ls → Finds places (ls ++ l ∷ [])
 known_at places ls l None is some f = absurd (cc)
 known_at places ls l (Some n) is some f = record { at_name = λ name. f.at_name name ∙ sym (labelled_known ls l n name (sym (f.at_name l.name) ∙ is)) }
 
-pub finds_known : {S : Type 0} (places : HashMap (Bor (List ℕ)) ℕ S) (ls : List Label) (l : Label) → is_some (found places l.name) ≡ true → Finds places ls → Finds places (ls ++ l ∷ [])
+pub finds_known : (places : BTreeMap (Bor (List ℕ)) ℕ) (ls : List Label) (l : Label) → is_some (found places l.name) ≡ true → Finds places ls → Finds places (ls ++ l ∷ [])
 finds_known places ls l known f = known_at places ls l (found places l.name) refl known f
 
-new_at : {S : Type 0} (old new : HashMap (Bor (List ℕ)) ℕ S) (ls : List Label) (l : Label) (o : Option ℕ) → found old l.name ≡ o → is_some o ≡ false
+new_at : (old new : BTreeMap (Bor (List ℕ)) ℕ) (ls : List Label) (l : Label) (o : Option ℕ) → found old l.name ≡ o → is_some o ≡ false
     → ((name : List ℕ) → found new name ≡ update bytes_eq (found old) l.name (Some l.before) name) → Finds old ls → Finds new (ls ++ l ∷ [])
 new_at old new ls l (Some n) is none updated f = absurd (cc)
 new_at old new ls l None is none updated f = record {
@@ -89,7 +89,7 @@ new_at old new ls l None is none updated f = record {
       here ∙ rw (more, there) refl;
 }
 
-pub finds_new : {S : Type 0} (old new : HashMap (Bor (List ℕ)) ℕ S) (ls : List Label) (l : Label) → is_some (found old l.name) ≡ false
+pub finds_new : (old new : BTreeMap (Bor (List ℕ)) ℕ) (ls : List Label) (l : Label) → is_some (found old l.name) ≡ false
     → ((name : List ℕ) → found new name ≡ update bytes_eq (found old) l.name (Some l.before) name) → Finds old ls → Finds new (ls ++ l ∷ [])
 finds_new old new ls l unknown updated f = new_at old new ls l (found old l.name) refl unknown updated f
 
@@ -103,7 +103,7 @@ place_labelled (l ∷ ls) end name =
     (λ (other : bytes_eq l.name name ≡ false). rw other rest)
     (cases_Bool (bytes_eq l.name name))
 
-place_found : {S : Type 0} (places : HashMap (Bor (List ℕ)) ℕ S) (ls : List Label) (end place : ℕ) (name : List ℕ) → place ≡ unwrap_or (found places name) end → Finds places ls → place ≡ place_of ls end name
+place_found : (places : BTreeMap (Bor (List ℕ)) ℕ) (ls : List Label) (end place : ℕ) (name : List ℕ) → place ≡ unwrap_or (found places name) end → Finds places ls → place ≡ place_of ls end name
 place_found places ls end place name is f =
     let there : found places name ≡ labelled ls name = f.at_name name in
     is ∙ rw there (place_labelled ls end name)
@@ -116,6 +116,6 @@ label_destination labels end (Controls c) = refl
 pub no_destination : {I O : Type 0} (labels : List Label) (end : ℕ) (line : Line I O) → jump_label line ≡ None → end ≡ destination_of labels end line
 no_destination labels end line none = rw none at (label_destination labels end line)
 
-pub destination_found : {I O S : Type 0} (places : HashMap (Bor (List ℕ)) ℕ S) (labels : List Label) (end place : ℕ) (label : List ℕ) (line : Line I O) → jump_label line ≡ Some label
+pub destination_found : {I O : Type 0} (places : BTreeMap (Bor (List ℕ)) ℕ) (labels : List Label) (end place : ℕ) (label : List ℕ) (line : Line I O) → jump_label line ≡ Some label
     → place ≡ unwrap_or (found places label) end → Finds places labels → place ≡ destination_of labels end line
 destination_found places labels end place label line some is f = place_found places labels end place label is f ∙ rw some at (label_destination labels end line)

@@ -1,7 +1,9 @@
 -- How the lines behind a head are read.
 use Rattle.std.specs.Prelude.{◌≡◌, ℕ, ◌+◌, List, [], ◌∷◌, ◌++◌, length, Bool, true, false, if◌then◌else◌, All, Option, Some, None, Result, Ok, Err}
 use Rattle.std.specs.Borrow.{Bor}
-use Rattle.std.specs.HashSet.{HashSet, contains_by}
+use Rattle.std.specs.BTreeSet.{BTreeSet, contains_by}
+use Rattle.std.specs.Cmp.Lexicographic.{slice_cmp}
+use Rattle.std.specs.Ordering.{nat_cmp}
 use Rattle.std.specs.List.{list_any}
 use Rattle.std.specs.Str.{bytes_eq}
 use Rattle.pf_isa.specs.declared.code.Line.{Line}
@@ -56,8 +58,8 @@ jumps_of n [] = []
 jumps_of n (s ∷ more) = jump_of (n + 1) s ++ jumps_of (n + 1) more
 
 -- the set has the name
-abbrev pub has_name : {S : Type 0} → HashSet (Bor (List ℕ)) S → List ℕ → Bool
-has_name names name = contains_by (λ key. bytes_eq name key.now) names
+abbrev pub has_name : BTreeSet (Bor (List ℕ)) → List ℕ → Bool
+has_name names name = contains_by (λ key. slice_cmp nat_cmp name key.now) names
 
 -- the first jump whose label has no place, and its line
 pub record IsFirstMissing (has : List ℕ → Bool) (jumps : List Jump) (line : ℕ) : Type 0 where

@@ -12,6 +12,7 @@ pub mod HeadWords
 pub mod Texts
 pub mod TextFaults
 pub mod HeadSteps
+pub mod NodeTokens
 pub mod CodeReading
 pub mod Blocks
 pub mod Runs

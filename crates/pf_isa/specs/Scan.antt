@@ -62,6 +62,15 @@ tight_behind Free line = tight_on true line
 tight_behind Closed line = tight_on false line
 tight_behind Open line = tight_pending line
 
+-- what stands before a byte behind a blank, and behind a byte that is none
+abbrev pub behind_blank : Gap → Gap
+behind_blank Free = Free
+behind_blank Closed = Open
+behind_blank Open = Open
+
+abbrev pub behind_byte : ℕ → Gap
+behind_byte c = if c == 44 then Free else Closed
+
 -- a byte, with the blank that counts before it
 abbrev pub spaced : Gap → ℕ → List ℕ
 spaced Free c = c ∷ []

@@ -260,3 +260,9 @@ abbrev pub IsProgramOr : {I O : Type 0} → Text I O → Result (Text I O) TextF
 IsProgramOr p (Ok q) = q ≡ p
 IsProgramOr p (Err Memory) = Unit {0}
 IsProgramOr p (Err (At at kind)) = ⊥
+
+-- the answer is this fault, or memory was wanting
+abbrev pub IsTextFaultOr : {A : Type 0} → ℕ → TextKind → Result A TextFault → Type 0
+IsTextFaultOr at kind (Ok r) = ⊥
+IsTextFaultOr at kind (Err Memory) = Unit {0}
+IsTextFaultOr at kind (Err (At line other)) = (line ≡ at) × (other ≡ kind)

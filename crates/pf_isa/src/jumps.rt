@@ -5,7 +5,7 @@ use crate::code::Line;
 use crate::control::Control;
 use crate::isa::Isa;
 use pf_ints::Name;
-use std::collections::HashSet;
+use std::collections::BTreeSet;
 
 /// A jump of a text.
 #[derive(Clone, Copy, Debug, PartialEq, Eq)]
@@ -16,7 +16,7 @@ pub struct Jump {
 }
 
 /// The names of labels.
-pub type LabelNames<'a> = HashSet<&'a [u8]>;
+pub type LabelNames<'a> = BTreeSet<&'a [u8]>;
 
 /// The line of the first jump to a label that isn't among these.
 pub fn first_missing(jumps: &[Jump], names: &LabelNames<'_>) -> Option<u64>

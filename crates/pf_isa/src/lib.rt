@@ -22,6 +22,7 @@ mod scan;
 mod so_far;
 mod steps;
 mod target_line;
+mod term_size;
 mod text;
 mod tight;
 mod words;

@@ -18,7 +18,7 @@ use crate::registers::RegFile;
 use crate::steps::{Core, Trap, run_line};
 use pf_ints::{ByteList, Memory, Name, Sequence};
 use std::alloc::Global;
-use std::collections::HashMap;
+use std::collections::BTreeMap;
 use std::marker::Model;
 
 /// A program and the state of the machine that runs it.
@@ -141,7 +141,7 @@ impl<I: Isa> Machine<I> {
 }
 
 /// The number of instructions before each label, by its name.
-type Places<'a> = HashMap<&'a [u8], u64>;
+type Places<'a> = BTreeMap<&'a [u8], u64>;
 
 /// Adds where the label stands, unless a label of its name is there.
 fn add_place<'a>(places: &mut Places<'a>, label: &'a Label) -> Result<(), Memory>
@@ -159,7 +159,7 @@ fn add_place<'a>(places: &mut Places<'a>, label: &'a Label) -> Result<(), Memory
 fn places_of<'a>(alloc: Global, labels: &'a [Label]) -> Result<Places<'a>, Memory>
     ensures { IfOk result (λ places. Finds places labels.now) }
 {
-    let mut places = HashMap::new(alloc);
+    let mut places = BTreeMap::new(alloc);
     for label in labels {
         add_place(&mut places, label)?;
     }

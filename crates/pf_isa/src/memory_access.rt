@@ -1,4 +1,4 @@
-ghost use Rattle.std.specs.Prelude.{◌≡◌, ◌+◌, ◌<◌, ◌≤◌, ◌*◌, ◌^◌, length, slice_index_or, MatchOption, IfSome, Some, None, true, false};
+ghost use Rattle.std.specs.Prelude.{◌≡◌, ◌+◌, ◌-◌, ◌<◌, ◌≤◌, ◌++◌, length, replicate, slice_index_or, MatchOption, IfSome, Some, None, true, false};
 ghost use Rattle.pf_isa.specs.Bytes.{number, bytes};
 ghost use Rattle.pf_isa.specs.Memory.{holds, readable, writable, nowhere, loaded, stored};
 ghost use Rattle.pf_isa.specs.Spans.{Spans};
@@ -73,29 +73,26 @@ pub fn store(regions: &mut [Region], address: u64, new: &[u8]) -> bool
 /// The number of at most eight bytes, the lowest first.
 pub fn number_of(held: &[u8]) -> u64
     requires { length held.now ≤ 8 }
-    ensures value { result ≡ number held.now }
-    ensures small { result < 256 ^ length held.now }
+    ensures { result ≡ number held.now }
 {
-    match held {
-        [lowest, rest @ ..] => u64::from(*lowest) + 256 * number_of(rest),
-        [] => 0,
-    }
+    u64::from_le_bytes(widened(held))
+}
+
+/// The bytes, and zeros behind them.
+fn widened(held: &[u8]) -> [u8; 8]
+    requires { length held.now ≤ 8 }
+    ensures { result ≡ held.now ++ replicate (8 - length held.now) 0 }
+{
+    let mut all = [0; 8];
+    all[..held.len()].copy_from_slice(held);
+    all
 }
 
 /// The eight bytes of a number, the lowest first.
 pub fn bytes_of(n: u64) -> [u8; 8]
     ensures { result ≡ bytes 8 n }
 {
-    [
-        (n % 256) as u8,
-        (n / 256 % 256) as u8,
-        (n / 256 / 256 % 256) as u8,
-        (n / 256 / 256 / 256 % 256) as u8,
-        (n / 256 / 256 / 256 / 256 % 256) as u8,
-        (n / 256 / 256 / 256 / 256 / 256 % 256) as u8,
-        (n / 256 / 256 / 256 / 256 / 256 / 256 % 256) as u8,
-        (n / 256 / 256 / 256 / 256 / 256 / 256 / 256 % 256) as u8,
-    ]
+    n.to_le_bytes()
 }
 
 /// Writes the lowest bytes of the number, at most eight, as `store` writes them.

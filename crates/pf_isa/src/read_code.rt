@@ -4,9 +4,10 @@ ghost use Rattle.pf_ints.specs.Words.{is_name};
 ghost use Rattle.pf_isa.specs.declared.code.Label.{Label};
 ghost use Rattle.pf_isa.specs.declared.code.Line.{Line};
 ghost use Rattle.pf_isa.specs.declared.fault.TextFault.TheVariants.{At};
+ghost use Rattle.pf_isa.specs.declared.fault.TextKind.{TextKind};
 ghost use Rattle.pf_isa.specs.Programs.{IsLast};
 ghost use Rattle.pf_isa.specs.Texts.{Said, Does, IsCodeText};
-ghost use Rattle.pf_isa.specs.TextFaults.{texts, IsKnown, IsCodeRefusal, IsCodeOr};
+ghost use Rattle.pf_isa.specs.TextFaults.{texts, IsKnown, IsCodeFaultAt, IsCodeRefusal, IsCodeOr, IsTextFaultOr};
 ghost use Rattle.pf_isa.specs.CodeReading.{AddsLabel, AddsInstruction, TakesLine, IsReading, IsLineRefusal};
 
 use crate::code::{Code, Label, LabelList, Line};
@@ -17,7 +18,7 @@ use crate::isa::Isa;
 use crate::jumps::{Jump, LabelNames, first_missing, jump_label};
 use pf_ints::{Name, Sequence};
 use std::alloc::Global;
-use std::collections::HashSet;
+use std::collections::BTreeSet;
 
 /// What the lines so far say.
 #[derive(Drop)]
@@ -38,6 +39,7 @@ pub fn read_code<I: Isa>(
     ensures says { IfOk result (λ r. IsCodeText I.table I.is_op (drop start (texts lines.now)) r.0 r.1) }
     ensures only { (code : List (Line I I.Op)) (labels : List Label) → IsCodeText I.table I.is_op (drop start (texts lines.now)) code labels → IsCodeOr code labels result }
     ensures fault { IfErr result (IsCodeRefusal I I.table I.is_op start (drop start (texts lines.now))) }
+    ensures told { (at : ℕ) (kind : TextKind) → IsCodeFaultAt I I.table I.is_op start (drop start (texts lines.now)) at kind → IsTextFaultOr at kind result }
 {
     read_whole_code(alloc, lines, start)
 }
@@ -74,7 +76,7 @@ fn read_lines<'a, I: Isa>(
     let mut reading = Reading {
         code: Sequence::new(alloc),
         labels: Sequence::new(alloc),
-        names: HashSet::new(alloc),
+        names: BTreeSet::new(alloc),
         jumps: Vec::new(alloc),
     };
     for (n, line) in lines[start..].iter().enumerate() {

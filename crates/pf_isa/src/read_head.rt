@@ -1,9 +1,10 @@
 ghost use Rattle.std.specs.Prelude.{◌≡◌, ◌+◌, ◌<◌, ◌≤◌, ◌^◌, ℕ, List, ◌++◌, length, take, IfOk, IfErr};
+ghost use Rattle.pf_isa.specs.declared.fault.TextKind.{TextKind};
 ghost use Rattle.pf_isa.specs.declared.program.Head.{Head};
 ghost use Rattle.pf_isa.specs.Heads.{IsHead};
 ghost use Rattle.pf_isa.specs.HeadSteps.{IsReached, IsWholeFrom, IsStopped, whole};
 ghost use Rattle.pf_isa.specs.Texts.{IsHeadText};
-ghost use Rattle.pf_isa.specs.TextFaults.{texts, GoOn, IsHeadRefusal, IsHeadOr};
+ghost use Rattle.pf_isa.specs.TextFaults.{texts, SoFar, GoOn, Stops, IsHeadFaultAt, IsHeadRefusal, IsHeadOr, IsTextFaultOr};
 
 use crate::fault::{TextFault, TextKind};
 use crate::program::Head;
@@ -19,6 +20,7 @@ pub fn read_head(alloc: Global, target: Target, lines: &[&[u8]]) -> Result<(Head
     ensures kept { IfOk result (λ r. IsHead r.0) }
     ensures only { (h : Head) (front back : List (List ℕ)) → texts lines.now ≡ front ++ back → IsHeadText target front h → IsHead h → IsHeadOr h (length front) result }
     ensures fault { IfErr result (IsHeadRefusal target (texts lines.now)) }
+    ensures told { (at : ℕ) (kind : TextKind) → IsHeadFaultAt target (texts lines.now) at kind → IsTextFaultOr at kind result }
 {
     let [first, rest @ ..] = lines else {
         return Err(no_target());
@@ -50,6 +52,7 @@ fn read_rest(
     ensures whole { IfOk result (λ r. IsWholeFrom so_far (texts lines.now) n r.0 r.1) }
     ensures only { (h : Head) (front back : List (List ℕ)) → texts lines.now ≡ front ++ back → GoOn so_far front (whole h) → IsHeadOr h (n + length front) result }
     ensures fault { IfErr result (IsStopped so_far (texts lines.now) n) }
+    ensures told { (front rest : List (List ℕ)) (end : SoFar) → texts lines.now ≡ front ++ rest → GoOn so_far front end → Stops end rest → IsTextFaultOr (n + length front + 1) TextKind.Directive result }
 {
     if so_far.is_whole() {
         return Ok((so_far.into_head(), n));

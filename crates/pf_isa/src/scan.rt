@@ -10,15 +10,7 @@ use pf_ints::{is_digit, is_name};
 pub fn behind<'a>(word: &[u8], text: &'a [u8]) -> Option<&'a [u8]>
     ensures { MatchOption result (behind word.now text.now ≡ None) (λ rest. behind word.now text.now ≡ Some rest.now) }
 {
-    if text.len() < word.len() {
-        return None;
-    }
-    for (i, byte) in word.iter().enumerate() {
-        if text[i] != *byte {
-            return None;
-        }
-    }
-    Some(&text[word.len()..])
+    text.strip_prefix(word)
 }
 
 /// The digits that the text begins with, and what follows them.

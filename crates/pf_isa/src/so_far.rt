@@ -1,5 +1,5 @@
 ghost use Rattle.std.specs.Prelude.{◌≡◌, ◌≢◌, ◌<◌, ◌≤◌, ◌+◌, ◌↔◌, [], ◌∷◌, length, map, true, IsTrue, IfOk, IfSome, Contains, codes};
-ghost use Rattle.std.specs.List.{position};
+ghost use Rattle.std.specs.List.{list_any, position};
 ghost use Rattle.std.specs.Str.{bytes_eq};
 ghost use Rattle.pf_ints.specs.Images.{IsPixelType};
 ghost use Rattle.pf_terms.specs.declared.meaning.ReadFault.TheVariants.{Memory as Refused};
@@ -15,6 +15,7 @@ ghost use Rattle.pf_isa.specs.declared.so_far.Stage.TheVariants.{Declarations, L
 
 use crate::head_words::{cost_of, image_of, lifted_of, out_of, scratch_of, tap_of};
 use crate::program::Head;
+use crate::term_size::fewest_nodes;
 use crate::tight::tight_line;
 use crate::words::words_of;
 use pf_ints::{Bits, LaneType, Memory, Name, Sequence};
@@ -23,6 +24,9 @@ use pf_terms::{
 };
 use std::alloc::{AllocError, Global};
 use std::marker::Model;
+
+/// The most nodes that the lifted terms of a head have in all.
+const MOST_NODES: usize = 1536;
 
 /// What may come next in a text.
 #[derive(Clone, Copy, Debug, PartialEq, Eq)]
@@ -401,6 +405,10 @@ fn definition_of(
     ensures found { IfOk result (IsTheOne (IsDefinitionOf names.old name.now ty text.now before)) }
     ensures kept { IfOk result (λ found. IfSome found (λ d. names.new ≡ names.old)) }
 {
+    // Such a text is refused before a tree is made of it, which may be too deep to walk.
+    if MOST_NODES < fewest_nodes(alloc, text)? {
+        return Ok(None);
+    }
     let term = match lifted_term(alloc, text, names)? {
         Some(term) => term,
         None => return Ok(None),
@@ -457,34 +465,21 @@ fn stated_type(term: &Term) -> LaneType
 }
 
 fn has_image(images: &[ImageDecl], name: &[u8]) -> bool
-    ensures { IsTrue result ↔ Contains (map (λ d. d.name) images.now) name.now }
+    ensures { result ≡ list_any (λ d. bytes_eq d.name name.now) images.now }
 {
-    for image in images {
-        if image.name.as_slice() == name {
-            return true;
-        }
-    }
-    false
+    images.iter().any(|image| image.name.as_slice() == name)
 }
 
 fn has_lifted(lifted: &[Definition], name: &[u8]) -> bool
-    ensures { IsTrue result ↔ Contains (map (λ d. d.name) lifted.now) name.now }
+    ensures { result ≡ list_any (λ d. bytes_eq d.name name.now) lifted.now }
 {
-    for definition in lifted {
-        if definition.name.as_slice() == name {
-            return true;
-        }
-    }
-    false
+    lifted
+        .iter()
+        .any(|definition| definition.name.as_slice() == name)
 }
 
 fn has_tap(taps: &[Tap], tap: Tap) -> bool
     ensures { IsTrue result ↔ Contains taps.now tap }
 {
-    for other in taps {
-        if *other == tap {
-            return true;
-        }
-    }
-    false
+    taps.contains(&tap)
 }

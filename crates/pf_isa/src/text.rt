@@ -1,9 +1,10 @@
-ghost use Rattle.std.specs.Prelude.{◌≡◌, List, ◌++◌, IfOk, IfErr, MatchOption};
+ghost use Rattle.std.specs.Prelude.{◌≡◌, ℕ, List, ◌++◌, IfOk, IfErr, MatchOption};
 ghost use Rattle.std.specs.Str.Lines.{lines};
 ghost use Rattle.pf_ints.specs.declared.target.Target.{Target};
+ghost use Rattle.pf_isa.specs.declared.fault.TextKind.{TextKind};
 ghost use Rattle.pf_isa.specs.Programs.{Text};
 ghost use Rattle.pf_isa.specs.Texts.{IsText, head_lines, code_lines, printed};
-ghost use Rattle.pf_isa.specs.TextFaults.{IsTextRefusal, IsProgramOr, IsFor};
+ghost use Rattle.pf_isa.specs.TextFaults.{IsTextFault, IsTextFaultOr, IsTextRefusal, IsProgramOr, IsFor};
 
 use crate::fault::TextFault;
 use crate::isa::Isa;
@@ -33,8 +34,10 @@ pub fn read_text<I: Isa>(alloc: Global, text: &[u8]) -> Result<Program<I>, TextF
     ensures found { IfOk result (λ p. IsText I.table I.is_op text.now p) }
     // What a text means is read, unless memory runs out.
     ensures only { (p : Text I I.Op) → IsText I.table I.is_op text.now p → IsProgramOr p result }
-    // The first fault of another text is told.
+    // What is told is the text's first fault, or want of memory.
     ensures fault { IfErr result (IsTextRefusal I I.table I.is_op text.now) }
+    // The first fault of a text is told, unless memory runs out.
+    ensures told { (line : ℕ) (kind : TextKind) → IsTextFault I I.table I.is_op text.now line kind → IsTextFaultOr line kind result }
 {
     let lines = lines_of(alloc, text)?;
     let (head, start) = read_head(alloc, I::TARGET, lines.as_slice())?;

@@ -1,7 +1,7 @@
 ghost use Rattle.std.specs.Prelude.{◌≡◌, ◌+◌, ◌<◌, ◌≤◌, ◌++◌, [], ◌∷◌, length, IfOk, OnOk, MatchOption, IsTrue, ◌↔◌};
 ghost use Rattle.std.specs.Fmt.{decimal};
 ghost use Rattle.pf_isa.specs.Lines.{tight, is_blank};
-ghost use Rattle.pf_isa.specs.Scan.{spaced};
+ghost use Rattle.pf_isa.specs.Scan.{spaced, behind_blank, behind_byte};
 
 use itoa::Buffer;
 use std::alloc::{AllocError, Global};
@@ -114,6 +114,23 @@ pub fn is_blank(byte: u8) -> bool
     byte == b' ' || byte == b'\t'
 }
 
+/// The gap with a blank behind it.
+fn behind_blank(gap: Gap) -> Gap
+    ensures { result ≡ behind_blank gap }
+{
+    match gap {
+        Gap::Free => Gap::Free,
+        Gap::Closed | Gap::Open => Gap::Open,
+    }
+}
+
+/// The gap behind a byte that is no blank.
+fn behind_byte(byte: u8) -> Gap
+    ensures { result ≡ behind_byte byte }
+{
+    if byte == b',' { Gap::Free } else { Gap::Closed }
+}
+
 fn placed(line: ShortLine, gap: Gap, byte: u8) -> Option<ShortLine>
     ensures { MatchOption result (80 < length line + length (spaced gap byte)) (λ l. l ≡ line ++ spaced gap byte) }
 {
@@ -133,17 +150,10 @@ pub fn tighten(line: &[u8]) -> Option<ShortLine>
     let mut tight = ShortLine::new();
     for byte in line {
         if is_blank(*byte) {
-            gap = match gap {
-                Gap::Free => Gap::Free,
-                Gap::Closed | Gap::Open => Gap::Open,
-            };
+            gap = behind_blank(gap);
         } else {
             tight = placed(tight, gap, *byte)?;
-            gap = if *byte == b',' {
-                Gap::Free
-            } else {
-                Gap::Closed
-            };
+            gap = behind_byte(*byte);
         }
     }
     Some(tight)
@@ -158,17 +168,10 @@ pub fn tight_line(alloc: Global, line: &[u8]) -> Result<Vec<u8>, AllocError>
     let mut tight = Vec::new(alloc);
     for byte in line {
         if is_blank(*byte) {
-            gap = match gap {
-                Gap::Free => Gap::Free,
-                Gap::Closed | Gap::Open => Gap::Open,
-            };
+            gap = behind_blank(gap);
         } else {
             push_placed(&mut tight, gap, *byte)?;
-            gap = if *byte == b',' {
-                Gap::Free
-            } else {
-                Gap::Closed
-            };
+            gap = behind_byte(*byte);
         }
     }
     Ok(tight)

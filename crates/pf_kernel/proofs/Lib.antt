@@ -6,6 +6,7 @@ pub mod Turns
 pub mod Comments
 pub mod LineLaws
 pub mod Once
+pub mod OneFault
 pub mod Naming
 pub mod Steps
 pub mod Answering
@@ -20,3 +21,4 @@ pub mod WrittenBytes
 pub mod WrittenLines
 pub mod WrittenTokens
 pub mod WrittenKernels
+mod Reaching

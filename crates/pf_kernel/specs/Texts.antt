@@ -51,6 +51,12 @@ IsKernelOr k (Ok j) = j ≡ k
 IsKernelOr k (Err Memory) = Unit {0}
 IsKernelOr k (Err _) = ⊥
 
+-- the answer is this fault, or memory was wanting
+abbrev pub IsKernelFaultOr : KernelFault → Result Meaning KernelFault → Type 0
+IsKernelFaultOr fault (Ok k) = ⊥
+IsKernelFaultOr fault (Err Memory) = Unit {0}
+IsKernelFaultOr fault (Err told) = told ≡ fault
+
 -- what a refusal says of the text
 abbrev pub IsRefusal : List ℕ → KernelFault → Type 0
 IsRefusal bytes Memory = Unit {0}

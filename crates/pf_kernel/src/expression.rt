@@ -1,11 +1,11 @@
-ghost use Rattle.std.specs.Prelude.{◌≡◌, ◌+◌, ◌≤◌, ◌-◌, ◌^◌, ◌<◌, min, true, false, not, length, IfOk, IfErr, OnOk, Ok, Err, Some, None, slice_index_or};
+ghost use Rattle.std.specs.Prelude.{◌≡◌, ◌+◌, ◌≤◌, ◌-◌, ◌^◌, ◌<◌, ◌∷◌, [], min, true, false, not, length, IfOk, IfErr, OnOk, Ok, Err, Some, None, slice_index_or};
 ghost use Rattle.pf_terms.specs.declared.limit.LimitKind.TheVariants.{Definitions, Depth, Nodes};
 ghost use Rattle.pf_terms.specs.declared.draft.Draft.{Draft};
 ghost use Rattle.pf_terms.specs.declared.meaning.ReadFault.TheVariants.{Limit, Memory};
 ghost use Rattle.pf_terms.specs.declared.term.Term.{Term};
 ghost use Rattle.pf_terms.specs.Drafts.{IsDraftText};
 ghost use Rattle.pf_terms.specs.KernelNames.{IsNames};
-ghost use Rattle.pf_terms.specs.Meanings.{IsReadFault, in_order, def_number, image_number, IsTermOr, IsTermText, first_some, names_after, term_of};
+ghost use Rattle.pf_terms.specs.Meanings.{IsReadFault, def_number, image_number, IsTermOr, IsTermText, first_some, names_after, term_of};
 ghost use Rattle.pf_terms.specs.Terms.{stated_type, same_type, node_count, depth_of, result_type, typed_as, doubled};
 ghost use Rattle.pf_terms.specs.TermTexts.{no_image, no_def};
 ghost use Rattle.pf_kernel.specs.Expressions.{Judges, JudgesTerm, Tells, IsRefused, draft_type, term_fault, limit_fault, defs_before};
@@ -17,7 +17,7 @@ use pf_terms::{
     DefName, Draft, Gives, ImageName, LimitKind, Names, ReadFault, Term, depth, nodes, read_draft,
     read_term,
 };
-use std::alloc::{AllocError, Global};
+use std::alloc::Global;
 
 // How many definitions a kernel may have, how deep a term may be, and how many nodes all terms may
 // have.
@@ -174,10 +174,7 @@ fn limit_told(
     let Ok(draft) = read_draft(alloc, text) else {
         return ReadFault::Memory;
     };
-    match draft_type(alloc, names, &draft) {
-        Ok(got) => limit_fault(by.ty, got, by.defs, what, count),
-        Err(_) => ReadFault::Memory,
-    }
+    limit_fault(by.ty, draft_type(names, &draft), by.defs, what, count)
 }
 
 #[tactic(auto, unfolding(crate::specs::Expressions::limit_fault))]
@@ -200,14 +197,15 @@ fn defs_before(what: LimitKind, defs: usize) -> Option<ReadFault>
     }
 }
 
-// The type that an expression has by its outermost operator.
-fn draft_type(alloc: Global, names: &Names, draft: &Draft) -> Result<LaneType, AllocError>
-    ensures { IfOk result (λ t. t ≡ draft_type names.now draft.now) }
+// The type that an expression has by its outermost operator. It goes down one operand alone, and
+// needs little of the stack at each, since a chain of operators without brackets is deep.
+fn draft_type(names: &Names, draft: &Draft) -> LaneType
+    ensures { result ≡ draft_type names.now draft.now }
 {
     match draft {
-        Draft::Number(_, ty) => Ok(*ty),
-        Draft::Named(name) => Ok(def_type(names.defs.as_slice(), name)),
-        Draft::Placed(name, ..) => Ok(image_type(names.images.as_slice(), name)),
+        Draft::Number(_, ty) => *ty,
+        Draft::Named(name) => def_type(names.defs.as_slice(), name),
+        Draft::Placed(name, ..) => image_type(names.images.as_slice(), name),
         Draft::Node {
             op,
             less,
@@ -215,22 +213,29 @@ fn draft_type(alloc: Global, names: &Names, draft: &Draft) -> Result<LaneType, A
             args,
             ..
         } => {
-            let mut types = Vec::new(alloc);
-            for arg in args.as_slice() {
-                types.push(draft_type(alloc, names, arg)?)?;
+            let stated = ty.unwrap_or(NO_TYPE);
+            match (op.gives(), *less, args.as_slice()) {
+                (Gives::Third, _, [_, _, x, ..]) => draft_type(names, x),
+                (Gives::Third, _, _) => stated,
+                (gives, true, [_, x, ..]) => given(gives, stated, draft_type(names, x)),
+                (gives, _, [x, ..]) => given(gives, stated, draft_type(names, x)),
+                _ => stated,
             }
-            put_in_order(*less, types.as_mut_slice());
-            Ok(result_type(op.gives(), ty.unwrap_or(NO_TYPE), types.as_slice()))
         }
     }
 }
 
-// Operands that are compared by `<` change places.
-fn put_in_order(less: bool, types: &mut [LaneType])
-    ensures { types.new ≡ in_order less types.old }
+// The type of the result, by the stated type and that of the operand that gives it.
+fn given(gives: Gives, ty: LaneType, x: LaneType) -> LaneType
+    ensures { result ≡ result_type gives ty (x ∷ x ∷ x ∷ []) }
 {
-    if less && 2 <= types.len() {
-        types.swap(0, 1);
+    match gives {
+        Gives::Stated => ty,
+        Gives::First => x,
+        Gives::Unsigned => of_bits(false, x.bits),
+        Gives::Twice => of_bits(x.signed, doubled(x.bits)),
+        Gives::SignedTwice => of_bits(true, doubled(x.bits)),
+        Gives::Third => x,
     }
 }
 
@@ -261,19 +266,6 @@ fn image_type(images: &[ImageName], name: &Name) -> LaneType
                 image_type(rest, name)
             }
         }
-    }
-}
-
-fn result_type(gives: Gives, ty: LaneType, types: &[LaneType]) -> LaneType
-    ensures { result ≡ result_type gives ty types.now }
-{
-    match (gives, types) {
-        (Gives::First, [x, ..]) => *x,
-        (Gives::Unsigned, [x, ..]) => of_bits(false, x.bits),
-        (Gives::Twice, [x, ..]) => of_bits(x.signed, doubled(x.bits)),
-        (Gives::SignedTwice, [x, ..]) => of_bits(true, doubled(x.bits)),
-        (Gives::Third, [_, _, x, ..]) => *x,
-        _ => ty,
     }
 }
 

@@ -1,12 +1,13 @@
 ghost use Rattle.std.specs.Prelude.{◌≡◌, ◌+◌, ◌∷◌, [], ◌++◌, ◌<◌, ◌≤◌, ◌^◌, length, IfOk, IfErr, MatchOption, IfSome, pos, Some, None, ◌==◌, List, ℕ};
 ghost use Rattle.std.specs.Str.Lines.{lines};
 ghost use Rattle.pf_terms.specs.declared.limit.LimitKind.TheVariants.{Bytes};
+ghost use Rattle.pf_kernel.specs.declared.fault.KernelFault.{KernelFault};
 ghost use Rattle.pf_kernel.specs.declared.fault.KernelFault.TheVariants.{Limit};
 ghost use Rattle.pf_kernel.specs.Kernels.{Meaning};
 ghost use Rattle.pf_kernel.specs.Lines.{Begun, Said, IsRead, AreRead, nothing, with_said};
 ghost use Rattle.pf_kernel.specs.Readings.{begun_of, IsReading};
 ghost use Rattle.pf_kernel.specs.Reads.{AnswersNext, IsNextOr, IsSoFar, IsAllOr, Finishes};
-ghost use Rattle.pf_kernel.specs.Texts.{IsKernel, IsKernelOr, IsRefusal, at_line, all_of, byte_limit};
+ghost use Rattle.pf_kernel.specs.Texts.{IsKernel, IsKernelOr, IsKernelFault, IsKernelFaultOr, IsRefusal, at_line, all_of, byte_limit};
 
 use crate::fault::KernelFault;
 use crate::kernel::Kernel;
@@ -27,8 +28,10 @@ pub fn read_kernel(alloc: Global, text: &[u8]) -> Result<Kernel, KernelFault>
     ensures found { IfOk result (λ k. IsKernel text.now k) }
     // The kernel of a text is read, unless memory runs out.
     ensures only { (k : Meaning) → IsKernel text.now k → IsKernelOr k result }
-    // The first fault of another text is told.
+    // What is told is the text's first fault, or want of memory.
     ensures fault { IfErr result (IsRefusal text.now) }
+    // The first fault of a text is told, unless memory runs out.
+    ensures told { (fault : KernelFault) → IsKernelFault text.now fault → IsKernelFaultOr fault result }
 {
     if MOST_BYTES < text.len() {
         return Err(too_long(text.len()));

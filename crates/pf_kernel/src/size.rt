@@ -44,24 +44,30 @@ fn offset_of(tap: Tap, axis: Axis) -> i64
     }
 }
 
+// The least of 0 and all offsets. A loop: clang 22 drops the 0 of a recursive minimum.
+#[tactic(auto, using(crate::proofs::Reaching::least_start, crate::proofs::Reaching::least_step, crate::proofs::Reaching::least_near))]
 fn lowest(taps: &[Tap], axis: Axis) -> i64
     ensures value { result ≡ lowest (map (offset_of axis) taps.now) }
     ensures near { IsOffset result }
     ensures sign { result ≤ℤ pos 0 }
 {
-    match taps {
-        [] => 0,
-        [tap, rest @ ..] => offset_of(*tap, axis).min(lowest(rest, axis)),
+    let mut least = 0;
+    for tap in taps {
+        least = offset_of(*tap, axis).min(least);
     }
+    least
 }
 
+// The greatest of 0 and all offsets.
+#[tactic(auto, using(crate::proofs::Reaching::most_start, crate::proofs::Reaching::most_step, crate::proofs::Reaching::most_near))]
 fn highest(taps: &[Tap], axis: Axis) -> i64
     ensures value { result ≡ highest (map (offset_of axis) taps.now) }
     ensures near { IsOffset result }
     ensures sign { pos 0 ≤ℤ result }
 {
-    match taps {
-        [] => 0,
-        [tap, rest @ ..] => offset_of(*tap, axis).max(highest(rest, axis)),
+    let mut most = 0;
+    for tap in taps {
+        most = offset_of(*tap, axis).max(most);
     }
+    most
 }

@@ -204,6 +204,32 @@ fn tells_where_a_head_is_cut(rt: HostRuntime) -> Result<(), Fail> {
     Ok(())
 }
 
+/// A head up to its lifted term, which adds up the pixel this often, and the lines behind it.
+fn long_term(alloc: Global, operands: u64) -> Result<Vec<u8>, Memory> {
+    let front =
+        b".target neon\n.image a u8 0 255\n.tap a 0 0\n.out u8\n.scratch 192\n.lifted out u8 = 0u8";
+    let mut text = Vec::from_slice(alloc, front)?;
+    for _ in 0..operands {
+        text.extend_from_slice(b"+a[0,0]")?;
+    }
+    text.extend_from_slice(b"\n.cost 0\nret\n")?;
+    Ok(text)
+}
+
+#[test]
+fn refuses_long_terms(rt: HostRuntime) -> Result<(), Fail> {
+    for operands in [1600, 50000] {
+        let text = long_term(rt.alloc(), operands)?;
+        let fault = read_text::<Neon>(rt.alloc(), text.as_slice()).err();
+        let wanted = TextFault::At {
+            line: 6,
+            kind: TextKind::Directive,
+        };
+        assert!(rt; fault == Some(wanted));
+    }
+    Ok(())
+}
+
 #[test]
 fn tells_the_target(rt: HostRuntime) {
     assert!(rt; target_of(HEAD) == Some(Target::Neon));

@@ -8,6 +8,7 @@ pub mod NodeRanges
 pub mod TermRanges
 pub mod Evaluating
 pub mod Lexing
+pub mod Chains
 pub mod Complete
 pub mod Sound
 pub mod Viable
@@ -24,6 +25,7 @@ pub mod DraftForms
 pub mod TermUses
 pub mod TermNames
 pub mod Meant
+pub mod OneFault
 pub mod ReadBackTexts
 pub mod ReadBackWords
 pub mod ReadBackNodes

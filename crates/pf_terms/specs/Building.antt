@@ -1,7 +1,9 @@
 -- What the steps between a draft and its term say.
-use Rattle.std.specs.Prelude.{◌≡◌, ℕ, pos, Bool, true, ◌&&◌, ◌||◌, not, nat_le, unsigned_abs, List, length, zero, suc, Result, Ok, Err}
+use Rattle.std.specs.Prelude.{◌≡◌, ℕ, ◌<◌, ℤ, pos, Bool, true, false, ◌&&◌, ◌||◌, not, nat_le, unsigned_abs, List, length, slice_index_or, zero, suc, Option, Result, Ok, Err}
 use Rattle.pf_ints.specs.declared.lane.LaneType.{LaneType}
+use Rattle.pf_ints.specs.Lanes.{is_in}
 use Rattle.pf_terms.specs.declared.draft.Draft.{Draft}
+use Rattle.pf_terms.specs.declared.draft.Draft.TheVariants.{Node as NodeDraft}
 use Rattle.pf_terms.specs.declared.draft.Draft.TheOpen.{Draft-F}
 use Rattle.pf_terms.specs.declared.draft.Draft.TheOpen.Draft-F.{Number, Named, Placed, Node}
 use Rattle.pf_terms.specs.declared.draft.Draft.TheFolds.{fold-Draft}
@@ -13,12 +15,12 @@ use Rattle.pf_terms.specs.declared.resolve.NodeFault.{NodeFault}
 use Rattle.pf_terms.specs.declared.resolve.NodeFault.TheVariants.{Types, Amount, Memory}
 use Rattle.pf_terms.specs.declared.names.Names.{Names}
 use Rattle.pf_terms.specs.declared.names.Tap.{Tap}
+use Rattle.pf_terms.specs.declared.op.Op.{Op}
 use Rattle.pf_terms.specs.declared.term.Term.{Term}
 use Rattle.pf_terms.specs.KernelNames.{IsNear}
-use Rattle.pf_terms.specs.Meanings.{IsMeaningFault}
+use Rattle.pf_terms.specs.Meanings.{IsMeaningFault, term_of}
 use Rattle.pf_terms.specs.Operators.{row_of}
-use Rattle.pf_ints.specs.Lanes.{is_in}
-use Rattle.pf_terms.specs.Terms.{all_true, is_formed_node, stated_type}
+use Rattle.pf_terms.specs.Terms.{all_true, is_formed_node, stated_type, typing}
 
 abbrev pub formed_draft_step : Draft-F Bool → Bool
 formed_draft_step (Number n t) = is_in t n
@@ -39,6 +41,32 @@ place_in_order _ n = n
 -- the names with other taps
 abbrev pub with_these : Names → List Tap → Names
 with_these names taps = record names { taps = taps }
+
+-- the draft is no node
+abbrev pub leaf_step : Draft-F Bool → Bool
+leaf_step (Node op less ty k args) = false
+leaf_step _ = true
+
+abbrev pub IsLeaf : Draft → Type 0
+IsLeaf d = fold-Draft Bool leaf_step d ≡ true
+
+-- the first operand of the term that the node is read as
+pub record IsFirst (node first : Draft) : Type 0 where
+  pub op : Op
+  pub less : Bool
+  pub ty : Option LaneType
+  pub k : ℤ
+  pub args : List Draft
+  pub is : node ≡ NodeDraft op less ty k args
+  pub some : 0 < length args
+  pub at : first ≡ slice_index_or args (place_in_order less 0) first
+
+-- the term is that of the node's first operand, which has its type
+pub record IsResolvedFirst (names : Names) (taps : List Tap) (node : Draft) (t : Term) : Type 0 where
+  pub draft : Draft
+  pub first : IsFirst node draft
+  pub made : t ≡ term_of (with_these names taps) draft
+  pub typed : (others : List Tap) → typing (term_of (with_these names others) draft) ≡ Ok (stated_type t)
 
 -- offsets that a tap may have
 pub record HasNearOffsets (t : Tap) : Type 0 where

@@ -165,3 +165,9 @@ abbrev pub IsTermOr : Term → Names → Result Term ReadFault → Names → Typ
 IsTermOr t after (Ok u) now = (u ≡ t) × (now ≡ after)
 IsTermOr t after (Err Memory) now = Unit {0}
 IsTermOr t after (Err _) now = ⊥
+
+-- the answer is this fault, or memory was wanting
+abbrev pub IsReadFaultOr : ReadFault → Result Term ReadFault → Type 0
+IsReadFaultOr fault (Ok t) = ⊥
+IsReadFaultOr fault (Err Memory) = Unit {0}
+IsReadFaultOr fault (Err told) = told ≡ fault

@@ -1,4 +1,4 @@
-ghost use Rattle.std.specs.Prelude.{◌≡◌, ◌≤◌, ◌<◌, length, IfSome};
+ghost use Rattle.std.specs.Prelude.{◌≡◌, ◌≤◌, ◌<◌, length, IfSome, option_copied};
 ghost use Rattle.std.specs.List.{position};
 ghost use Rattle.std.specs.Str.{bytes_eq};
 ghost use Rattle.pf_terms.specs.Meanings.{image_number, def_number, is_image, is_def, first_unknown, first_far, is_near};
@@ -63,25 +63,32 @@ pub fn is_def(defs: &DefNames, name: &Name) -> bool
 pub fn first_unknown(draft: &Draft, names: &Names) -> Option<Name>
     ensures { result ≡ first_unknown names.now draft.now }
 {
+    unknown_name(draft, names).copied()
+}
+
+// A name is lent, since each node of a long chain has one on the stack.
+fn unknown_name<'a>(draft: &'a Draft, names: &Names) -> Option<&'a Name>
+    ensures { option_copied result ≡ first_unknown names.now draft.now }
+{
     match draft {
         Draft::Number(..) => None,
         Draft::Named(name) => {
             if is_def(&names.defs, name) {
                 None
             } else {
-                Some(*name)
+                Some(name)
             }
         }
         Draft::Placed(name, ..) => {
             if is_image(&names.images, name) {
                 None
             } else {
-                Some(*name)
+                Some(name)
             }
         }
         Draft::Node { args, .. } => {
             for arg in args.as_slice() {
-                if let Some(name) = first_unknown(arg, names) {
+                if let Some(name) = unknown_name(arg, names) {
                     return Some(name);
                 }
             }

@@ -1,9 +1,10 @@
-ghost use Rattle.std.specs.Prelude.{◌≡◌, ◌≤◌, ◌+◌, length, true, IfOk, IfErr, OnOk, OnErr};
+ghost use Rattle.std.specs.Prelude.{◌≡◌, ◌≢◌, ◌≤◌, ◌+◌, length, true, IfOk, IfErr, OnOk, OnErr};
+ghost use Rattle.pf_terms.specs.declared.meaning.ReadFault.{ReadFault};
 ghost use Rattle.pf_terms.specs.declared.names.Names.{Names};
 ghost use Rattle.pf_terms.specs.declared.term.Term.{Term};
 ghost use Rattle.pf_terms.specs.Building.{is_formed_draft, IsFaultOrMemory};
 ghost use Rattle.pf_terms.specs.KernelNames.{IsNames};
-ghost use Rattle.pf_terms.specs.Meanings.{IsTermText, IsTermOr, IsReadFault, Means, names_after};
+ghost use Rattle.pf_terms.specs.Meanings.{IsTermText, IsTermOr, IsReadFault, IsReadFaultOr, Means, names_after};
 ghost use Rattle.pf_terms.specs.Terms.{IsWellTyped, depth_of};
 ghost use Rattle.pf_terms.specs.TermTexts.{is_named, term_text};
 
@@ -88,8 +89,10 @@ pub fn read_term(alloc: Global, text: &[u8], names: &mut Names) -> Result<Term, 
     ensures only { (t : Term) (after : Names) → IsTermText names.old text.now t after → IsTermOr t after result names.new }
     // What was printed of a term is read as the term, and no name is new.
     ensures back { (t : Term) → IsWellTyped t → is_named names.old t ≡ true → depth_of t ≤ 1024 → text.now ≡ term_text names.old t → IsTermOr t names.old result names.new }
-    // The first fault of another text is told.
+    // What is told is the text's first fault, or want of memory.
     ensures fault { IfErr result (IsReadFault names.old text.now) }
+    // The first fault of a text is told, unless memory runs out.
+    ensures told { (fault : ReadFault) → fault ≢ ReadFault.Memory → IsReadFault names.old text.now fault → IsReadFaultOr fault result }
     ensures kept { OnErr result (names.new ≡ names.old) }
     ensures typed { IfOk result IsWellTyped }
     ensures named { IfOk result (λ t. is_named names.new t ≡ true) }

@@ -2,7 +2,10 @@ ghost use Rattle.std.specs.Prelude.{◌≡◌, IfOk};
 ghost use Rattle.pf_terms.specs.KernelNames.{IsNames};
 
 use crate::tests::in_brackets;
-use crate::{DefName, ImageName, LimitKind, Names, ReadFault, Tap, TapList, print_term, read_term};
+use crate::{
+    DefName, ImageName, LimitKind, Names, ReadFault, Tap, TapList, depth, nodes, print_term,
+    read_term,
+};
 use pf_ints::{LaneType, Name, Sequence};
 use std::alloc::{AllocError, Global};
 use std::test::Fail;
@@ -183,6 +186,20 @@ fn brackets_have_a_depth(rt: HostRuntime) -> Result<(), Fail> {
     let text = in_brackets(alloc, b"1u8", 1025)?;
     let deep = fault(alloc, text.as_slice(), &mut names);
     assert!(rt; matches!(deep, Some(ReadFault::Syntax { column: 1025 })));
+    Ok(())
+}
+
+#[test]
+fn chains_have_any_length(rt: HostRuntime) -> Result<(), Fail> {
+    let alloc = rt.alloc();
+    let mut names = some_names(alloc)?;
+    let mut text = Vec::from_slice(alloc, b"d")?;
+    for _ in 0..32_000 {
+        text.extend_from_slice(b"+d")?;
+    }
+    let term = read_term(alloc, text.as_slice(), &mut names)?;
+    assert_eq!(rt; depth(&term), 32_001);
+    assert_eq!(rt; nodes(&term), 64_001);
     Ok(())
 }
 

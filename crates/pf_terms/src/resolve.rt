@@ -1,8 +1,8 @@
-ghost use Rattle.std.specs.Prelude.{◌≡◌, ◌≤◌, ◌+◌, length, true, unsigned_abs, slice_index_or, List, IfOk, IsTrue, ◌<◌};
+ghost use Rattle.std.specs.Prelude.{◌≡◌, ◌≤◌, ◌+◌, length, true, unsigned_abs, slice_index_or, List, IfOk, Ok, MatchOption, IsTrue, ◌<◌};
 ghost use Rattle.pf_terms.specs.declared.names.Tap.{Tap};
 ghost use Rattle.pf_terms.specs.declared.term.Leaf.TheVariants.{Tap as TapOf, Def};
 ghost use Rattle.pf_terms.specs.declared.term.Term.TheVariants.{Leaf as LeafTerm};
-ghost use Rattle.pf_terms.specs.Building.{is_formed_draft, with_these, IsFound, IsBuilt};
+ghost use Rattle.pf_terms.specs.Building.{is_formed_draft, with_these, IsLeaf, IsFirst, IsResolvedFirst, IsFound, IsBuilt};
 ghost use Rattle.pf_terms.specs.Meanings.{term_of, image_number, def_number, tap_at, tap_number, written_type};
 ghost use Rattle.pf_terms.specs.Operators.{row_of};
 ghost use Rattle.pf_terms.specs.Terms.{operand_count, node_type, result_type, typing, stated_type, is_amount};
@@ -19,7 +19,7 @@ use pf_ints::{Bits, LaneType, Name};
 use sqlite_items::Items;
 use std::alloc::{AllocError, AllocFailed, Global};
 
-/// Why a node has no type. It is small, since each node of a long chain has one on the stack.
+/// Why a node has no type.
 #[derive(Clone, Copy, Debug)]
 pub enum NodeFault {
     Types { want: LaneType, got: LaneType },
@@ -55,6 +55,7 @@ const NO_TYPE: LaneType = LaneType {
 
 /// The term of a draft, where each tap has its number among these, or the fault of the first node
 /// in post-order that has one.
+#[cycle(terms)]
 pub fn resolved(
     alloc: Global,
     draft: &Draft,
@@ -68,37 +69,95 @@ pub fn resolved(
     ensures made { IfOk result (λ t. t ≡ term_of (with_these names.now taps.now) draft.now) }
     ensures found { (others : List Tap) → IsBuilt (typing (term_of (with_these names.now others) draft.now)) result }
 {
+    // A chain of operators without brackets is too deep for a recursion over first operands.
+    let mut chain = Vec::new(alloc);
+    let mut lowest = draft;
+    while let Some(first) = first_operand(lowest) {
+        chain.push(lowest)?;
+        lowest = first;
+    }
+    let mut term = leaf(lowest, names, taps);
+    while let Some(node) = chain.pop() {
+        term = resolved_over(alloc, node, term, names, taps)?;
+    }
+    Ok(term)
+}
+
+// The first operand of the term, or None where the draft is no node.
+fn first_operand(draft: &Draft) -> Option<&Draft>
+    requires { is_formed_draft draft.now ≡ true }
+    ensures { MatchOption result (IsLeaf draft.now) (λ first. IsFirst draft.now first.now) }
+{
     match draft {
-        Draft::Number(n, ty) => Ok(Term::Leaf {
+        Draft::Node { less, args, .. } => Some(&args.as_slice()[place_in_order(*less, 0)]),
+        _ => None,
+    }
+}
+
+// The term of what is no node.
+fn leaf(draft: &Draft, names: &Names, taps: &[Spot]) -> Term
+    requires leaf { IsLeaf draft.now }
+    requires few_defs { length names.now.defs ≤ 64 }
+    requires few_taps { length taps.now ≤ 64 }
+    requires few_images { length names.now.images ≤ 8 }
+    ensures made { result ≡ term_of (with_these names.now taps.now) draft.now }
+    ensures typed { (others : List Tap) → typing (term_of (with_these names.now others) draft.now) ≡ Ok (stated_type result) }
+{
+    match draft {
+        Draft::Number(n, ty) => Term::Leaf {
             leaf: Leaf::Const(*n),
             ty: *ty,
-        }),
-        Draft::Named(name) => Ok(definition(&names.defs, name)),
-        Draft::Placed(name, dx, dy) => Ok(tap(&names.images, taps, name, *dx, *dy)),
-        Draft::Node {
-            op,
-            less,
-            ty,
-            k,
-            args,
-        } => {
-            let drafts = args.as_slice();
-            let mut types = [NO_TYPE; 4];
-            let mut args = Items::new(alloc);
-            for n in 0..drafts.len() {
-                let arg = resolved(alloc, &drafts[place_in_order(*less, n)], names, taps)?;
-                types[n] = stated_type(&arg);
-                args.push(arg)?;
-            }
-            let ty = node_type(*op, *ty, *k, &types[..drafts.len()])?;
-            Ok(Term::Node {
-                op: *op,
-                ty,
-                k: k.unsigned_abs() as u8,
-                args,
-            })
-        }
+        },
+        Draft::Named(name) => definition(&names.defs, name),
+        Draft::Placed(name, dx, dy) => tap(&names.images, taps, name, *dx, *dy),
+        Draft::Node { .. } => unreachable!(),
     }
+}
+
+// The term of a node over that of its first operand, or the first fault behind that operand.
+#[cycle(terms)]
+fn resolved_over(
+    alloc: Global,
+    node: &Draft,
+    first: Term,
+    names: &Names,
+    taps: &[Spot],
+) -> Result<Term, NodeFault>
+    requires formed { is_formed_draft node.now ≡ true }
+    requires few_defs { length names.now.defs ≤ 64 }
+    requires few_taps { length taps.now ≤ 64 }
+    requires few_images { length names.now.images ≤ 8 }
+    requires first { IsResolvedFirst names.now taps.now node.now first }
+    ensures made { IfOk result (λ t. t ≡ term_of (with_these names.now taps.now) node.now) }
+    ensures found { (others : List Tap) → IsBuilt (typing (term_of (with_these names.now others) node.now)) result }
+{
+    let Draft::Node {
+        op,
+        less,
+        ty,
+        k,
+        args,
+    } = node
+    else {
+        return Ok(first);
+    };
+    let drafts = args.as_slice();
+    let mut types = [NO_TYPE; 4];
+    types[0] = stated_type(&first);
+    let mut args = Items::new(alloc);
+    args.push(first)?;
+    for n in 1..drafts.len() {
+        let arg = resolved(alloc, &drafts[place_in_order(*less, n)], names, taps)?;
+        types[n] = stated_type(&arg);
+        args.push(arg)?;
+    }
+    let ty = node_type(*op, *ty, *k, &types[..drafts.len()])?;
+    Ok(Term::Node {
+        op: *op,
+        ty,
+        k: k.unsigned_abs() as u8,
+        args,
+    })
 }
 
 fn definition(defs: &DefNames, name: &Name) -> Term

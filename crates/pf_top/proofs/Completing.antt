@@ -37,17 +37,17 @@ IsRefusal Memory = ⊥
 IsRefusal _ = Unit {0}
 
 -- what is told changes as is said
-led : {T : Type 0} (R : T → T → Type 0) (a b : Option T) (m : T) → a ≡ Some m → Changes R a b → (n : T) × R m n
+pub led : {T : Type 0} (R : T → T → Type 0) (a b : Option T) (m : T) → a ≡ Some m → Changes R a b → (n : T) × R m n
 led R None b m is change = absurd (cc)
 led R (Some x) None m is change = absurd change
 led R (Some x) (Some n) m is change = let same : x ≡ m = cc in (n, subst (λ y. R y n) same change)
 
 -- two facts of what a name holds
-both : (held : Option (List ℕ)) (most : ℕ) (P Q : List ℕ → Type 0) → IsSomeAnd held (λ all. P (take most all)) → IsSomeAnd held (λ all. Q (take most all)) → (bytes : List ℕ) × P bytes × Q bytes
+pub both : (held : Option (List ℕ)) (most : ℕ) (P Q : List ℕ → Type 0) → IsSomeAnd held (λ all. P (take most all)) → IsSomeAnd held (λ all. Q (take most all)) → (bytes : List ℕ) × P bytes × Q bytes
 both None most P Q p q = absurd p
 both (Some all) most P Q p q = (take most all, p, q)
 
-not_missing : (held : Option (List ℕ)) (P : List ℕ → Type 0) → held ≡ None → IsSomeAnd held P → ⊥
+pub not_missing : (held : Option (List ℕ)) (P : List ℕ → Type 0) → held ≡ None → IsSomeAnd held P → ⊥
 not_missing held P none some = subst (λ h. IsSomeAnd h P) none some
 
 -- the file of an image of this number
@@ -131,7 +131,7 @@ module _ {P R : Type 0} (l : Language P R) (fit : IsFit l) (r : Run) (m : Conten
   refuted b a v is refusal ran = let change = led (RunLeads l r v) b.held a.held m is ran.went.contents in no_refusal v change.0 refusal change.1
 
 -- where memory is wanting the answer is 13, or the output failed
-poor : (ob oa : Output) (answer : ℕ) → (Rose ob.faults oa.faults → ⊥) → Told wanting ob answer oa → answer ≡ 13
+pub poor : (ob oa : Output) (answer : ℕ) → (Rose ob.faults oa.faults → ⊥) → Told wanting ob answer oa → answer ≡ 13
 unfolding wanting
 poor ob oa answer calm (inl said) = said.status
 poor ob oa answer calm (inr (inl failed)) = absurd (calm failed.faults)

@@ -1,5 +1,5 @@
 -- The head of a selected text is one that a text may have.
-use Rattle.std.proofs.Common.{◌≡◌, ◌≢◌, refl, sym, ap, subst, ◌∙◌, ℕ, zero, suc, ◌<◌, ◌≤◌, Bool, true, false, List, [], ◌∷◌, ◌++◌, length, map, get_or, arith, rules, All}
+use Rattle.std.proofs.Common.{◌≡◌, ◌≢◌, refl, sym, ap, subst, ◌∙◌, ℕ, suc, ◌<◌, ◌≤◌, Bool, true, false, List, [], ◌∷◌, ◌++◌, length, map, get_or, arith, rules, All}
 use Rattle.std.specs.Prelude.{codes, ◌+◌, ◌&&◌, nat_lt, sum, IsTrue}
 use Rattle.std.specs.List.{AllPairs, AllByRecursion as ByRecursion}
 use Rattle.std.proofs.lemmas.Bool.Decides.{nat_tests}
@@ -14,8 +14,7 @@ use Rattle.pf_terms.specs.declared.names.Names.{Names}
 use Rattle.pf_terms.specs.declared.names.Tap.{Tap}
 use Rattle.pf_terms.specs.declared.op.Op.TheVariants.{Min}
 use Rattle.pf_terms.specs.declared.term.Leaf.TheVariants.{Tap as TapLeaf}
-use Rattle.pf_terms.specs.declared.term.Term.{Term}
-use Rattle.pf_terms.specs.declared.term.Term.TheVariants.{Leaf, rolls-Leaf, rolls-Node}
+use Rattle.pf_terms.specs.declared.term.Term.TheVariants.{rolls-Leaf, rolls-Node}
 use Rattle.pf_terms.specs.declared.term.Term.TheOpen.{Term-F}
 use Rattle.pf_terms.specs.declared.term.Term.TheOpen.Term-F.{Leaf as LeafLayer, Node as NodeLayer}
 use Rattle.pf_terms.specs.declared.term.Term.TheFolds.{fold-Term, fold-roll-Term}
@@ -29,14 +28,14 @@ use Rattle.pf_top.specs.Least.{byte_type, tap_term, least_term, IsLeastOf, HasTa
 use Rattle.pf_top.specs.Selected.{head_of}
 
 -- ---- a fold of a tap, and of the lesser of two
-fold_tap : {A : Type 0} (step : Term-F A → A) (n : ℕ) → fold-Term A step (tap_term n) ≡ step (LeafLayer (TapLeaf n) byte_type)
+fold_tap : {A : Type 0} (step : Term-F A → A) (n : ℕ) → fold-Term A step (tap_term byte_type n) ≡ step (LeafLayer (TapLeaf n) byte_type)
 fold_tap {A = A} step n = ap (fold-Term A step) (sym (rolls-Leaf (TapLeaf n) byte_type)) ∙ fold-roll-Term A step (LeafLayer (TapLeaf n) byte_type)
 
 fold_least : {A : Type 0} (step : Term-F A → A) (m n : ℕ)
-    → fold-Term A step (least_term m n) ≡ step (NodeLayer Min byte_type 0 (step (LeafLayer (TapLeaf m) byte_type) ∷ step (LeafLayer (TapLeaf n) byte_type) ∷ []))
+    → fold-Term A step (least_term byte_type m n) ≡ step (NodeLayer Min byte_type 0 (step (LeafLayer (TapLeaf m) byte_type) ∷ step (LeafLayer (TapLeaf n) byte_type) ∷ []))
 fold_least {A = A} step m n =
-    ap (fold-Term A step) (sym (rolls-Node Min byte_type 0 (tap_term m ∷ tap_term n ∷ []))) ∙ fold-roll-Term A step (NodeLayer Min byte_type 0 (tap_term m ∷ tap_term n ∷ []))
-    ∙ ap (λ a. step (NodeLayer Min byte_type 0 (a ∷ fold-Term A step (tap_term n) ∷ []))) (fold_tap step m)
+    ap (fold-Term A step) (sym (rolls-Node Min byte_type 0 (tap_term byte_type m ∷ tap_term byte_type n ∷ []))) ∙ fold-roll-Term A step (NodeLayer Min byte_type 0 (tap_term byte_type m ∷ tap_term byte_type n ∷ []))
+    ∙ ap (λ a. step (NodeLayer Min byte_type 0 (a ∷ fold-Term A step (tap_term byte_type n) ∷ []))) (fold_tap step m)
     ∙ ap (λ b. step (NodeLayer Min byte_type 0 (step (LeafLayer (TapLeaf m) byte_type) ∷ b ∷ []))) (fold_tap step n)
 
 both_true : (b c : Bool) → b && (c && true) ≡ true → (b ≡ true) × (c ≡ true)
@@ -52,7 +51,7 @@ leaf_within : (names : Names) (n : ℕ) → is_named_leaf names (TapLeaf n) byte
 leaf_within names n named = let low : nat_lt n (length names.taps) ≡ true = first_true _ _ named in grind (arith, nat_tests)
 
 -- both taps of the lesser of two are there
-taps_within : (names : Names) (m n : ℕ) → is_named names (least_term m n) ≡ true → (m < length names.taps) × (n < length names.taps)
+taps_within : (names : Names) (m n : ℕ) → is_named names (least_term byte_type m n) ≡ true → (m < length names.taps) × (n < length names.taps)
 taps_within names m n named =
     let both = both_true (is_named_leaf names (TapLeaf m) byte_type) (is_named_leaf names (TapLeaf n) byte_type) (sym (fold_least (named_step names) m n) ∙ named) in
     (leaf_within names m both.0, leaf_within names n both.1)
@@ -159,8 +158,7 @@ head_taps k first second kernel least =
     let within = taps_within (names_behind k.source.images k.source.taps []) first second named in
     record {
       head = head_is k kernel least.defs;
-      images = least.images;
-      out_ty = least.out_ty;
+      images = subst (λ ty. All (λ d. d.ty ≡ ty) k.source.images) (sym least.out_ty) least.images;
       scratch = refl;
       first_tap = within.0;
       second_tap = within.1;

@@ -6,6 +6,7 @@ pub mod TextFiles
 pub mod KernelFiles
 pub mod Running
 pub mod Completing
+pub mod CompletingSelection
 pub mod Fits
 pub mod Tellable
 pub mod ImageLists

@@ -1,15 +1,29 @@
--- Where `run` and `eval` do their work.
+-- Where `select`, `run` and `eval` do their work.
 use Rattle.std.specs.Prelude.{◌≡◌, ℕ, ◌+◌, ◌≤◌, List, length, zip}
 use Rattle.std.specs.List.{AllZip}
 use Rattle.pf_ints.specs.declared.lane.LaneType.{LaneType}
+use Rattle.pf_ints.specs.declared.target.Target.TheVariants.{Neon}
 use Rattle.pf_ints.specs.Images.{Picture}
 use Rattle.pf_terms.specs.declared.kernel.ImageDecl.{ImageDecl}
 use Rattle.pf_images.specs.Counts.{Rose}
 use Rattle.pf_images.specs.Outside.{Contents}
 use Rattle.pf_images.specs.Pgm.{IsPgm}
+use Rattle.pf_kernel.specs.Kernels.{Meaning}
+use Rattle.pf_kernel.specs.Texts.{IsKernel}
+use Rattle.pf_top.specs.declared.verdict.FileWord.TheVariants.{Kernel, Lift, Lower}
 use Rattle.pf_top.specs.Courses.{Begins}
 use Rattle.pf_top.specs.ImageFiles.{image_limit}
 use Rattle.pf_top.specs.Running.{Language, Run}
+use Rattle.pf_top.specs.Selections.{Select, IsBuilt, Fits, OfJudged}
+
+-- the target is neon, and the files hold a text of a kernel that is built and the two texts of rules
+pub record IsSelectable (s : Select) (files : Contents) : Type 0 where
+  pub meaning : Meaning
+  pub target : s.target ≡ Neon
+  pub kernel : OfJudged s Kernel (λ bytes. IsKernel bytes meaning) files
+  pub built : IsBuilt meaning
+  pub lift : Fits s files Lift
+  pub lower : Fits s files Lower
 
 -- the bytes are a PGM file of this image, within the limit
 abbrev pub IsSomeImage : LaneType → Picture → List ℕ → Type 0

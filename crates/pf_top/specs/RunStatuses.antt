@@ -41,12 +41,16 @@ pixel_due name x y value = due 9 (line_of (name ∷ codes ": pixel " ∷ decimal
 abbrev pub outside_due : ℕ → ℕ → ℕ → Due
 outside_due at address length = due 11 (line_of (codes "outside: instruction " ∷ decimal at ∷ codes ", address " ∷ decimal address ∷ codes ", length " ∷ decimal length ∷ []))
 
+-- a row that took all its steps
+abbrev pub spent_due : ℕ → Due
+spent_due steps = due 12 (line_of (codes "spent: " ∷ decimal steps ∷ codes " steps" ∷ []))
+
 abbrev pub not_run_due : Run → NotRun → Due
 not_run_due r (Size n width height) = size_due (run_file_name r (Image n)) width height
 not_run_due r (Pixel n x y value) = pixel_due (run_file_name r (Image n)) x y value
 not_run_due r NoOutput = due 9 (line_of (codes "no output pixel" ∷ []))
 not_run_due r (Outside at address length) = outside_due at address length
-not_run_due r (Spent steps) = due 12 (line_of (codes "spent: " ∷ decimal steps ∷ codes " steps" ∷ []))
+not_run_due r (Spent steps) = spent_due steps
 
 -- what is due at each verdict of `run` or `eval`, by what is due for a text that is refused; nothing is put on success
 abbrev pub run_due : {R : Type 0} → (List ℕ → R → Due) → Run → RunVerdict R → Option Due

@@ -27,6 +27,8 @@ pub use top::pitchfork;
 #[cfg(test)]
 mod eval_tests;
 #[cfg(test)]
+mod least_tests;
+#[cfg(test)]
 mod run_tests;
 #[cfg(test)]
 mod tests;

@@ -26,7 +26,7 @@ fn are_bytes(images: &[ImageDecl]) -> bool
 
 /// The tap that a term is, where it is one of u8.
 fn tap_of(term: &Term) -> Option<u8>
-    ensures { MatchOption result ((n : ℕ) → term.now ≡ tap_term n → ⊥) (λ n. term.now ≡ tap_term n) }
+    ensures { MatchOption result ((n : ℕ) → term.now ≡ tap_term byte_type n → ⊥) (λ n. term.now ≡ tap_term byte_type n) }
 {
     match term {
         Term::Leaf {
@@ -39,8 +39,8 @@ fn tap_of(term: &Term) -> Option<u8>
 
 /// The taps that a term is the lesser of.
 fn taps_of(term: &Term) -> Option<Operands>
-    ensures { MatchOption result ((m n : ℕ) → term.now ≡ least_term m n → ⊥)
-        (λ o. term.now ≡ least_term o.first o.second) }
+    ensures { MatchOption result ((m n : ℕ) → term.now ≡ least_term byte_type m n → ⊥)
+        (λ o. term.now ≡ least_term byte_type o.first o.second) }
 {
     let Term::Node {
         op: Op::Min,

@@ -3,7 +3,7 @@
 ghost use Rattle.std.specs.Prelude.{◌≡◌, ℕ, List};
 ghost use Rattle.pf_top.specs.KernelStatuses.{kernel_due};
 ghost use Rattle.pf_top.specs.Running.{run_file_name};
-ghost use Rattle.pf_top.specs.RunStatuses.{text_due, image_due, count_due, size_due, pixel_due, outside_due, not_run_due, run_due};
+ghost use Rattle.pf_top.specs.RunStatuses.{text_due, image_due, count_due, size_due, pixel_due, outside_due, spent_due, not_run_due, run_due};
 ghost use Rattle.pf_top.specs.RunSteps.{the_run};
 ghost use Rattle.pf_top.specs.Statuses.{Due, Told, Tells};
 ghost use Rattle.pf_top.specs.Steps.{seen_output};
@@ -183,6 +183,24 @@ fn tell_outside<S: Sink>(alloc: Global, out: &mut S, at: u64, address: u64, leng
     )
 }
 
+/// Puts that a row took all its steps, and answers the status.
+fn tell_spent<S: Sink>(alloc: Global, out: &mut S, steps: u64) -> u8
+    ensures { Told (spent_due steps)
+        (seen_output S.written S.faults S.calls out.old) result
+        (seen_output S.written S.faults S.calls out.new) }
+{
+    tell(
+        alloc,
+        out,
+        12,
+        &[
+            Piece::Word(b"spent: "),
+            Piece::Number(steps),
+            Piece::Word(b" steps"),
+        ],
+    )
+}
+
 /// Puts why a program was not run to its end, and answers the status.
 fn tell_not_run<S: Sink>(alloc: Global, out: &mut S, words: &RunWords<'_>, why: NotRun) -> u8
     ensures { Told (not_run_due (the_run words.now) why)
@@ -219,16 +237,7 @@ fn tell_not_run<S: Sink>(alloc: Global, out: &mut S, words: &RunWords<'_>, why: 
             address,
             length,
         } => tell_outside(alloc, out, at, address, length),
-        NotRun::Spent { steps } => tell(
-            alloc,
-            out,
-            12,
-            &[
-                Piece::Word(b"spent: "),
-                Piece::Number(steps),
-                Piece::Word(b" steps"),
-            ],
-        ),
+        NotRun::Spent { steps } => tell_spent(alloc, out, steps),
     }
 }
 

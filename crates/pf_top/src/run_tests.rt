@@ -67,77 +67,92 @@ fn try_case<R: Abort + AllocGlobal>(rt: &R, case: Case) -> Result<(), Fail> {
     Ok(())
 }
 
+/// A run that copies its image.
+const COPIED: Case = Case {
+    text: COPY,
+    image: SIXTEEN,
+    status: 0,
+    put: b"",
+    output: SIXTEEN,
+    calls: 3,
+};
+
+/// A run of u16 that leaves the output as it was.
+const LEFT: Case = Case {
+    text: WIDE,
+    image: PAIR,
+    status: 0,
+    put: b"",
+    output: b"P5\n2 1\n65535\n\0\0\0\0",
+    calls: 3,
+};
+
+fn try_cases<R: Abort + AllocGlobal>(rt: &R, cases: &[Case]) -> Result<(), Fail> {
+    for case in cases {
+        try_case(rt, *case)?;
+    }
+    Ok(())
+}
+
 #[test]
 fn runs_or_says_why_not(rt: HostRuntime) -> Result<(), Fail> {
-    let well = Case {
-        text: COPY,
-        image: SIXTEEN,
-        status: 0,
-        put: b"",
-        output: SIXTEEN,
-        calls: 3,
-    };
     let cases = [
-        well,
+        COPIED,
         Case {
             image: b"P5\n15 1\n255\nabcdefghijklmno",
             status: 11,
             put: b"outside: instruction 2, address 81920, length 16\n",
             calls: 2,
-            ..well
+            ..COPIED
         },
         Case {
             text: ROUND,
             status: 12,
             put: b"spent: 12336 steps\n",
             calls: 2,
-            ..well
+            ..COPIED
         },
+    ];
+    try_cases(&rt, &cases)
+}
+
+#[test]
+fn judges_texts(rt: HostRuntime) -> Result<(), Fail> {
+    let cases = [
         Case {
             text: BOGUS,
             status: 10,
             put: b"c.s:13: instruction\n",
             calls: 1,
-            ..well
+            ..COPIED
         },
         Case {
             text: b".target avx2\n",
             status: 8,
             put: b"not built: avx2\n",
             calls: 1,
-            ..well
+            ..COPIED
         },
         Case {
             text: b"",
             status: 10,
             put: b"c.s:1: target\n",
             calls: 1,
-            ..well
+            ..COPIED
         },
     ];
-    for case in cases {
-        try_case(&rt, case)?;
-    }
-    Ok(())
+    try_cases(&rt, &cases)
 }
 
 #[test]
-fn judges_images(rt: HostRuntime) -> Result<(), Fail> {
-    let wide = Case {
-        text: WIDE,
-        image: PAIR,
-        status: 0,
-        put: b"",
-        output: b"P5\n2 1\n65535\n\0\0\0\0",
-        calls: 3,
-    };
+fn judges_files_of_images(rt: HostRuntime) -> Result<(), Fail> {
     let refused = Case {
         status: 9,
         calls: 2,
-        ..wide
+        ..LEFT
     };
     let cases = [
-        wide,
+        LEFT,
         Case {
             image: b"P5\n# c\n2 1\n65535\n\x01\x02\x03",
             put: b"a.pgm: byte 20: short\n",
@@ -148,23 +163,31 @@ fn judges_images(rt: HostRuntime) -> Result<(), Fail> {
             put: b"a.pgm: byte 11: maxval\n",
             ..refused
         },
+    ];
+    try_cases(&rt, &cases)
+}
+
+#[test]
+fn judges_images(rt: HostRuntime) -> Result<(), Fail> {
+    let cases = [
         Case {
             text: SMALL,
             image: b"P5\n5 1\n255\n\x01\x02\x03e\x05",
+            status: 9,
             put: b"a.pgm: pixel 3 0 is 101\n",
-            ..refused
+            calls: 2,
+            ..LEFT
         },
         Case {
             text: SIDES,
             image: b"P5\n2 1\n255\n\x01\x02",
+            status: 9,
             put: b"no output pixel\n",
-            ..refused
+            calls: 2,
+            ..LEFT
         },
     ];
-    for case in cases {
-        try_case(&rt, case)?;
-    }
-    Ok(())
+    try_cases(&rt, &cases)
 }
 
 /// A PGM file of these pixels, row by row.
@@ -337,42 +360,49 @@ fn try_pair<R: Abort + AllocGlobal>(rt: &R, case: Pair) -> Result<(), Fail> {
     Ok(())
 }
 
+/// A run of which the second image has another size than the first.
+const SIZES: Pair = Pair {
+    words: &["run", "m.s", "a.pgm", "b.pgm", "o.pgm"],
+    failing_file: 0,
+    failing_put: 0,
+    status: 9,
+    put: b"b.pgm: size 1 1\n",
+    calls: 3,
+};
+
 #[test]
 fn judges_images_after_the_last(rt: HostRuntime) -> Result<(), Fail> {
-    let size = Pair {
-        words: &["run", "m.s", "a.pgm", "b.pgm", "o.pgm"],
-        failing_file: 0,
-        failing_put: 0,
-        status: 9,
-        put: b"b.pgm: size 1 1\n",
-        calls: 3,
+    try_pair(&rt, SIZES)?;
+    let unsaid = Pair {
+        failing_put: 1,
+        status: 4,
+        put: b"",
+        ..SIZES
     };
+    try_pair(&rt, unsaid)
+}
+
+#[test]
+fn judges_words_and_names(rt: HostRuntime) -> Result<(), Fail> {
     let cases = [
-        size,
-        Pair {
-            failing_put: 1,
-            status: 4,
-            put: b"",
-            ..size
-        },
         Pair {
             words: &["run", "m.s", "a.pgm", "o.pgm"],
             put: b"want 2 images, got 1\n",
             calls: 1,
-            ..size
+            ..SIZES
         },
         Pair {
             words: &["run", "m.s", "a.pgm", "c.pgm", "o.pgm"],
             status: 3,
             put: b"no file: c.pgm\n",
-            ..size
+            ..SIZES
         },
         Pair {
             words: &["run", "m.s", "o.pgm"],
             status: 2,
             put: b"usage: pitchfork select|check|run|eval|explain|demo\n",
             calls: 0,
-            ..size
+            ..SIZES
         },
     ];
     for case in cases {

@@ -107,7 +107,7 @@ fn selects_or_says_why_not(rt: HostRuntime) -> Result<(), Fail> {
 }
 
 #[test]
-fn judges_each_file_before_the_next(rt: HostRuntime) -> Result<(), Fail> {
+fn judges_the_kernel_first(rt: HostRuntime) -> Result<(), Fail> {
     let cases = [
         Case {
             words: ["select", "neon", "x.kern", "e.rules", "min.rules", "m.s"],
@@ -130,25 +130,31 @@ fn judges_each_file_before_the_next(rt: HostRuntime) -> Result<(), Fail> {
             calls: 1,
             ..WELL
         },
-        Case {
-            words: ["select", "neon", "m.kern", "min.rules", "min.rules", "m.s"],
-            status: 8,
-            put: b"not built: min.rules\n",
-            calls: 2,
-            ..WELL
-        },
-        Case {
-            words: ["select", "neon", "m.kern", "e.rules", "e.rules", "m.s"],
-            status: 8,
-            put: b"not built: e.rules\n",
-            calls: 3,
-            ..WELL
-        },
     ];
     for case in cases {
         try_case(&rt, case)?;
     }
     Ok(())
+}
+
+#[test]
+fn judges_the_rules_one_by_one(rt: HostRuntime) -> Result<(), Fail> {
+    let lift = Case {
+        words: ["select", "neon", "m.kern", "min.rules", "min.rules", "m.s"],
+        status: 8,
+        put: b"not built: min.rules\n",
+        calls: 2,
+        ..WELL
+    };
+    try_case(&rt, lift)?;
+    let lower = Case {
+        words: ["select", "neon", "m.kern", "e.rules", "e.rules", "m.s"],
+        status: 8,
+        put: b"not built: e.rules\n",
+        calls: 3,
+        ..WELL
+    };
+    try_case(&rt, lower)
 }
 
 #[test]
@@ -200,8 +206,9 @@ fn tells_why_a_kernel_is_refused(rt: HostRuntime) -> Result<(), Fail> {
 
 #[test]
 fn takes_no_other_kernel(rt: HostRuntime) -> Result<(), Fail> {
-    let others: [&[u8]; 4] = [
+    let others: [&[u8]; 5] = [
         b"kernel m\nimage a u8\nout u8 = a[0,0]\n",
+        b"kernel m\nimage a u16\nimage b u16\nout u16 = min(a[0,0], b[0,0])\n",
         b"kernel m\nimage a u8\nimage b u16\nout u8 = min(a[0,0], a[1,0])\n",
         b"kernel m\nimage a u8\nout u8 = min(a[0,0], 3u8)\n",
         b"kernel m\nimage a u8\ndef d u8 = a[0,0]\nout u8 = min(a[0,0], a[1,0])\n",

@@ -4,7 +4,7 @@ ghost use Rattle.pf_top.specs.declared.run_verdict.RunVerdict.{RunVerdict};
 ghost use Rattle.pf_top.specs.declared.text_file.TextRefusal.{TextRefusal};
 ghost use Rattle.pf_top.specs.declared.verdict.Verdict.{Verdict};
 ghost use Rattle.pf_images.specs.Outside.{Contents};
-ghost use Rattle.pf_top.specs.Completeness.{IsCalm, IsRunnable};
+ghost use Rattle.pf_top.specs.Completeness.{IsCalm, IsRunnable, IsSelectable};
 ghost use Rattle.pf_top.specs.Courses.{seen};
 ghost use Rattle.pf_top.specs.KernelFiles.{kernels};
 ghost use Rattle.pf_top.specs.KernelStatuses.{kernel_due};
@@ -66,6 +66,13 @@ pub fn pitchfork<F: Files, S: Sink>(
         → (v : RunVerdict KernelRefusal) × RanTo kernels e (seen F.held F.faults F.calls files.old) v (seen F.held F.faults F.calls files.new)
         × Tells (run_due kernel_due e v) (seen_output S.written S.faults S.calls out.old) result
         (seen_output S.written S.faults S.calls out.new) }
+
+    // `select` does its work, or memory is wanting, for neon on a kernel that is built and the two
+    // texts of rules, where neither the store nor the output failed.
+    ensures completes_select { (s : Select) (held : Contents) → IsSelect (map string_bytes words.now.items) s
+        → F.held files.old ≡ Some held → IsSelectable s held
+        → IsCalm (F.faults files.old) (F.faults files.new) → IsCalm (S.faults out.old) (S.faults out.new)
+        → (result ≡ 0) ⊎ (result ≡ 13) }
 
     // `run` does its work, or memory is wanting, on a text and images such as it asks for on which
     // all rows of its run return, where neither the store nor the output failed.

@@ -1,4 +1,5 @@
 use Rattle.std.proofs.Common.{◌≡◌, refl}
+use Rattle.std.proofs.lemmas.Map.Text.{is_eq-slice_cmp}
 use Rattle.pf_isa.specs.CodeReading.{has_name}
 use Rattle.pf_isa.proofs.CodeLineLaws.{name_size}
 use Rattle.pf_isa.proofs.CodeLaws.{added_new}
@@ -14,6 +15,6 @@ returns g c =
       unknown = added_new (has_name c.args.reading.now.names c.args.name.now) _ c.in_ok-insert.ensures.added c.if-not-branch.false;
       code_is = refl;
       labels_are = rw (← word, ← c.len.ensures) c.in_ok-push.ensures.ok;
-      names_are = λ other. c.in_ok-insert.ensures.updates.0 (record { ref_ptr = (0, 0); now = other });
+      names_are = λ other. rw is_eq-slice_cmp at (c.in_ok-insert.ensures.updates.0 (record { ref_ptr = (0, 0); now = other }));
       jumps_are = refl;
     }

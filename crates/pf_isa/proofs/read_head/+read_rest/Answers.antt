@@ -5,6 +5,7 @@ use Rattle.pf_isa.specs.HeadWords.{IsTheOne}
 use Rattle.pf_isa.specs.TextFaults.{texts, GoesOn}
 use Rattle.pf_isa.proofs.HeadSaid.{reached_ready}
 use Rattle.pf_isa.proofs.ReadingLaws.{only_here, none_at_end, none_here, only_on, reached_on, whole_ok, stopped_err, texts_first, texts_none, rest_count}
+use Rattle.pf_isa.proofs.OneFault.{whole_goes, told_at_end, told_here, told_on}
 use Rattle.pf_isa.proofs.read_head.+read_rest.Goals as goal
 
 pub next-requires : goal.next-requires
@@ -60,3 +61,24 @@ returns-in-Some-clause-fault t c =
     let is = texts_first c.args.lines.now (record { ref_ptr = (0, 0); now = [] }) c.in-len1-up.len_at_least in
     let told = subst (IsTheOne (GoesOn c.args.so_far line)) c.in-Some.is c.in_ok-next-in-len1-up.ensures in
     stopped_err c.args.so_far c.in-Some.next line (texts c.args.lines.now) rest c.args.n c.read_rest.result is told.0 c.read_rest.ensures.fault
+
+pub returns-then-is_whole-clause-told : goal.returns-then-is_whole-clause-told
+returns-then-is_whole-clause-told t c = λ front rest end all k stops. whole_goes c.args.so_far (c.is_whole.ensures.0 c.if-is_whole.true) front rest end k stops
+
+pub returns-in-empty-clause-told : goal.returns-in-empty-clause-told
+returns-in-empty-clause-told t c = told_at_end c.args.so_far c.args.n (texts c.args.lines.now) c.directive.result c.directive.ensures (texts_none c.args.lines.now c.in-empty.len_below)
+
+pub returns-in-None-clause-told : goal.returns-in-None-clause-told
+returns-in-None-clause-told t c =
+    let line = (get_or c.args.lines.now 0 (record { ref_ptr = (0, 0); now = [] })).now in
+    let rest = texts (take (length c.args.lines.now - 1) (drop 1 c.args.lines.now)) in
+    let is = texts_first c.args.lines.now (record { ref_ptr = (0, 0); now = [] }) c.in-len1-up.len_at_least in
+    told_here c.args.so_far c.args.n (texts c.args.lines.now) line rest c.directive-in-None.result c.directive-in-None.ensures is (subst (IsTheOne (GoesOn c.args.so_far line)) c.in-None.is c.in_ok-next-in-len1-up.ensures)
+
+pub returns-in-Some-clause-told : goal.returns-in-Some-clause-told
+returns-in-Some-clause-told t c =
+    let line = (get_or c.args.lines.now 0 (record { ref_ptr = (0, 0); now = [] })).now in
+    let rest = texts (take (length c.args.lines.now - 1) (drop 1 c.args.lines.now)) in
+    let is = texts_first c.args.lines.now (record { ref_ptr = (0, 0); now = [] }) c.in-len1-up.len_at_least in
+    let told = subst (IsTheOne (GoesOn c.args.so_far line)) c.in-Some.is c.in_ok-next-in-len1-up.ensures in
+    told_on c.args.so_far c.in-Some.next line (texts c.args.lines.now) rest c.args.n c.read_rest.result is told.0 told.1 c.read_rest.ensures.told

@@ -1,11 +1,13 @@
 use Rattle.std.proofs.Common.{◌≡◌, ◌+◌, ◌-◌, List, ℕ, [], length, take, drop, get_or, ◌++◌, subst, sym, arith, rules}
 use Rattle.std.specs.Prelude.{Err, IfOk, IfErr}
 use Rattle.pf_isa.specs.HeadSteps.{IsReached, IsWholeFrom, IsStopped, whole}
+use Rattle.pf_isa.specs.declared.fault.TextKind.TheVariants.{Directive}
 use Rattle.pf_isa.specs.declared.program.Head.{Head}
 use Rattle.pf_isa.specs.Lines.{IsLine}
 use Rattle.pf_isa.specs.Texts.{target_line}
-use Rattle.pf_isa.specs.TextFaults.{texts, IsFor, GoOn, IsHeadOr}
+use Rattle.pf_isa.specs.TextFaults.{texts, SoFar, IsFor, GoOn, Stops, IsHeadOr, IsTextFaultOr}
 use Rattle.pf_isa.proofs.ReadingLaws.{texts_first, rest_count, length-texts, says_text, says_head, says_within, says_only, says_fault, other_only, nothing_reached}
+use Rattle.pf_isa.proofs.OneFault.{target_told, head_told}
 use Rattle.pf_isa.proofs.read_head.read_head.Goals as goal
 
 pub read_rest-requires-clause-reached : goal.read_rest-requires-clause-reached
@@ -52,3 +54,19 @@ returns-clause-fault c =
     let is = texts_first c.args.lines.now (record { ref_ptr = (0, 0); now = [] }) c.in-len1-up.len_at_least in
     let for_target : IsLine first (target_line c.args.target) = search rules in
     says_fault c.args.target (texts c.args.lines.now) first (texts rest) c.read_rest.result is for_target (subst (λ s. IfErr c.read_rest.result (IsStopped s (texts rest) 1)) c.new.ensures c.read_rest.ensures.fault)
+
+pub returns-then-not-is_for-clause-told : goal.returns-then-not-is_for-clause-told
+returns-then-not-is_for-clause-told c =
+    let first = (get_or c.args.lines.now 0 (record { ref_ptr = (0, 0); now = [] })).now in
+    let is = texts_first c.args.lines.now (record { ref_ptr = (0, 0); now = [] }) c.in-len1-up.len_at_least in
+    let other : IsLine first (target_line c.args.target) → ⊥ = λ h. let told = c.is_for.ensures.1 h in absurd (search rules) in
+    target_told c.args.target (texts c.args.lines.now) c.no_target-then-not-is_for.result c.no_target-then-not-is_for.ensures (λ h. other (subst (λ l. IsFor c.args.target l) is h))
+
+pub returns-clause-told : goal.returns-clause-told
+returns-clause-told c =
+    let first = (get_or c.args.lines.now 0 (record { ref_ptr = (0, 0); now = [] })).now in
+    let rest = take (length c.args.lines.now - 1) (drop 1 c.args.lines.now) in
+    let is = texts_first c.args.lines.now (record { ref_ptr = (0, 0); now = [] }) c.in-len1-up.len_at_least in
+    let for_target : IsLine first (target_line c.args.target) = search rules in
+    head_told c.args.target (texts c.args.lines.now) first (texts rest) c.read_rest.result is for_target
+    (subst (λ s. (front behind : List (List ℕ)) (end : SoFar) → texts rest ≡ front ++ behind → GoOn s front end → Stops end behind → IsTextFaultOr (1 + length front + 1) Directive c.read_rest.result) c.new.ensures c.read_rest.ensures.told)

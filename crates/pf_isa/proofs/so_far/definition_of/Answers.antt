@@ -4,7 +4,12 @@ use Rattle.pf_terms.specs.Terms.{IsWellTyped}
 use Rattle.pf_terms.specs.TermTexts.{is_named}
 use Rattle.pf_isa.specs.HeadWords.{IsTheOne}
 use Rattle.pf_isa.proofs.HeadStepLaws.{definition_only, no_definition, unfitting}
+use Rattle.pf_isa.proofs.NodeLaws.{too_many}
 use Rattle.pf_isa.proofs.so_far.definition_of.Goals as goal
+
+pub returns-then-branch-gt-MOST_NODES-clause-found : goal.returns-then-branch-gt-MOST_NODES-clause-found
+returns-then-branch-gt-MOST_NODES-clause-found c =
+    too_many c.args.names.now c.args.name.now c.args.ty c.args.text.now c.args.before c.in_ok-fewest_nodes.field-0 c.in_ok-fewest_nodes.ensures c.if-branch-gt-MOST_NODES.true
 
 pub returns-in-None-clause-found : goal.returns-in-None-clause-found
 returns-in-None-clause-found c =

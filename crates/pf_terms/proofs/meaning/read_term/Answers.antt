@@ -1,8 +1,9 @@
-use Rattle.std.proofs.Common.{subst, sym, length, ◌≤◌}
+use Rattle.std.proofs.Common.{subst, sym, ap, ◌∙◌, length, ◌+◌, ◌≤◌}
 use Rattle.std.specs.Prelude.{Err}
 use Rattle.pf_terms.specs.declared.meaning.ReadFault.TheVariants.{Syntax}
 use Rattle.pf_terms.proofs.DraftForms.{text_formed}
 use Rattle.pf_terms.proofs.Meant.{only_meant, typed_told, named_told, names_told, refused, refusal_within}
+use Rattle.pf_terms.proofs.OneFault.{meaning_told, syntax_told}
 use Rattle.pf_terms.proofs.ReadBackMeanings.{read_back}
 use Rattle.pf_terms.proofs.meaning.read_term.Goals as goal
 
@@ -35,3 +36,12 @@ returns-in-Err-Syntax-clause-back c = read_back c.args.names.now c.args.text.now
 pub column_of-requires : goal.column_of-requires
 column_of-requires c =
     subst (λ n. n ≤ length c.args.text.now) (sym c.in-Err-Syntax.at-is) (refusal_within c.args.text.now c.in-Err-Syntax.field-0 c.in-Err-Syntax.at c.in-Err-Syntax.field-0-is c.in-Err-Syntax.ensures.fault)
+
+pub returns-in-Ok-clause-told : goal.returns-in-Ok-clause-told
+returns-in-Ok-clause-told c =
+    meaning_told c.args.names.now c.args.text.now c.in-Ok.draft c.meaning_of.new.names c.meaning_of.result c.in-Ok.ensures.only c.in-Ok.ensures.told c.meaning_of.ensures.read c.meaning_of.ensures.fault
+
+pub returns-in-Err-Syntax-clause-told : goal.returns-in-Err-Syntax-clause-told
+returns-in-Err-Syntax-clause-told c =
+    syntax_told c.args.names.now c.args.text.now c.in-Err-Syntax.field-0 c.in-Err-Syntax.at c.column_of.result c.in-Err-Syntax.field-0-is (c.column_of.ensures ∙ ap (λ n. n + 1) c.in-Err-Syntax.at-is) c.in-Err-Syntax.ensures.only
+    c.in-Err-Syntax.ensures.told

@@ -1,12 +1,13 @@
 use Rattle.std.proofs.Common.{◌≡◌, subst, sym}
 use Rattle.pf_top.specs.Steps.{the_words}
 use Rattle.pf_top.specs.RunSteps.{the_run}
-use Rattle.pf_top.specs.Completeness.{IsRunnable}
+use Rattle.pf_top.specs.Completeness.{IsRunnable, IsSelectable}
 use Rattle.pf_top.specs.KernelFiles.{kernels}
 use Rattle.pf_top.specs.KernelStatuses.{kernel_due}
 use Rattle.pf_top.specs.RunStatuses.{text_due}
 use Rattle.pf_top.specs.TextFiles.{programs}
 use Rattle.pf_top.proofs.Completing.{complete}
+use Rattle.pf_top.proofs.CompletingSelection.{same_select, selection_completes}
 use Rattle.pf_top.proofs.Fits.{kernels_fit, programs_fit}
 use Rattle.pf_top.proofs.SameWords.{same_run}
 use Rattle.pf_top.proofs.top.pitchfork.Goals as goal
@@ -39,3 +40,8 @@ pub returns-in-Some-run_of-2-clause-completes_eval : goal.returns-in-Some-run_of
 returns-in-Some-run_of-2-clause-completes_eval g c = λ r held is told can calm quiet.
     let same : the_run c.in-Some-run_of-2.words ≡ r = same_run _ _ _ _ c.in-Some-run_of-2.ensures (rw c.as_slice-3.ensures.value is) in
     complete kernels kernels_fit kernel_due (the_run c.in-Some-run_of-2.words) held _ _ _ _ _ c.eval-verdict.result told (subst (λ t. IsRunnable kernels t held) (sym same) can) calm quiet c.eval-verdict.ensures c.tell_run_verdict-in-Some-run_of-2.ensures
+
+pub returns-in-Some-clause-completes_select : goal.returns-in-Some-clause-completes_select
+returns-in-Some-clause-completes_select g c = λ s held is told can calm quiet.
+    let same : the_words c.in-Some.words ≡ s = same_select _ _ _ c.in-Some.ensures (rw c.as_slice.ensures.value is) in
+    selection_completes (the_words c.in-Some.words) held (subst (λ t. IsSelectable t held) (sym same) can) _ _ _ _ _ told calm quiet c.select-verdict.result c.select-verdict.ensures c.tell_verdict.ensures

@@ -1,14 +1,11 @@
-use Rattle.std.proofs.Common.{rules, map, false}
-use Rattle.std.specs.Prelude.{Contains, IsTrue}
-use Rattle.std.proofs.lemmas.List.Elements.{Contains-append_right}
-use Rattle.pf_isa.proofs.NameLaws.{in_second}
+use Rattle.std.proofs.Common.{map, rules}
+use Rattle.pf_isa.proofs.NameLaws.{is_first, is_second}
 use Rattle.pf_isa.proofs.so_far.HeadSoFar.has_name.Goals as goal
+
+pub returns-then-has_image : goal.returns-then-has_image
+returns-then-has_image c =
+    (λ _. is_first (λ d. d.name) c.args.self.now.head.images (map (λ d. d.name) c.args.self.now.head.lifted) c.args.name.now (search rules), λ _. c.if-has_image.true)
 
 pub returns-else-has_image : goal.returns-else-has_image
 returns-else-has_image c =
-    let images = map (λ d. d.name) c.args.self.now.head.images in
-    let lifted = map (λ d. d.name) c.args.self.now.head.lifted in
-    let there : IsTrue c.has_lifted.result → Contains lifted c.args.name.now = search rules in
-    let back : Contains lifted c.args.name.now → IsTrue c.has_lifted.result = search rules in
-    let none : Contains images c.args.name.now → IsTrue false = search rules in
-    (λ h. Contains-append_right images lifted c.args.name.now (there h), λ h. back (in_second images lifted c.args.name.now (λ l. let is = none l in absurd (cc)) h))
+    is_second (λ d. d.name) (λ d. d.name) c.args.self.now.head.images c.args.self.now.head.lifted c.args.name.now c.has_lifted.result (search rules) (search rules)
