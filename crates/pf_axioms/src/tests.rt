@@ -4,7 +4,7 @@ ghost use Rattle.pf_forms.specs.Values.{IsFormOver};
 
 use super::*;
 use pf_forms::{Axiom, Form, at, equal, form_bounds, print_form, put, size};
-use pf_ints::{Bits, FURTHEST, Interval, IntervalList, LaneType, Name, NameList, Path};
+use pf_ints::{FURTHEST, Interval, IntervalList, LaneType, Name, NameList, Path};
 use std::alloc::Global;
 use std::test::Fail;
 
@@ -58,22 +58,11 @@ fn unary(word: u8, x: Box<Form>) -> Form
     ensures { IsFormOver 2 (shape result) }
 {
     match word {
-        b'8' => Form::Wrap(unsigned(Bits::Eight), x),
-        b'6' => Form::Wrap(unsigned(Bits::Sixteen), x),
-        b's' => Form::Sat(signed(Bits::Sixteen), x),
+        b'8' => Form::Wrap(LaneType::U8, x),
+        b'6' => Form::Wrap(LaneType::U16, x),
+        b's' => Form::Sat(LaneType::I16, x),
         b'a' => Form::Abs(x),
         _ => Form::FloorDiv(x, 1),
-    }
-}
-
-fn signed(bits: Bits) -> LaneType {
-    LaneType { signed: true, bits }
-}
-
-fn unsigned(bits: Bits) -> LaneType {
-    LaneType {
-        signed: false,
-        bits,
     }
 }
 

@@ -1,12 +1,10 @@
 ghost use Rattle.std.specs.Prelude.{◌≡◌, ◌++◌, ◌<◌, length, IfOk, OnOk, decimal};
-ghost use Rattle.std.specs.Fmt.{signed_decimal};
 ghost use Rattle.pf_forms.specs.Shapes.{shape};
 ghost use Rattle.pf_forms.specs.Values.{IsFormOver};
 ghost use Rattle.pf_forms.specs.FormTexts.{form_text, next_text, opening, typed_opening, type_word, power_text};
 
 use crate::form::Form;
-use itoa::Buffer;
-use pf_ints::{LaneType, Name, NameList};
+use pf_ints::{LaneType, Name, NameList, push_number, push_whole};
 use std::alloc::{AllocError, Global};
 
 /// The text of a form whose variables have their names in `names`.
@@ -22,24 +20,15 @@ pub fn print_form(alloc: Global, form: &Form, names: &NameList) -> Result<Vec<u8
 fn write_type(text: &mut Vec<u8>, t: LaneType) -> Result<(), AllocError>
     ensures { OnOk result (text.new.items ≡ text.old.items ++ type_word t) }
 {
-    let mut buffer = Buffer::new();
     text.extend_from_slice(if t.signed() { b"i" } else { b"u" })?;
-    text.extend_from_slice(buffer.format(t.width()).as_bytes())
+    push_number(text, u64::from(t.width()))
 }
 
 fn write_power(text: &mut Vec<u8>, e: u8) -> Result<(), AllocError>
     ensures { OnOk result (text.new.items ≡ text.old.items ++ power_text e) }
 {
-    let mut buffer = Buffer::new();
     text.extend_from_slice(b"2^")?;
-    text.extend_from_slice(buffer.format(e).as_bytes())
-}
-
-fn write_number(text: &mut Vec<u8>, n: i128) -> Result<(), AllocError>
-    ensures { OnOk result (text.new.items ≡ text.old.items ++ signed_decimal n) }
-{
-    let mut buffer = Buffer::new();
-    text.extend_from_slice(buffer.format(n).as_bytes())
+    push_number(text, u64::from(e))
 }
 
 /// Writes what stands before the parts of a form.
@@ -76,7 +65,7 @@ fn write_form(text: &mut Vec<u8>, form: &Form, names: &[Name]) -> Result<(), All
 {
     match form {
         Form::Var(n) => text.extend_from_slice(names[usize::from(*n)].as_slice()),
-        Form::Num(n) => write_number(text, *n),
+        Form::Num(n) => push_whole(text, *n),
         Form::Pow(e) => write_power(text, *e),
         Form::Add(x, y) | Form::Sub(x, y) | Form::Mul(x, y) | Form::Min(x, y) | Form::Max(x, y) => {
             open(text, form)?;

@@ -6,7 +6,7 @@ ghost use Rattle.pf_images.specs.Pgm.{is_white, ends_comment, number_from, great
 ghost use Rattle.pf_images.specs.Reading.{Gives, at_these, at_number, blank_count, digit_count, begun, digits_at, field_at, side_of, height_of, maxval_of, magic_of, header_of};
 
 use crate::fault::{Fault, PgmKind};
-use pf_ints::{Bits, LaneType, MOST_PIXELS, MOST_SIDE, is_digit};
+use pf_ints::{LaneType, MOST_PIXELS, MOST_SIDE, is_digit};
 
 /// The numbers of a header.
 #[derive(Clone, Copy, Debug)]
@@ -163,17 +163,6 @@ fn height_of(width: u32, digits: &[u8], rest: &[u8]) -> Result<u32, Fault>
     }
 }
 
-/// The greatest maxval that the type has room for.
-pub fn most_maxval(ty: LaneType) -> u32
-    requires { IsPixelType ty }
-    ensures { result ≡ greatest_sample ty }
-{
-    match ty.bits {
-        Bits::Eight => 0xff,
-        _ => 0xffff,
-    }
-}
-
 #[tactic(auto, unfolding(crate::specs::Reading::maxval_of))]
 fn maxval_of(ty: LaneType, digits: &[u8], rest: &[u8]) -> Result<u32, Fault>
     requires ty { IsPixelType ty }
@@ -181,7 +170,7 @@ fn maxval_of(ty: LaneType, digits: &[u8], rest: &[u8]) -> Result<u32, Fault>
     ensures { Gives (λ n. n) result (maxval_of ty (digits.now, rest.now)) }
 {
     let maxval = capped_number(digits);
-    if 1 <= maxval && maxval <= most_maxval(ty) {
+    if 1 <= maxval && maxval <= u32::from(ty.greatest_pixel()) {
         Ok(maxval)
     } else {
         Err(field_fault(digits, rest, PgmKind::Maxval))

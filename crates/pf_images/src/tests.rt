@@ -1,16 +1,16 @@
 ghost use Rattle.pf_ints.specs.Images.{IsPixelType};
 
 use super::*;
-use pf_ints::{Bits, LaneType};
+use pf_ints::{LaneType};
 use std::test::Fail;
 
 fn pixel_type(is_wide: bool) -> LaneType
     ensures { IsPixelType result }
 {
-    let bits = if is_wide { Bits::Sixteen } else { Bits::Eight };
-    LaneType {
-        signed: false,
-        bits,
+    if is_wide {
+        LaneType::U16
+    } else {
+        LaneType::U8
     }
 }
 

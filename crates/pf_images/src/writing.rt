@@ -7,31 +7,22 @@ ghost use Rattle.pf_ints.specs.Lanes.{lane_width};
 ghost use Rattle.pf_ints.specs.Images.{IsPicture, IsPixelType};
 ghost use Rattle.pf_images.specs.Pgm.{IsPgm, samples, greatest_sample, header_text, pgm_text};
 
-use crate::header::most_maxval;
-use itoa::Buffer;
-use pf_ints::{Bits, Image, LaneType, Memory};
+use pf_ints::{Bits, Image, LaneType, Memory, push_number};
 use std::alloc::Global;
 
 /// More bytes than the greatest header takes.
 const HEADER_ROOM: usize = 32;
-
-fn push_number(text: &mut Vec<u8>, n: u32) -> Result<(), Memory>
-    ensures { OnOk result (text.new.items ≡ text.old.items ++ decimal n) }
-{
-    let mut buffer = Buffer::new();
-    text.extend_from_slice(buffer.format(n).as_bytes())
-}
 
 fn push_header(text: &mut Vec<u8>, image: &Image) -> Result<(), Memory>
     requires { IsPicture image.now }
     ensures { OnOk result (text.new.items ≡ text.old.items ++ header_text image.now) }
 {
     text.extend_from_slice(b"P5\n")?;
-    push_number(text, image.width())?;
+    push_number(text, u64::from(image.width()))?;
     text.extend_from_slice(b" ")?;
-    push_number(text, image.height())?;
+    push_number(text, u64::from(image.height()))?;
     text.extend_from_slice(b"\n")?;
-    push_number(text, most_maxval(image.ty()))?;
+    push_number(text, u64::from(image.ty().greatest_pixel()))?;
     text.extend_from_slice(b"\n")
 }
 

@@ -3,3 +3,4 @@ pub mod Floor
 pub mod LaneLaws
 pub mod RangeLaws
 pub mod NameLaws
+pub mod LineLaws

@@ -1,6 +1,8 @@
 -- Images of pixels without a sign.
-use Rattle.std.specs.Prelude.{◌≡◌, ℕ, pos, ◌+◌, ◌*◌, ◌≤◌, List, length, All, false, slice_index}
+use Rattle.std.specs.Prelude.{◌≡◌, ℕ, pos, ◌+◌, ◌*◌, ◌≤◌, List, length, All, Bool, true, false, slice_index}
 use Rattle.pf_ints.specs.declared.lane.LaneType.{LaneType}
+use Rattle.pf_ints.specs.declared.lane.Bits.{Bits}
+use Rattle.pf_ints.specs.declared.lane.Bits.TheVariants.{Eight, Sixteen, ThirtyTwo}
 use Rattle.pf_ints.specs.Lanes.{IsIn, lane_width}
 
 -- an image: its size, the type of its pixels, and its pixels in rows from top to bottom
@@ -14,6 +16,16 @@ pub record Picture : Type 0 where
 pub record IsPixelType (t : LaneType) : Type 0 where
   pub unsigned : t.signed ≡ false
   pub narrow : lane_width t ≤ 16
+
+abbrev pub is_pixel_by : Bool → Bits → Bool
+is_pixel_by true bits = false
+is_pixel_by false Eight = true
+is_pixel_by false Sixteen = true
+is_pixel_by false ThirtyTwo = false
+
+-- the same as a test
+abbrev pub is_pixel : LaneType → Bool
+is_pixel t = is_pixel_by t.signed t.bits
 
 -- what every image keeps
 pub record IsPicture (p : Picture) : Type 0 where

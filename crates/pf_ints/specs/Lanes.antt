@@ -1,5 +1,5 @@
 -- Lane types, and how a whole number is brought into one.
-use Rattle.std.specs.Prelude.{◌≡◌, ℕ, ℤ, pos, ◌-◌, ◌^◌, ◌+ℤ◌, ◌-ℤ◌, ◌≤ℤ◌, neg_ℤ, if◌then◌else◌}
+use Rattle.std.specs.Prelude.{◌≡◌, ℕ, ℤ, pos, ◌-◌, ◌^◌, ◌+ℤ◌, ◌-ℤ◌, ◌≤ℤ◌, neg_ℤ, Bool, ◌&&◌, int_le, if◌then◌else◌}
 use Rattle.std.specs.Int.{int_max, int_min}
 use Rattle.pf_ints.specs.declared.lane.LaneType.{LaneType}
 use Rattle.pf_ints.specs.declared.lane.Bits.{Bits}
@@ -28,6 +28,10 @@ greatest t = if t.signed then pos (2 ^ (lane_width t - 1) - 1) else pos (2 ^ lan
 pub record IsIn (t : LaneType) (n : ℤ) : Type 0 where
   pub low : least t ≤ℤ n
   pub high : n ≤ℤ greatest t
+
+-- the same as a test
+abbrev pub is_in : LaneType → ℤ → Bool
+is_in t n = int_le (least t) n && int_le n (greatest t)
 
 -- the member that differs from n by a multiple of the modulus
 unfoldable pub wrapped : LaneType → ℤ → ℤ

@@ -1,5 +1,6 @@
-ghost use Rattle.std.specs.Prelude.{◌≡◌, ◌≢◌, ℤ, pos, ◌*◌, ◌/◌, ◌+ℤ◌, ◌*ℤ◌, IfSome, MatchOption};
-ghost use Rattle.pf_ints.specs.Lanes.{lane_width, modulus, least, greatest, IsIn, wrapped, clamped, IsNearestIn};
+ghost use Rattle.std.specs.Prelude.{◌≡◌, ◌≢◌, ℤ, pos, ◌*◌, ◌/◌, ◌-◌, ◌^◌, ◌≤◌, ◌+ℤ◌, ◌*ℤ◌, IsTrue, ◌↔◌, IfSome, MatchOption};
+ghost use Rattle.pf_ints.specs.Images.{IsPixelType, is_pixel};
+ghost use Rattle.pf_ints.specs.Lanes.{lane_width, modulus, least, greatest, is_in, IsIn, wrapped, clamped, IsNearestIn};
 
 /// How many bits a lane has.
 #[derive(Clone, Copy, Debug, PartialEq, Eq)]
@@ -17,6 +18,36 @@ pub struct LaneType {
 }
 
 impl LaneType {
+    pub const U8: LaneType = LaneType {
+        signed: false,
+        bits: Bits::Eight,
+    };
+
+    pub const I8: LaneType = LaneType {
+        signed: true,
+        bits: Bits::Eight,
+    };
+
+    pub const U16: LaneType = LaneType {
+        signed: false,
+        bits: Bits::Sixteen,
+    };
+
+    pub const I16: LaneType = LaneType {
+        signed: true,
+        bits: Bits::Sixteen,
+    };
+
+    pub const U32: LaneType = LaneType {
+        signed: false,
+        bits: Bits::ThirtyTwo,
+    };
+
+    pub const I32: LaneType = LaneType {
+        signed: true,
+        bits: Bits::ThirtyTwo,
+    };
+
     /// The type of this width in bits, or None where the width is none of 8, 16 and 32.
     pub fn new(signed: bool, width: u8) -> Option<LaneType>
         ensures { MatchOption result ((width ≢ 8) × (width ≢ 16) × (width ≢ 32))
@@ -47,6 +78,14 @@ impl LaneType {
             Bits::Sixteen => 16,
             Bits::ThirtyTwo => 32,
         }
+    }
+
+    /// The bytes of a lane: 1, 2 or 4.
+    pub fn bytes(self) -> u8
+        ensures value { result ≡ lane_width self / 8 }
+        ensures few { result ≤ 4 }
+    {
+        self.width() / 8
     }
 
     /// The type of twice the width and the same sign, or None at 32 bits.
@@ -123,6 +162,36 @@ impl LaneType {
                 Bits::Sixteen => 0xffff,
                 Bits::ThirtyTwo => 0xffff_ffff,
             }
+        }
+    }
+
+    /// Whether the number is a member.
+    pub fn contains(self, n: i128) -> bool
+        ensures { result ≡ is_in self n }
+    {
+        self.least() <= n && n <= self.greatest()
+    }
+
+    /// Whether an image may have pixels of the type, which are u8 or u16.
+    pub fn is_pixel(self) -> bool
+        ensures value { result ≡ is_pixel self }
+        ensures pixel { IsTrue result ↔ IsPixelType self }
+    {
+        match (self.signed, self.bits) {
+            (false, Bits::Eight) | (false, Bits::Sixteen) => true,
+            _ => false,
+        }
+    }
+
+    /// The greatest pixel of the type.
+    pub fn greatest_pixel(self) -> u16
+        requires { IsPixelType self }
+        ensures value { pos result ≡ greatest self }
+        ensures full { result ≡ 2 ^ lane_width self - 1 }
+    {
+        match self.bits {
+            Bits::Eight => 0xff,
+            _ => 0xffff,
         }
     }
 }

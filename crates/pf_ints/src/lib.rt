@@ -4,7 +4,9 @@
 mod image;
 mod interval;
 mod lane;
+mod line;
 mod name;
+mod number;
 mod sequence;
 mod target;
 mod word;
@@ -12,7 +14,9 @@ mod word;
 pub use image::{Image, ImageSet, MOST_PIXELS, MOST_SIDE};
 pub use interval::{FURTHEST, Interval, IntervalList};
 pub use lane::{Bits, LaneType, sat, wrap};
+pub use line::next_line;
 pub use name::Name;
+pub use number::{push_number, push_whole};
 pub use sequence::{
     ByteList, Duplicate, NameList, NameNumbers, NumberList, Path, PixelList, Sequence,
 };

@@ -1,5 +1,5 @@
 -- Why bytes are no text of a program, and in which line that shows first.
-use Rattle.std.specs.Prelude.{◌≡◌, ◌≢◌, ℕ, ◌+◌, ◌^◌, ◌≤◌, ◌<◌, ◌⊎◌, List, [], ◌∷◌, ◌++◌, length, map, sum, IsTrue, All, Contains, Bool, ◌==◌, Option, Some, None, Result, Ok, Err, codes, if◌then◌else◌}
+use Rattle.std.specs.Prelude.{◌≡◌, ◌≢◌, ℕ, ◌+◌, ◌^◌, ◌≤◌, ◌<◌, ◌⊎◌, List, [], ◌∷◌, ◌++◌, length, map, sum, IsTrue, All, Contains, Option, Some, None, Result, Ok, Err, codes, if◌then◌else◌}
 use Rattle.std.specs.List.{AllPairs, AllZip, last_or}
 use Rattle.std.specs.Str.{bytes_eq}
 use Rattle.std.specs.Str.Lines.{lines}
@@ -41,9 +41,6 @@ kind_word NoEnd = codes "noend"
 -- the texts that slices hold
 abbrev pub texts : List (Bor (List ℕ)) → List (List ℕ)
 texts slices = map (λ s. s.now) slices
-
-abbrev pub is_line_feed : ℕ → Bool
-is_line_feed c = c == 10
 
 -- ---- the head, line by line
 

@@ -12,7 +12,7 @@ ghost use Rattle.pf_isa.specs.TextFaults.{texts};
 
 use crate::scan::behind;
 use itoa::Buffer;
-use pf_ints::{Bits, LaneType, Name, is_digit, is_name};
+use pf_ints::{LaneType, Name, is_digit, is_name};
 use pf_terms::{ImageDecl, ImageName, Tap, type_of_word};
 
 /// The number that the word writes, or None where it writes none below 2^64.
@@ -106,10 +106,7 @@ fn pixel_type_of_word(word: &[u8]) -> Option<LaneType>
     ensures { IsTheOne (λ t. IsPixelType t × (type_word t ≡ word.now)) result }
 {
     let ty = lane_of_word(word)?;
-    if ty.signed || ty.bits == Bits::ThirtyTwo {
-        return None;
-    }
-    Some(ty)
+    if ty.is_pixel() { Some(ty) } else { None }
 }
 
 /// The name that the word is.
@@ -145,21 +142,10 @@ fn range_of(ty: LaneType, lo: &[u8], hi: &[u8]) -> Option<(u32, u32)>
     if hi < lo {
         return None;
     }
-    if greatest(ty) < hi {
+    if u64::from(ty.greatest_pixel()) < hi {
         return None;
     }
     Some((lo as u32, hi as u32))
-}
-
-fn greatest(ty: LaneType) -> u64
-    requires { IsPixelType ty }
-    ensures value { pos result ≡ greatest ty }
-    ensures few { result < 2 ^ 16 }
-{
-    match ty.bits {
-        Bits::Eight => 0xff,
-        _ => 0xffff,
-    }
 }
 
 // The word behind this one, where there are just these two.

@@ -42,4 +42,4 @@ pub use scan::{behind, checked, next_number, number_at};
 pub use steps::Trap;
 pub use text::{read_text, reread, target_of};
 pub use tight::{ShortLine, tighten};
-pub use write::{push_number, write_text};
+pub use write::write_text;

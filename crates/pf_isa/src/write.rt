@@ -8,26 +8,11 @@ ghost use Rattle.pf_isa.specs.Texts.{IsText, IsOpOf, printed, target_line, range
 use crate::code::{Label, Line};
 use crate::isa::Isa;
 use crate::program::{Head, Program};
-use itoa::Buffer;
-use pf_ints::{Duplicate, LaneType, Memory, Name, Sequence, Target};
+use pf_ints::{
+    Duplicate, LaneType, Memory, Name, Sequence, Target, push_number, push_whole,
+};
 use pf_terms::{DefName, Definition, ImageDecl, ImageName, Names, Tap, write_term, write_type};
 use std::alloc::Global;
-
-/// Appends the number in decimal digits. The only error is want of memory, after which the text may
-/// have got a part of the digits.
-pub fn push_number(text: &mut Vec<u8>, n: u64) -> Result<(), Memory>
-    ensures { OnOk result (text.new.items ≡ text.old.items ++ decimal n) }
-{
-    let mut buffer = Buffer::new();
-    text.extend_from_slice(buffer.format(n).as_bytes())
-}
-
-fn push_signed(text: &mut Vec<u8>, n: i16) -> Result<(), Memory>
-    ensures { OnOk result (text.new.items ≡ text.old.items ++ signed_decimal n) }
-{
-    let mut buffer = Buffer::new();
-    text.extend_from_slice(buffer.format(n).as_bytes())
-}
 
 fn push_target_line(text: &mut Vec<u8>, target: Target) -> Result<(), Memory>
     ensures { OnOk result (text.new.items ≡ text.old.items ++ printed (target_line target ∷ [])) }
@@ -69,9 +54,9 @@ fn push_image_lines(text: &mut Vec<u8>, images: &[ImageDecl]) -> Result<(), Memo
 fn push_offsets(text: &mut Vec<u8>, tap: Tap) -> Result<(), Memory>
     ensures { OnOk result (text.new.items ≡ text.old.items ++ offsets_text tap) }
 {
-    push_signed(text, tap.dx)?;
+    push_whole(text, i128::from(tap.dx))?;
     text.extend_from_slice(b" ")?;
-    push_signed(text, tap.dy)
+    push_whole(text, i128::from(tap.dy))
 }
 
 fn push_tap_line(text: &mut Vec<u8>, images: &[ImageName], tap: Tap) -> Result<(), Memory>

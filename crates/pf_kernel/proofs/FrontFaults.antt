@@ -8,10 +8,11 @@ use Rattle.pf_terms.specs.declared.token.Kind.{Kind}
 use Rattle.pf_terms.specs.declared.token.Kind.TheVariants.{Name, TypeWord, Number, Line, Equals}
 use Rattle.pf_terms.specs.declared.token.LineWord.{LineWord}
 use Rattle.pf_terms.specs.declared.token.LineWord.TheVariants.{Kernel, Image, Def, Out}
-use Rattle.pf_terms.specs.Terms.{is_in}
+use Rattle.pf_ints.specs.Images.{is_pixel}
+use Rattle.pf_ints.specs.Lanes.{is_in}
 use Rattle.pf_kernel.specs.declared.front.Front.{Front}
 use Rattle.pf_kernel.specs.Lines.{Begun, may_stand, Begins, IsFrontFault}
-use Rattle.pf_kernel.specs.Fronts.{is_pixel, is_range, front_of, front_by, kernel_front, image_front, range_front, high_front, range_end, def_front, out_front, out_end}
+use Rattle.pf_kernel.specs.Fronts.{is_range, front_of, front_by, kernel_front, image_front, range_front, high_front, range_end, def_front, out_front, out_end}
 use Rattle.pf_kernel.proofs.Shapes.{found, shaped}
 
 -- n is told, whatever stands behind token n, and something may go on behind the tokens before it

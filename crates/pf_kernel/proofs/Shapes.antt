@@ -5,17 +5,16 @@ use Rattle.std.proofs.lemmas.Int.{ints}
 use Rattle.pf_ints.specs.declared.lane.LaneType.{LaneType}
 use Rattle.pf_ints.specs.declared.lane.Bits.{Bits}
 use Rattle.pf_ints.specs.declared.lane.Bits.TheVariants.{Eight, Sixteen, ThirtyTwo}
-use Rattle.pf_ints.specs.Images.{IsPixelType}
-use Rattle.pf_ints.specs.Lanes.{IsIn, least, greatest}
+use Rattle.pf_ints.specs.Images.{IsPixelType, is_pixel, is_pixel_by}
+use Rattle.pf_ints.specs.Lanes.{IsIn, least, greatest, is_in}
 use Rattle.pf_terms.specs.declared.token.Kind.{Kind}
 use Rattle.pf_terms.specs.declared.token.Kind.TheVariants.{Name, TypeWord, Number, Line, Equals}
 use Rattle.pf_terms.specs.declared.token.LineWord.{LineWord}
 use Rattle.pf_terms.specs.declared.token.LineWord.TheVariants.{Kernel, Image, Def, Out}
-use Rattle.pf_terms.specs.Terms.{is_in}
 use Rattle.pf_kernel.specs.declared.front.Front.{Front}
 use Rattle.pf_kernel.specs.Lines.{Begun, may_stand, IsShape, kernel, image, ranged, def, out, whole_range}
 use Rattle.pf_kernel.specs.Kernels.{IsDecl}
-use Rattle.pf_kernel.specs.Fronts.{is_pixel, is_pixel_by, is_range, front_of, front_by, kernel_front, image_front, range_front, high_front, range_end, def_front, out_front, out_end}
+use Rattle.pf_kernel.specs.Fronts.{is_range, front_of, front_by, kernel_front, image_front, range_front, high_front, range_end, def_front, out_front, out_end}
 
 ok_same : {A B : Type 0} {a b : A} → ◌≡◌ {A = Result A B} (Ok a) (Ok b) → a ≡ b
 ok_same h = cc

@@ -1,26 +1,15 @@
 -- The front of a line by its tokens: what it says, or else the first token that fits nowhere.
-use Rattle.std.specs.Prelude.{ℕ, ℤ, Bool, true, false, ◌&&◌, int_le, if◌then◌else◌, unsigned_abs, List, [], ◌∷◌, Result, Ok, Err}
+use Rattle.std.specs.Prelude.{ℕ, ℤ, Bool, ◌&&◌, int_le, if◌then◌else◌, unsigned_abs, List, [], ◌∷◌, Result, Ok, Err}
 use Rattle.pf_ints.specs.declared.lane.LaneType.{LaneType}
-use Rattle.pf_ints.specs.declared.lane.Bits.{Bits}
-use Rattle.pf_ints.specs.declared.lane.Bits.TheVariants.{Eight, Sixteen, ThirtyTwo}
+use Rattle.pf_ints.specs.Images.{is_pixel}
+use Rattle.pf_ints.specs.Lanes.{is_in}
 use Rattle.pf_terms.specs.declared.token.Kind.{Kind}
 use Rattle.pf_terms.specs.declared.token.Kind.TheVariants.{Name, TypeWord, Number, Line, Equals}
 use Rattle.pf_terms.specs.declared.token.LineWord.{LineWord}
 use Rattle.pf_terms.specs.declared.token.LineWord.TheVariants.{Kernel, Image, Def, Out}
-use Rattle.pf_terms.specs.Terms.{is_in}
 use Rattle.pf_kernel.specs.declared.front.Front.{Front}
 use Rattle.pf_kernel.specs.declared.front.Front.TheVariants.{Kernel as KernelFront, Image as ImageFront, Def as DefFront, Out as OutFront}
 use Rattle.pf_kernel.specs.Lines.{whole_range}
-
-abbrev pub is_pixel_by : Bool → Bits → Bool
-is_pixel_by true bits = false
-is_pixel_by false Eight = true
-is_pixel_by false Sixteen = true
-is_pixel_by false ThirtyTwo = false
-
--- u8 or u16
-abbrev pub is_pixel : LaneType → Bool
-is_pixel t = is_pixel_by t.signed t.bits
 
 abbrev pub kernel_front : List Kind → Result Front ℕ
 kernel_front (Name n ∷ []) = Ok (KernelFront n)

@@ -31,10 +31,7 @@ const MOST_NODES: u64 = 512;
 const MOST_COUNT: u64 = 0x7fff_ffff_ffff_ffff;
 
 // The type of what has no entry.
-const NO_TYPE: LaneType = LaneType {
-    signed: false,
-    bits: Bits::Eight,
-};
+const NO_TYPE: LaneType = LaneType::U8;
 
 /// What a term is judged by beside its names.
 #[derive(Clone, Copy, Debug)]

@@ -1,9 +1,10 @@
 ghost use Rattle.std.specs.Prelude.{◌≡◌, ◌∷◌, ◌≤ℤ◌, pos, if◌then◌else◌, true};
 ghost use Rattle.pf_terms.specs.Parsing.{kinds};
-ghost use Rattle.pf_terms.specs.Terms.{is_in};
-ghost use Rattle.pf_kernel.specs.Fronts.{is_pixel, is_range, kernel_front, image_front, typed_image, range_front, high_front, range_end, def_front, typed_def, def_end, out_front, out_end, front_by};
+ghost use Rattle.pf_ints.specs.Lanes.{is_in};
+ghost use Rattle.pf_ints.specs.Images.{is_pixel};
+ghost use Rattle.pf_kernel.specs.Fronts.{is_range, kernel_front, image_front, typed_image, range_front, high_front, range_end, def_front, typed_def, def_end, out_front, out_end, front_by};
 
-use pf_ints::{Bits, LaneType, Name};
+use pf_ints::{LaneType, Name};
 use pf_terms::{ImageDecl, Kind, LineWord, Token};
 
 /// What a line says in front of its expression, or at all where it has none.
@@ -60,7 +61,7 @@ fn typed_image(name: Name, tokens: &[Token]) -> Result<Front, usize>
 {
     match tokens {
         [token, rest @ ..] => match token.kind {
-            Kind::TypeWord(ty) if is_pixel(ty) => range_front(name, ty, rest),
+            Kind::TypeWord(ty) if ty.is_pixel() => range_front(name, ty, rest),
             _ => Err(2),
         },
         [] => Err(2),
@@ -157,7 +158,7 @@ fn out_front(tokens: &[Token]) -> Result<Front, usize>
 {
     match tokens {
         [token, rest @ ..] => match token.kind {
-            Kind::TypeWord(ty) if is_pixel(ty) => out_end(ty, rest),
+            Kind::TypeWord(ty) if ty.is_pixel() => out_end(ty, rest),
             _ => Err(1),
         },
         [] => Err(1),
@@ -176,17 +177,8 @@ fn out_end(ty: LaneType, tokens: &[Token]) -> Result<Front, usize>
     }
 }
 
-fn is_pixel(ty: LaneType) -> bool
-    ensures { result ≡ is_pixel ty }
-{
-    match (ty.signed, ty.bits) {
-        (false, Bits::Eight) | (false, Bits::Sixteen) => true,
-        _ => false,
-    }
-}
-
 fn is_in(ty: LaneType, n: i64) -> bool
     ensures { result ≡ is_in ty n }
 {
-    ty.least() <= n as i128 && n as i128 <= ty.greatest()
+    ty.contains(i128::from(n))
 }

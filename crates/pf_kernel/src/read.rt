@@ -1,6 +1,5 @@
 ghost use Rattle.std.specs.Prelude.{◌≡◌, ◌+◌, ◌∷◌, [], ◌++◌, ◌<◌, ◌≤◌, ◌^◌, length, IfOk, IfErr, MatchOption, IfSome, pos, Some, None, ◌==◌, List, ℕ};
-ghost use Rattle.std.specs.List.{position};
-ghost use Rattle.std.specs.Str.Lines.{lines, strip_carriage_return};
+ghost use Rattle.std.specs.Str.Lines.{lines};
 ghost use Rattle.pf_terms.specs.declared.limit.LimitKind.TheVariants.{Bytes};
 ghost use Rattle.pf_kernel.specs.declared.fault.KernelFault.{KernelFault};
 ghost use Rattle.pf_kernel.specs.declared.fault.KernelFault.TheVariants.{Limit};
@@ -14,6 +13,7 @@ use crate::fault::KernelFault;
 use crate::kernel::Kernel;
 use crate::line::read_line;
 use crate::reading::Reading;
+use pf_ints::next_line;
 use pf_terms::{LimitKind, ReadFault};
 use std::alloc::Global;
 
@@ -68,7 +68,7 @@ fn read_lines(alloc: Global, text: &[u8]) -> Result<(Reading, u32), KernelFault>
     let mut count: u32 = 0;
     let mut rest = text;
     'lines: while 0 < rest.len() {
-        let (line, next) = first_line(rest);
+        let (line, next) = next_line(rest);
         reading = match read_next(alloc, reading, line, count + 1) {
             Ok(more) => more,
             Err(fault) => return Err(fault),
@@ -106,36 +106,6 @@ fn at_line(line: u32, fault: ReadFault) -> KernelFault
         },
         ReadFault::Limit { what, count } => KernelFault::Limit { what, count },
         ReadFault::Memory => KernelFault::Memory,
-    }
-}
-
-// The first line without its end, and what stands behind it.
-fn first_line(text: &[u8]) -> (&[u8], &[u8])
-    requires { 0 < length text.now }
-    ensures lines { lines text.now ≡ result.0.now ∷ lines result.1.now }
-    ensures within { length result.0.now ≤ length text.now }
-    ensures shorter { length result.1.now < length text.now }
-{
-    match end_place(text) {
-        Some(n) => (without_return(&text[..n]), &text[n + 1..]),
-        None => (text, &text[text.len()..]),
-    }
-}
-
-fn end_place(text: &[u8]) -> Option<usize>
-    ensures value { result ≡ position (λ b. b == 10) text.now }
-    ensures within { IfSome result (λ n. n < length text.now) }
-{
-    text.iter().position(|byte| *byte == b'\n')
-}
-
-fn without_return(line: &[u8]) -> &[u8]
-    ensures value { result.now ≡ strip_carriage_return line.now }
-    ensures within { length result.now ≤ length line.now }
-{
-    match line {
-        [front @ .., b'\r'] => front,
-        _ => line,
     }
 }
 

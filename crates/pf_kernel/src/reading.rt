@@ -10,8 +10,8 @@ ghost use Rattle.pf_kernel.specs.Readings.{begun_of, IsReading};
 
 use pf_ints::{LaneType, Name, Sequence};
 use pf_terms::{
-    DefName, DefNames, Definition, Definitions, ImageDecl, ImageList, ImageName, ImageNames,
-    LineWord, Names, TapList, Term,
+    DefName, Definition, Definitions, ImageDecl, ImageList, ImageName, LineWord, Names, TapList,
+    Term, is_def, is_image,
 };
 use std::alloc::{AllocError, Global};
 
@@ -107,21 +107,4 @@ impl Reading {
         self.defs.push(Definition { name, ty, term })?;
         self.names.defs.push(def_name)
     }
-}
-
-fn is_image(images: &ImageNames, name: &Name) -> bool
-    ensures { result ≡ is_image images.now name.now }
-{
-    images
-        .as_slice()
-        .iter()
-        .any(|image| image.name.as_slice() == name.as_slice())
-}
-
-fn is_def(defs: &DefNames, name: &Name) -> bool
-    ensures { result ≡ is_def defs.now name.now }
-{
-    defs.as_slice()
-        .iter()
-        .any(|def| def.name.as_slice() == name.as_slice())
 }

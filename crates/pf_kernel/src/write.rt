@@ -7,8 +7,7 @@ ghost use Rattle.pf_kernel.specs.Texts.{IsKernel, kernel_text, image_text, def_t
 ghost use Rattle.pf_kernel.specs.Printable.{IsPrintable};
 
 use crate::kernel::Kernel;
-use itoa::Buffer;
-use pf_ints::LaneType;
+use pf_ints::{LaneType, push_number};
 use pf_terms::{Definition, ImageDecl, Names, Term, write_term, write_type};
 use std::alloc::{AllocError, Global};
 
@@ -46,17 +45,10 @@ fn write_image(text: &mut Vec<u8>, image: &ImageDecl) -> Result<(), AllocError>
     text.extend_from_slice(b" ")?;
     write_type(text, image.ty)?;
     text.extend_from_slice(b" ")?;
-    write_number(text, image.lo)?;
+    push_number(text, u64::from(image.lo))?;
     text.extend_from_slice(b" ")?;
-    write_number(text, image.hi)?;
+    push_number(text, u64::from(image.hi))?;
     text.extend_from_slice(b"\n")
-}
-
-fn write_number(text: &mut Vec<u8>, n: u32) -> Result<(), AllocError>
-    ensures { OnOk result (text.new.items ≡ text.old.items ++ decimal n) }
-{
-    let mut buffer = Buffer::new();
-    text.extend_from_slice(buffer.format(n).as_bytes())
 }
 
 fn write_defs(text: &mut Vec<u8>, defs: &[Definition], names: &Names) -> Result<(), AllocError>

@@ -16,13 +16,6 @@ use pf_ints::{LaneType, Memory, Sequence};
 use pf_isa::{Block, Code, Control, Head, Isa, LabelList, Program, role};
 use std::alloc::Global;
 
-/// The bytes of a pixel.
-fn pixel_bytes(ty: LaneType) -> u8
-    ensures { result ≡ pixel_bytes ty }
-{
-    ty.width() / 8
-}
-
 /// The bytes of a pixel of each tap.
 fn widths_of(alloc: Global, head: &Head) -> Result<Sequence<u8>, Memory>
     requires { IsHead head.now }
@@ -31,7 +24,7 @@ fn widths_of(alloc: Global, head: &Head) -> Result<Sequence<u8>, Memory>
     let mut widths = Sequence::new(alloc);
     let images = head.images.as_slice();
     for tap in head.taps.as_slice() {
-        widths.push(pixel_bytes(images[usize::from(tap.image)].ty))?;
+        widths.push(images[usize::from(tap.image)].ty.bytes())?;
     }
     Ok(widths)
 }
@@ -155,7 +148,7 @@ pub fn row_program<I: Isa>(
     ensures lanes { IfOk result (λ p. LeavesLanes I.table (slots_in I.table head) block p) }
 {
     let widths = widths_of(alloc, &head)?;
-    let width = pixel_bytes(head.out_ty);
+    let width = head.out_ty.bytes();
     let (code, labels) = lines(alloc, widths.as_slice(), width, block)?;
     Ok(Program::new(head, code, labels))
 }

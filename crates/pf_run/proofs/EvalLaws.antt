@@ -3,7 +3,7 @@ use Rattle.std.proofs.Common.{◌≡◌, refl, sym, ◌∙◌, ap, subst, ℕ, �
 use Rattle.std.specs.Prelude.{ℤ, pos, nat_lt, ◌&&◌, ◌+ℤ◌, ◌-ℤ◌, ◌≤ℤ◌, int_le, unsigned_abs, zip}
 use Rattle.std.proofs.lemmas.Bool.Decides.{nat_tests}
 use Rattle.std.proofs.lemmas.Int.{ints}
-use Rattle.pf_ints.specs.Lanes.{IsIn, least, greatest}
+use Rattle.pf_ints.specs.Lanes.{IsIn, least, greatest, is_in}
 use Rattle.pf_ints.specs.declared.lane.LaneType.{LaneType}
 use Rattle.pf_terms.specs.declared.names.DefName.{DefName}
 use Rattle.pf_terms.specs.declared.names.Names.{Names}
@@ -14,7 +14,7 @@ use Rattle.pf_terms.specs.declared.term.Term.{Term, roll-Term, map-Term}
 use Rattle.pf_terms.specs.declared.term.Term.TheOpen.{Term-F}
 use Rattle.pf_terms.specs.declared.term.Term.TheOpen.Term-F.{Leaf, Node}
 use Rattle.pf_terms.specs.declared.term.Term.TheFolds.{fold-roll-Term, ind-Term}
-use Rattle.pf_terms.specs.Terms.{all_true, is_in, is_env_of, is_env_leaf, env_step}
+use Rattle.pf_terms.specs.Terms.{all_true, is_env_of, is_env_leaf, env_step}
 use Rattle.pf_terms.specs.TermTexts.{is_named, is_named_leaf, is_named_tap, named_step, no_tap, no_image, no_def}
 use Rattle.pf_terms.proofs.NodeRanges.{same_type_is}
 use Rattle.std.proofs.lemmas.List.{get_or_append_left, get_or_at, get_or-map, length-map, take_more, drop_more, take_all, drop_all, map-append}

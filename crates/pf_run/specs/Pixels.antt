@@ -5,7 +5,7 @@ use Rattle.pf_terms.specs.declared.names.ImageName.{ImageName}
 use Rattle.pf_terms.specs.declared.names.DefName.{DefName}
 use Rattle.pf_terms.specs.declared.names.Tap.{Tap}
 use Rattle.pf_terms.specs.Kernels.{Source, out_value, left_reach, up_reach, out_width, out_height, no_picture, tap_column, tap_row}
-use Rattle.pf_terms.specs.Terms.{is_in}
+use Rattle.pf_ints.specs.Lanes.{is_in}
 use Rattle.pf_terms.specs.TermTexts.{no_image, no_tap, no_def}
 use Rattle.pf_run.specs.declared.eval.Reach.{Reach}
 

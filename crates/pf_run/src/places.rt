@@ -31,19 +31,11 @@ fn start_behind(end: u64) -> u64
     (end + 8191) / 4096 * 4096
 }
 
-/// The bytes of a pixel.
-pub fn pixel_bytes(ty: LaneType) -> u64
-    ensures value { result ≡ pixel_bytes ty }
-    ensures few { result ≤ 4 }
-{
-    u64::from(ty.width() / 8)
-}
-
 fn image_size(image: &Image) -> u64
     ensures value { result ≡ image_size image.now }
     ensures small { result ≤ 4 * 16777216 }
 {
-    pixel_bytes(image.ty()) * (u64::from(image.width()) * u64::from(image.height()))
+    u64::from(image.ty().bytes()) * (u64::from(image.width()) * u64::from(image.height()))
 }
 
 /// Appends where the images start, the first at this address, and tells where a further region

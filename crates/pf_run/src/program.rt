@@ -11,7 +11,7 @@ ghost use Rattle.pf_run.specs.Sets.{KeepsAll};
 
 use crate::fault::RunFault;
 use crate::output::image_in_memory;
-use crate::places::{pixel_bytes, run_regions};
+use crate::places::run_regions;
 use crate::plan::{Plan, plan_of};
 use crate::rows::run_rows;
 use crate::set::judge_set;
@@ -26,7 +26,7 @@ fn output_size(plan: &Plan) -> usize
     ensures { result ≡ pixel_bytes plan.now.out_ty * (plan.now.columns * plan.now.rows) }
 {
     let pixels = u64::from(plan.columns) * u64::from(plan.rows);
-    (pixel_bytes(plan.out_ty) * pixels) as usize
+    (u64::from(plan.out_ty.bytes()) * pixels) as usize
 }
 
 /// The image in the output, which is region n.

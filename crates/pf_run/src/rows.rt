@@ -9,7 +9,7 @@ ghost use Rattle.pf_run.specs.Placement.{blank_memory, places_of, run_places};
 ghost use Rattle.pf_run.specs.Rows.{IsPlan, IsPlanOf, RowAnswers, RowsAnswer, entries_of};
 
 use crate::fault::RunFault;
-use crate::places::{TABLE, pixel_bytes};
+use crate::places::TABLE;
 use crate::plan::Plan;
 use crate::reach::{distance, pixel_number};
 use pf_ints::{Image, Memory};
@@ -39,7 +39,7 @@ fn tap_address(plan: &Plan, images: &[Image], y: u32, tap: &Tap) -> u64
     let column = distance(0, plan.left, tap.dx);
     let row = distance(y, plan.up, tap.dy);
     let n = pixel_number(image.width(), row, column);
-    pixel_address(plan.starts.images[number], pixel_bytes(image.ty()), n)
+    pixel_address(plan.starts.images[number], u64::from(image.ty().bytes()), n)
 }
 
 /// Puts the table of row y in place of the entries.
@@ -58,7 +58,7 @@ fn write_entries(
         entries.push(tap_address(plan, images, y, tap))?;
     }
     let n = pixel_number(plan.columns, y, 0);
-    entries.push(pixel_address(plan.starts.output, pixel_bytes(plan.out_ty), n))?;
+    entries.push(pixel_address(plan.starts.output, u64::from(plan.out_ty.bytes()), n))?;
     entries.push(plan.starts.scratch)?;
     entries.push(u64::from(plan.columns))?;
     Ok(())

@@ -2,7 +2,7 @@ ghost use Rattle.pf_ints.specs.Images.{IsPixelType};
 
 use super::*;
 use pf_images::read_pgm;
-use pf_ints::{Bits, ImageSet, LaneType, Name, Sequence};
+use pf_ints::{ImageSet, LaneType, Name, Sequence};
 use pf_isa::TextKind;
 use pf_kernel::read_kernel;
 use pf_terms::{ImageDecl, Tap};
@@ -12,10 +12,10 @@ use std::test::Fail;
 fn pixel_type(is_wide: bool) -> LaneType
     ensures { IsPixelType result }
 {
-    let bits = if is_wide { Bits::Sixteen } else { Bits::Eight };
-    LaneType {
-        signed: false,
-        bits,
+    if is_wide {
+        LaneType::U16
+    } else {
+        LaneType::U8
     }
 }
 

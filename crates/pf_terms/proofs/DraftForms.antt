@@ -18,7 +18,8 @@ use Rattle.pf_terms.specs.declared.term.Term.{Term}
 use Rattle.pf_terms.specs.declared.term.Term.TheVariants.{Leaf}
 use Rattle.pf_terms.specs.declared.token.Kind.{Kind}
 use Rattle.pf_terms.specs.Operators.{row_of}
-use Rattle.pf_terms.specs.Terms.{is_in, all_true, is_formed_node, is_well_formed, result_type, stated_type}
+use Rattle.pf_ints.specs.Lanes.{is_in}
+use Rattle.pf_terms.specs.Terms.{all_true, is_formed_node, is_well_formed, result_type, stated_type}
 use Rattle.pf_terms.specs.TermTexts.{no_def, no_image}
 use Rattle.pf_terms.specs.Grammar.{Spells, Rank, call_shape, IsComparison, number, negated, named, placed, bracketed, cast, one, two, one_by, two_by, typed, chosen, alone, product, term, sum, difference, unshifted, left, right, greater, less as less_sign, same}
 use Rattle.pf_terms.specs.Drafts.{IsDraftText}

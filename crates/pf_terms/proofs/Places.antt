@@ -14,7 +14,8 @@ use Rattle.pf_terms.specs.declared.token.Token.{Token}
 use Rattle.pf_terms.specs.declared.draft.Draft.{Draft}
 use Rattle.pf_terms.specs.declared.build.Build.{Build}
 use Rattle.pf_terms.specs.declared.reader.Reader.{Reader}
-use Rattle.pf_terms.specs.Terms.{is_in, typed_as}
+use Rattle.pf_ints.specs.Lanes.{is_in}
+use Rattle.pf_terms.specs.Terms.{typed_as}
 use Rattle.pf_terms.specs.Grammar.{IsSpelled, Whole, Spells}
 use Rattle.pf_terms.specs.Parsing.{step, taker, after, built, run, then_on, finished, whole, kinds, place_of}
 use Rattle.pf_terms.specs.Drafts.{small_number, IsNegative, IsFaultPlace, behind, first}

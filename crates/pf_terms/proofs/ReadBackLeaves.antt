@@ -6,7 +6,7 @@ use Rattle.std.proofs.lemmas.Int.{ints}
 use Rattle.std.proofs.lemmas.List.{get_or-map, get_or_append_left, get_or-append-add, length-append, length-map}
 use borrow.Author.Tests.{ltb-true}
 use Rattle.pf_ints.specs.declared.lane.LaneType.{LaneType}
-use Rattle.pf_ints.specs.Lanes.{IsIn, least, greatest}
+use Rattle.pf_ints.specs.Lanes.{IsIn, least, greatest, is_in}
 use Rattle.pf_ints.specs.Words.{is_name}
 use Rattle.pf_terms.specs.declared.draft.Draft.TheVariants.{Number as NumberOf, Named, Placed}
 use Rattle.pf_terms.specs.declared.names.DefName.{DefName}
@@ -22,7 +22,7 @@ use Rattle.pf_terms.specs.Grammar.{number, negated, named, placed, IsInteger, pl
 use Rattle.pf_terms.specs.KernelNames.{IsNames, IsNear, all_names}
 use Rattle.pf_terms.specs.ReadBack.{leaf_draft}
 use Rattle.pf_terms.specs.Small.{IsSmall}
-use Rattle.pf_terms.specs.Terms.{is_in, is_formed_leaf}
+use Rattle.pf_terms.specs.Terms.{is_formed_leaf}
 use Rattle.pf_terms.specs.TermTexts.{leaf_text, placed_text, type_word, is_named_leaf, is_named_tap, no_image, no_tap, no_def}
 use Rattle.pf_terms.specs.Tokens.{IsNoRun}
 use Rattle.pf_terms.proofs.Ranges.{small_member}

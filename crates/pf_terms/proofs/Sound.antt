@@ -11,7 +11,7 @@ use Rattle.pf_terms.specs.declared.symbol.CallShape.TheVariants.{One, Two, OneAn
 use Rattle.pf_terms.specs.declared.token.Kind.{Kind}
 use Rattle.pf_terms.specs.declared.token.Kind.TheVariants.{Name, TypeWord, Number, Typed, Word, Choose, Open, Close, OpenSquare, CloseSquare, Comma, Plus, Minus, Times, ShiftLeft, ShiftRight, Less, Greater, Same}
 use Rattle.pf_terms.specs.declared.build.Build.{Build}
-use Rattle.pf_terms.specs.Terms.{is_in}
+use Rattle.pf_ints.specs.Lanes.{is_in}
 use Rattle.pf_terms.specs.Grammar.{call_shape, Atoms, Products, Sums, Whole, IsInteger, plain, minus, IsComparison, greater, less, same, Spells, number, negated, named, placed, bracketed, cast, one, two, one_by, two_by, typed, chosen, alone, product, term, sum, difference, unshifted, left, right, IsSpelled}
 use Rattle.pf_terms.specs.Parsing.{step, after, after_atom, followed, passes, passed, may_be_none, goes_on, finished, built, run, then_on, whole, call_symbols, choice_symbols}
 

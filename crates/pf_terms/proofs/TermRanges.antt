@@ -4,7 +4,7 @@ use Rattle.std.specs.Prelude.{Result, Ok, Err, int_le, nat_lt, ◌≤ℤ◌}
 use Rattle.std.proofs.lemmas.List.{length-map}
 use Rattle.std.proofs.lemmas.Int.{ints}
 use Rattle.pf_ints.specs.declared.lane.LaneType.{LaneType}
-use Rattle.pf_ints.specs.Lanes.{IsIn, least, greatest}
+use Rattle.pf_ints.specs.Lanes.{IsIn, least, greatest, is_in}
 use Rattle.pf_terms.specs.declared.fault.TermFault.{TermFault}
 use Rattle.pf_terms.specs.declared.op.Op.{Op}
 use Rattle.pf_terms.specs.declared.term.Env.{Env}
@@ -17,7 +17,7 @@ use Rattle.pf_terms.specs.declared.term.Term.TheOpen.Term-F.{Leaf as LeafLayer, 
 use Rattle.pf_terms.specs.declared.term.Term.TheViews.{roll-Term}
 use Rattle.pf_terms.specs.declared.term.Term.TheFolds.{fold-roll-Term, ind-Term, map-Term}
 use Rattle.pf_terms.specs.Operators.{row_of, Row}
-use Rattle.pf_terms.specs.Terms.{all_true, is_in, is_well_formed, formed_step, is_formed_leaf, typing, typing_step, types_from, with_type, then_node, node_type, stated_type, stated_step, Val, value_step, leaf_value, IsWellTyped, is_env_of, env_step, is_env_leaf, operand_count}
+use Rattle.pf_terms.specs.Terms.{all_true, is_well_formed, formed_step, is_formed_leaf, typing, typing_step, types_from, with_type, then_node, node_type, stated_type, stated_step, Val, value_step, leaf_value, IsWellTyped, is_env_of, env_step, is_env_leaf, operand_count}
 use Rattle.pf_terms.proofs.Typing.{and_left, and_right}
 use Rattle.pf_terms.proofs.NodeParts.{node_formed, typing_is}
 use Rattle.pf_terms.proofs.NodeRanges.{AreIn, judged, value_in}

@@ -1,6 +1,7 @@
 -- What the steps between a draft and its term say.
 use Rattle.std.specs.Prelude.{◌≡◌, ℕ, ◌<◌, ℤ, pos, Bool, true, false, ◌&&◌, ◌||◌, not, nat_le, unsigned_abs, List, length, slice_index_or, zero, suc, Option, Result, Ok, Err}
 use Rattle.pf_ints.specs.declared.lane.LaneType.{LaneType}
+use Rattle.pf_ints.specs.Lanes.{is_in}
 use Rattle.pf_terms.specs.declared.draft.Draft.{Draft}
 use Rattle.pf_terms.specs.declared.draft.Draft.TheVariants.{Node as NodeDraft}
 use Rattle.pf_terms.specs.declared.draft.Draft.TheOpen.{Draft-F}
@@ -19,7 +20,7 @@ use Rattle.pf_terms.specs.declared.term.Term.{Term}
 use Rattle.pf_terms.specs.KernelNames.{IsNear}
 use Rattle.pf_terms.specs.Meanings.{IsMeaningFault, term_of}
 use Rattle.pf_terms.specs.Operators.{row_of}
-use Rattle.pf_terms.specs.Terms.{is_in, all_true, is_formed_node, stated_type, typing}
+use Rattle.pf_terms.specs.Terms.{all_true, is_formed_node, stated_type, typing}
 
 abbrev pub formed_draft_step : Draft-F Bool → Bool
 formed_draft_step (Number n t) = is_in t n

@@ -1,7 +1,7 @@
 -- Which tokens spell an expression.
 use Rattle.std.specs.Prelude.{◌≡◌, ℕ, ℤ, pos, neg_ℤ, Bool, true, false, List, [], ◌∷◌, ◌++◌, Some, None}
 use Rattle.pf_ints.specs.declared.lane.LaneType.{LaneType}
-use Rattle.pf_terms.specs.Terms.{is_in}
+use Rattle.pf_ints.specs.Lanes.{is_in}
 use Rattle.pf_terms.specs.declared.op.Op.{Op}
 use Rattle.pf_terms.specs.declared.op.Op.TheVariants.{Cast, Add, Sub, Mul, SelectGreater, SelectEqual, Min, Max, Abs, WideningAdd, WideningSub, WideningMul, ExtendingAdd, HalvingAdd, RoundingHalvingAdd, HalvingSub, SaturatingAdd, SaturatingSub, SaturatingCast, Absd, RoundingShr, MulShr, RoundingMulShr}
 use Rattle.pf_terms.specs.declared.op.Op.TheVariants.{ShiftLeft as ShiftLeftBy, ShiftRight as ShiftRightBy}

@@ -16,7 +16,7 @@ use Rattle.pf_terms.specs.declared.build.Head.{Head}
 use Rattle.pf_terms.specs.declared.build.Head.TheVariants.{Named as NamedHead, Placed as PlacedHead, Node as NodeHead}
 use Rattle.pf_terms.specs.declared.build.Frame.{Frame}
 use Rattle.pf_terms.specs.declared.build.Build.{Build}
-use Rattle.pf_terms.specs.Terms.{is_in}
+use Rattle.pf_ints.specs.Lanes.{is_in}
 use Rattle.pf_terms.specs.Grammar.{call_shape}
 
 -- a number's token has no sign

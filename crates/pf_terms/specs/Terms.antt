@@ -1,10 +1,10 @@
 -- What terms mean, and which are well-formed and well-typed.
-use Rattle.std.specs.Prelude.{nat_lt, not, ◌≡◌, ℕ, ℤ, pos, ◌+◌, ◌-◌, ◌*◌, max, Bool, true, false, ◌&&◌, ◌||◌, ◌==◌, nat_le, if◌then◌else◌, int_le, List, [], ◌∷◌, length, sum, slice_index_or, Option, Some, None, Result, Ok, Err}
+use Rattle.std.specs.Prelude.{nat_lt, not, ◌≡◌, ℕ, ℤ, pos, ◌+◌, ◌-◌, ◌*◌, max, Bool, true, false, ◌&&◌, ◌||◌, ◌==◌, nat_le, if◌then◌else◌, List, [], ◌∷◌, length, sum, slice_index_or, Option, Some, None, Result, Ok, Err}
 use Rattle.std.specs.Option.{option_or}
 use Rattle.pf_ints.specs.declared.lane.LaneType.{LaneType}
 use Rattle.pf_ints.specs.declared.lane.Bits.{Bits}
 use Rattle.pf_ints.specs.declared.lane.Bits.TheVariants.{Eight, Sixteen, ThirtyTwo}
-use Rattle.pf_ints.specs.Lanes.{lane_width, least, greatest}
+use Rattle.pf_ints.specs.Lanes.{lane_width, is_in}
 use Rattle.pf_terms.specs.declared.fault.TermFault.{TermFault}
 use Rattle.pf_terms.specs.declared.fault.TermFault.TheVariants.{Types, Amount, Memory}
 use Rattle.pf_terms.specs.declared.row.Operands.{Operands}
@@ -104,9 +104,6 @@ has_amount Product = true
 has_amount RoundingProduct = true
 
 -- the number is a member of the type
-abbrev pub is_in : LaneType → ℤ → Bool
-is_in t n = int_le (least t) n && int_le n (greatest t)
-
 abbrev pub all_true : List Bool → Bool
 all_true [] = true
 all_true (b ∷ bs) = b && all_true bs

@@ -206,30 +206,12 @@ fn long_of(run: &[u8]) -> Option<Option<LaneType>>
 }
 
 const LANE_TYPES: [LaneType; 6] = [
-    LaneType {
-        signed: false,
-        bits: Bits::Eight,
-    },
-    LaneType {
-        signed: true,
-        bits: Bits::Eight,
-    },
-    LaneType {
-        signed: false,
-        bits: Bits::Sixteen,
-    },
-    LaneType {
-        signed: true,
-        bits: Bits::Sixteen,
-    },
-    LaneType {
-        signed: false,
-        bits: Bits::ThirtyTwo,
-    },
-    LaneType {
-        signed: true,
-        bits: Bits::ThirtyTwo,
-    },
+    LaneType::U8,
+    LaneType::I8,
+    LaneType::U16,
+    LaneType::I16,
+    LaneType::U32,
+    LaneType::I32,
 ];
 
 /// The lane type of this word, as `u8`, or None where it is the word of none.

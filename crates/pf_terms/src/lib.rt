@@ -38,6 +38,7 @@ pub use fault::TermFault;
 pub use kernel::{Definition, Definitions, ImageDecl, ImageList};
 pub use lexer::{tokens, type_of_word};
 pub use limit::LimitKind;
+pub use lookup::{is_def, is_image};
 pub use meaning::{ReadFault, read_term};
 pub use names::{DefName, DefNames, ImageName, ImageNames, Names, Tap, TapList};
 pub use op::Op;

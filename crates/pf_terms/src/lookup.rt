@@ -40,7 +40,8 @@ fn def_place(defs: &[DefName], name: &Name) -> Option<usize>
         .position(|def| def.name.as_slice() == name.as_slice())
 }
 
-fn is_image(images: &ImageNames, name: &Name) -> bool
+/// Whether an image has this name.
+pub fn is_image(images: &ImageNames, name: &Name) -> bool
     ensures { result ≡ is_image images.now name.now }
 {
     images
@@ -49,7 +50,8 @@ fn is_image(images: &ImageNames, name: &Name) -> bool
         .any(|image| image.name.as_slice() == name.as_slice())
 }
 
-fn is_def(defs: &DefNames, name: &Name) -> bool
+/// Whether a definition has this name.
+pub fn is_def(defs: &DefNames, name: &Name) -> bool
     ensures { result ≡ is_def defs.now name.now }
 {
     defs.as_slice()

@@ -8,8 +8,7 @@ use crate::names::{Names, Tap};
 use crate::op::Op;
 use crate::row::Spelling;
 use crate::term::{Leaf, Term};
-use itoa::Buffer;
-use pf_ints::{LaneType, Name};
+use pf_ints::{LaneType, Name, push_number, push_whole};
 use std::alloc::{AllocError, Global};
 
 /// The printed text of a term.
@@ -49,8 +48,7 @@ fn write_leaf(text: &mut Vec<u8>, leaf: Leaf, ty: LaneType, names: &Names) -> Re
     match leaf {
         Leaf::Tap(n) => write_tap(text, names.taps.as_slice()[n as usize], names),
         Leaf::Const(n) => {
-            let mut buffer = Buffer::new();
-            text.extend_from_slice(buffer.format(n).as_bytes())?;
+            push_whole(text, i128::from(n))?;
             write_type(text, ty)
         }
         Leaf::Def(n) => text.extend_from_slice(names.defs.as_slice()[n as usize].name.as_slice()),
@@ -78,17 +76,15 @@ fn write_placed(text: &mut Vec<u8>, name: &Name, tap: Tap) -> Result<(), AllocEr
 fn write_offset(text: &mut Vec<u8>, offset: i16) -> Result<(), AllocError>
     ensures { OnOk result (text.new.items ≡ text.old.items ++ signed_decimal offset) }
 {
-    let mut buffer = Buffer::new();
-    text.extend_from_slice(buffer.format(offset).as_bytes())
+    push_whole(text, i128::from(offset))
 }
 
 /// Puts the word of a type behind the text, as u8 or i32.
 pub fn write_type(text: &mut Vec<u8>, ty: LaneType) -> Result<(), AllocError>
     ensures { OnOk result (text.new.items ≡ text.old.items ++ type_word ty) }
 {
-    let mut buffer = Buffer::new();
     text.extend_from_slice(if ty.signed { b"i" } else { b"u" })?;
-    text.extend_from_slice(buffer.format(ty.width()).as_bytes())
+    push_number(text, u64::from(ty.width()))
 }
 
 fn write_opening(text: &mut Vec<u8>, op: Op, ty: LaneType) -> Result<(), AllocError>
@@ -155,7 +151,6 @@ fn write_spaced(text: &mut Vec<u8>, word: &[u8]) -> Result<(), AllocError>
 fn write_amount(text: &mut Vec<u8>, k: u8) -> Result<(), AllocError>
     ensures { OnOk result (text.new.items ≡ text.old.items ++ (decimal k ++ codes ")")) }
 {
-    let mut buffer = Buffer::new();
-    text.extend_from_slice(buffer.format(k).as_bytes())?;
+    push_number(text, u64::from(k))?;
     text.extend_from_slice(b")")
 }

@@ -1,23 +1,14 @@
 ghost use Rattle.std.specs.Prelude.{◌≡◌, IfOk};
 ghost use Rattle.pf_terms.specs.KernelNames.{IsNames};
 
+use crate::tests::in_brackets;
 use crate::{
     DefName, ImageName, LimitKind, Names, ReadFault, Tap, TapList, depth, nodes, print_term,
     read_term,
 };
-use pf_ints::{Bits, LaneType, Name, Sequence};
+use pf_ints::{LaneType, Name, Sequence};
 use std::alloc::{AllocError, Global};
 use std::test::Fail;
-
-const U8: LaneType = LaneType {
-    signed: false,
-    bits: Bits::Eight,
-};
-
-const I16: LaneType = LaneType {
-    signed: true,
-    bits: Bits::Sixteen,
-};
 
 // Two u8 images a and b, and an i16 definition d.
 fn some_names(alloc: Global) -> Result<Names, Fail>
@@ -26,11 +17,26 @@ fn some_names(alloc: Global) -> Result<Names, Fail>
     let a = name(b"a")?;
     let b = name(b"b")?;
     let d = name(b"d")?;
-    let images = [ImageName { name: a, ty: U8 }, ImageName { name: b, ty: U8 }];
+    let images = [
+        ImageName {
+            name: a,
+            ty: LaneType::U8,
+        },
+        ImageName {
+            name: b,
+            ty: LaneType::U8,
+        },
+    ];
     Ok(Names {
         images: Sequence::from_slice(alloc, &images)?,
         taps: TapList::new(alloc),
-        defs: Sequence::from_slice(alloc, &[DefName { name: d, ty: I16 }])?,
+        defs: Sequence::from_slice(
+            alloc,
+            &[DefName {
+                name: d,
+                ty: LaneType::I16,
+            }],
+        )?,
     })
 }
 
@@ -135,7 +141,15 @@ fn tells_the_first_fault(rt: HostRuntime) -> Result<(), Fail> {
     let unknown = fault(alloc, b"d + 1u8 + y[0,0] + a", &mut names);
     assert!(rt; is_unknown(&unknown, b"y"));
     let types = fault(alloc, b"mul_shr(d, a[65,0], 300)", &mut names);
-    assert!(rt; matches!(types, Some(ReadFault::Types { want: I16, got: U8 })));
+    assert!(rt;
+        matches!(
+            types,
+            Some(ReadFault::Types {
+                want: LaneType::I16,
+                got: LaneType::U8
+            })
+        )
+    );
     let amount = fault(alloc, b"(d >> 9999999999) + 1u8", &mut names);
     assert!(rt;
         matches!(
@@ -163,26 +177,13 @@ fn tells_the_first_fault(rt: HostRuntime) -> Result<(), Fail> {
     Ok(())
 }
 
-// The text `1u8` in so many brackets.
-fn in_brackets(alloc: Global, depth: usize) -> Result<Vec<u8>, AllocError> {
-    let mut text = Vec::new(alloc);
-    for _ in 0..depth {
-        text.push(b'(')?;
-    }
-    text.extend_from_slice(b"1u8")?;
-    for _ in 0..depth {
-        text.push(b')')?;
-    }
-    Ok(text)
-}
-
 #[test]
 fn brackets_have_a_depth(rt: HostRuntime) -> Result<(), Fail> {
     let alloc = rt.alloc();
     let mut names = some_names(alloc)?;
-    let text = in_brackets(alloc, 1024)?;
+    let text = in_brackets(alloc, b"1u8", 1024)?;
     assert!(rt; fault(alloc, text.as_slice(), &mut names).is_none());
-    let text = in_brackets(alloc, 1025)?;
+    let text = in_brackets(alloc, b"1u8", 1025)?;
     let deep = fault(alloc, text.as_slice(), &mut names);
     assert!(rt; matches!(deep, Some(ReadFault::Syntax { column: 1025 })));
     Ok(())

@@ -15,7 +15,7 @@ use crate::op::Op;
 use crate::spots::{Spot, place_in_order, spot_number};
 use crate::term::{Leaf, Term};
 use crate::types::{is_amount, result_type, type_fault};
-use pf_ints::{Bits, LaneType, Name};
+use pf_ints::{LaneType, Name};
 use sqlite_items::Items;
 use std::alloc::{AllocError, AllocFailed, Global};
 
@@ -48,10 +48,7 @@ impl<T: Drop> From<AllocFailed<T>> for NodeFault {
 }
 
 // The type of what has no entry.
-const NO_TYPE: LaneType = LaneType {
-    signed: false,
-    bits: Bits::Eight,
-};
+const NO_TYPE: LaneType = LaneType::U8;
 
 /// The term of a draft, where each tap has its number among these, or the fault of the first node
 /// in post-order that has one.

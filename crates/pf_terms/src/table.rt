@@ -1,12 +1,10 @@
 ghost use Rattle.std.specs.Prelude.{◌≡◌, None, Some, MatchOption};
 ghost use Rattle.pf_terms.specs.Grammar.{call_shape};
-ghost use Rattle.pf_terms.specs.Terms.{is_in};
 ghost use Rattle.pf_terms.specs.Parsing.{call_symbols, after, after_atom, meets, goes_on, may_be_none, passes};
 
 use crate::op::Op;
 use crate::symbol::{CallShape, Symbol};
 use crate::token::Kind;
-use pf_ints::LaneType;
 
 pub fn may_be_none(symbol: Symbol) -> bool
     ensures { result ≡ may_be_none symbol }
@@ -81,7 +79,7 @@ fn is_met(symbol: Symbol, kind: Kind) -> bool
         (Symbol::NegatedColumn, Kind::Number(_)) => true,
         (Symbol::NegatedRow, Kind::Number(_)) => true,
         (Symbol::Digits, Kind::Number(_)) => true,
-        (Symbol::Negated, Kind::Typed(n, ty)) => is_in(ty, -(n as i128)),
+        (Symbol::Negated, Kind::Typed(n, ty)) => ty.contains(-(n as i128)),
         (Symbol::TypeName, Kind::TypeWord(_)) => true,
         (Symbol::Comparison, Kind::Greater) => true,
         (Symbol::Comparison, Kind::Less) => true,
@@ -94,17 +92,11 @@ fn is_met(symbol: Symbol, kind: Kind) -> bool
     }
 }
 
-fn is_in(ty: LaneType, n: i128) -> bool
-    ensures { result ≡ is_in ty n }
-{
-    ty.least() <= n && n <= ty.greatest()
-}
-
 fn after_atom(kind: Kind) -> Option<&'static [Symbol]>
     ensures { MatchOption result (after_atom kind ≡ None) (λ new. after_atom kind ≡ Some new.now) }
 {
     match kind {
-        Kind::Typed(n, ty) => if is_in(ty, n as i128) {
+        Kind::Typed(n, ty) => if ty.contains(n as i128) {
             Some(&[])
         } else {
             None

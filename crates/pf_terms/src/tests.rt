@@ -2,24 +2,20 @@ use crate::{
     DefName, Draft, DraftFault, Env, ImageName, Kind, Leaf, Names, Op, Tap, Term, print_term,
     read_draft, tokens, type_of, value, weight,
 };
-use pf_ints::{Bits, Duplicate, LaneType, Name, Sequence};
+use pf_ints::{Duplicate, LaneType, Name, Sequence};
 use std::alloc::{AllocError, Global};
 use std::test::Fail;
-
-const U8: LaneType = LaneType {
-    signed: false,
-    bits: Bits::Eight,
-};
-
-const I16: LaneType = LaneType {
-    signed: true,
-    bits: Bits::Sixteen,
-};
 
 // The names of one u8 image a with the tap a[-1,64].
 fn one_tap(alloc: Global, name: Name) -> Result<Names, AllocError> {
     Ok(Names {
-        images: Sequence::from_slice(alloc, &[ImageName { name, ty: U8 }])?,
+        images: Sequence::from_slice(
+            alloc,
+            &[ImageName {
+                name,
+                ty: LaneType::U8,
+            }],
+        )?,
         taps: Sequence::from_slice(
             alloc,
             &[Tap {
@@ -28,7 +24,13 @@ fn one_tap(alloc: Global, name: Name) -> Result<Names, AllocError> {
                 dy: 64,
             }],
         )?,
-        defs: Sequence::from_slice(alloc, &[DefName { name, ty: I16 }])?,
+        defs: Sequence::from_slice(
+            alloc,
+            &[DefName {
+                name,
+                ty: LaneType::I16,
+            }],
+        )?,
     })
 }
 
@@ -39,14 +41,14 @@ fn constants(rt: HostRuntime) -> Result<(), Fail> {
     let names = one_tap(alloc, name)?.copy(alloc)?;
     let three = Term::Leaf {
         leaf: Leaf::Const(-3),
-        ty: I16,
+        ty: LaneType::I16,
     };
     let env = Env {
         taps: Sequence::new(alloc),
         defs: Sequence::new(alloc),
     };
     let same = three.copy(alloc)?;
-    assert_eq!(rt; type_of(alloc, &same)?, I16);
+    assert_eq!(rt; type_of(alloc, &same)?, LaneType::I16);
     assert_eq!(rt; weight(&same), 1);
     assert_eq!(rt; value(&three, &env), -3);
     assert!(rt; print_term(alloc, &three, &names)?.as_slice() == b"-3i16".as_slice());
@@ -87,13 +89,13 @@ fn places(rt: HostRuntime) -> Result<(), Fail> {
     Ok(())
 }
 
-// A name in so many round brackets.
-fn bracketed(alloc: Global, depth: usize) -> Result<Vec<u8>, AllocError> {
+/// The operand in so many round brackets.
+pub fn in_brackets(alloc: Global, operand: &[u8], depth: usize) -> Result<Vec<u8>, AllocError> {
     let mut text = Vec::new(alloc);
     for _ in 0..depth {
         text.push(b'(')?;
     }
-    text.push(b'x')?;
+    text.extend_from_slice(operand)?;
     for _ in 0..depth {
         text.push(b')')?;
     }
@@ -103,11 +105,10 @@ fn bracketed(alloc: Global, depth: usize) -> Result<Vec<u8>, AllocError> {
 #[test]
 fn brackets(rt: HostRuntime) -> Result<(), Fail> {
     let alloc = rt.alloc();
-    assert_eq!(rt; fault(alloc, bracketed(alloc, 1024)?.as_slice()), None);
-    assert_eq!(rt;
-        fault(alloc, bracketed(alloc, 1025)?.as_slice()),
-        Some(1024)
-    );
+    let shallow = in_brackets(alloc, b"x", 1024)?;
+    assert_eq!(rt; fault(alloc, shallow.as_slice()), None);
+    let deep = in_brackets(alloc, b"x", 1025)?;
+    assert_eq!(rt; fault(alloc, deep.as_slice()), Some(1024));
     Ok(())
 }
 
@@ -143,11 +144,11 @@ fn numbers(rt: HostRuntime) -> Result<(), Fail> {
     let alloc = rt.alloc();
     let one = tokens(alloc, b" 3i16")?;
     assert_eq!(rt; one.len(), 1);
-    assert!(rt; matches!(one[0].kind, Kind::Typed(3, I16)));
+    assert!(rt; matches!(one[0].kind, Kind::Typed(3, LaneType::I16)));
     assert_eq!(rt; one[0].start, 1);
     let two = tokens(alloc, b"3 i16")?;
     assert_eq!(rt; two.len(), 2);
     assert!(rt; matches!(two[0].kind, Kind::Number(3)));
-    assert!(rt; matches!(two[1].kind, Kind::TypeWord(I16)));
+    assert!(rt; matches!(two[1].kind, Kind::TypeWord(LaneType::I16)));
     Ok(())
 }

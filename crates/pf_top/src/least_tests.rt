@@ -3,7 +3,7 @@ ghost use Rattle.pf_terms.specs.declared.kernel.ImageDecl.{ImageDecl};
 
 use crate::least_program::least_program;
 use pf_images::read_pgm;
-use pf_ints::{Bits, Duplicate, Image, LaneType, Memory, Sequence};
+use pf_ints::{Duplicate, Image, LaneType, Memory, Sequence};
 use pf_isa::{Head, read_text, write_text};
 use pf_neon::Neon;
 use pf_run::run_images;
@@ -11,11 +11,6 @@ use pf_terms::ImageDecl;
 use std::alloc::Global;
 use std::process::Abort;
 use std::test::Fail;
-
-const WORD: LaneType = LaneType {
-    signed: false,
-    bits: Bits::Sixteen,
-};
 
 /// A text of no code whose head has two taps of u16, and how far to the right of the output pixel's
 /// column, and below its row, each of them stands in its image.
@@ -79,7 +74,7 @@ fn image(alloc: Global, seed: u32, width: u32, height: u32) -> Result<Image, Fai
             file.extend_from_slice(&pixel(seed, x, y).to_be_bytes())?;
         }
     }
-    Ok(read_pgm(alloc, file.as_slice(), WORD)?)
+    Ok(read_pgm(alloc, file.as_slice(), LaneType::U16)?)
 }
 
 fn pixel_at(image: &Image, x: u32, y: u32) -> Result<u16, Fail> {

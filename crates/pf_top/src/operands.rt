@@ -1,15 +1,9 @@
 ghost use Rattle.std.specs.Prelude.{◌≡◌, ◌↔◌, ◌<◌, ℕ, All, MatchOption, length, true};
 ghost use Rattle.pf_top.specs.Least.{byte_type, tap_term, least_term, AreTapsOf, IsLeastOf};
 
-use pf_ints::{Bits, LaneType};
+use pf_ints::LaneType;
 use pf_kernel::Kernel;
 use pf_terms::{ImageDecl, Leaf, Op, Tap, Term};
-
-/// The type of all pixels so far.
-const BYTE: LaneType = LaneType {
-    signed: false,
-    bits: Bits::Eight,
-};
 
 /// The numbers of two taps.
 #[derive(Clone, Copy, Debug)]
@@ -21,7 +15,7 @@ pub struct Operands {
 fn is_byte(ty: LaneType) -> bool
     ensures { (result ≡ true) ↔ (ty ≡ byte_type) }
 {
-    ty == BYTE
+    ty == LaneType::U8
 }
 
 fn are_bytes(images: &[ImageDecl], taps: &[Tap]) -> bool

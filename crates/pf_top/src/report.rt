@@ -1,13 +1,10 @@
 ghost use Rattle.std.specs.Prelude.{◌≡◌, [], ◌∷◌, ◌++◌, map, IfOk, OnOk};
-ghost use Rattle.std.specs.Fmt.{signed_decimal};
 ghost use Rattle.pf_images.specs.Counts.{raised};
 ghost use Rattle.pf_top.specs.Statuses.{due, line_of, memory_line, wanting, write_failed, usage, Told};
 ghost use Rattle.pf_top.specs.Steps.{seen_output, piece_text};
 
-use itoa::Buffer;
 use pf_images::{FilesFault, Sink};
-use pf_ints::{LaneType, Memory};
-use pf_isa::push_number;
+use pf_ints::{LaneType, Memory, push_number, push_whole};
 use pf_terms::write_type;
 use std::alloc::Global;
 
@@ -19,13 +16,6 @@ pub enum Piece<'a> {
     Number(u64),
     Whole(i128),
     TypeWord(LaneType),
-}
-
-fn push_whole(line: &mut Vec<u8>, n: i128) -> Result<(), Memory>
-    ensures { OnOk result (line.new.items ≡ line.old.items ++ signed_decimal n) }
-{
-    let mut buffer = Buffer::new();
-    line.extend_from_slice(buffer.format(n).as_bytes())
 }
 
 fn push_piece(line: &mut Vec<u8>, piece: Piece<'_>) -> Result<(), Memory>

@@ -18,13 +18,13 @@ pub read_next-requires-clause-short : goal.read_next-requires-clause-short
 read_next-requires-clause-short c =
     let short : length c.args.text.now ≤ 65536 = few_bytes _ c.requires in
     let room : c.lines.count + length c.lines.rest.now ≤ length c.args.text.now = c.lines.invariant.room in
-    let line : length c.first_line.result.0.now ≤ length c.lines.rest.now = c.first_line.ensures.within in
+    let line : length c.next_line.result.0.now ≤ length c.lines.rest.now = c.next_line.ensures.within in
     omega arith
 
 pub returns-in-Err-clause-fault : goal.returns-in-Err-clause-fault
 returns-in-Err-clause-fault c =
-    next_told c.args.text.now c.lines.rest.now c.first_line.result.1.now c.first_line.result.0.now c.lines.count c.lines.reading c.in-Err.fault c.lines.invariant c.requires c.first_line.ensures.lines c.in-Err.ensures.found
+    next_told c.args.text.now c.lines.rest.now c.next_line.result.1.now c.next_line.result.0.now c.lines.count c.lines.reading c.in-Err.fault c.lines.invariant c.requires c.next_line.ensures.lines c.in-Err.ensures.found
 
 pub lines-preserved : goal.lines-preserved
 lines-preserved c =
-    so_far_more c.args.text.now c.lines.rest.now c.first_line.result.1.now c.first_line.result.0.now c.lines.count c.lines.reading c.in-Ok.more c.lines.invariant c.first_line.ensures.lines c.first_line.ensures.shorter c.in-Ok.ensures.kept c.in-Ok.ensures.found c.in-Ok.ensures.only
+    so_far_more c.args.text.now c.lines.rest.now c.next_line.result.1.now c.next_line.result.0.now c.lines.count c.lines.reading c.in-Ok.more c.lines.invariant c.next_line.ensures.lines c.next_line.ensures.less c.in-Ok.ensures.kept c.in-Ok.ensures.found c.in-Ok.ensures.only

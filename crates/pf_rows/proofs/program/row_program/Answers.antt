@@ -20,33 +20,33 @@ lines-requires-clause-near g c = near_block g.I.Isa.table c.args.head (slots_in 
 
 pub new-requires : goal.new-requires
 new-requires g c =
-    let whole = text_is g.row.I.Denot g.row.I-Op.Denot g.I.Isa.table c.args.head c.args.block c.as_slice.result.now c.pixel_bytes-width.result c.in_ok-code.code c.in_ok-code.labels c.in_ok-code.ensures.code c.in_ok-code.ensures.labels (c.as_slice.ensures ∙ c.in_ok-widths.ensures) c.pixel_bytes-width.ensures in
+    let whole = text_is g.row.I.Denot g.row.I-Op.Denot g.I.Isa.table c.args.head c.args.block c.as_slice.result.now c.bytes-width.result c.in_ok-code.code c.in_ok-code.labels c.in_ok-code.ensures.code c.in_ok-code.ensures.labels (c.as_slice.ensures ∙ c.in_ok-widths.ensures) c.bytes-width.ensures.value in
     subst (λ p. IsProgram g.I.Isa.table p) (sym whole) (row_is_program g.row.I.Denot g.row.I-Op.Denot g.I.Isa.table c.args.head (slots_in g.I.Isa.table c.args.head) c.args.block c.requires g.I.Isa.is_op g.met.I.Isa.laws)
 
 pub returns-clause-value : goal.returns-clause-value
 returns-clause-value g c =
-    c.new.ensures ∙ text_is g.row.I.Denot g.row.I-Op.Denot g.I.Isa.table c.args.head c.args.block c.as_slice.result.now c.pixel_bytes-width.result c.in_ok-code.code c.in_ok-code.labels c.in_ok-code.ensures.code c.in_ok-code.ensures.labels (c.as_slice.ensures ∙ c.in_ok-widths.ensures) c.pixel_bytes-width.ensures
+    c.new.ensures ∙ text_is g.row.I.Denot g.row.I-Op.Denot g.I.Isa.table c.args.head c.args.block c.as_slice.result.now c.bytes-width.result c.in_ok-code.code c.in_ok-code.labels c.in_ok-code.ensures.code c.in_ok-code.ensures.labels (c.as_slice.ensures ∙ c.in_ok-widths.ensures) c.bytes-width.ensures.value
 
 pub returns-clause-moved : goal.returns-clause-moved
 returns-clause-moved g c =
-    let whole = c.new.ensures ∙ text_is g.row.I.Denot g.row.I-Op.Denot g.I.Isa.table c.args.head c.args.block c.as_slice.result.now c.pixel_bytes-width.result c.in_ok-code.code c.in_ok-code.labels c.in_ok-code.ensures.code c.in_ok-code.ensures.labels (c.as_slice.ensures ∙ c.in_ok-widths.ensures) c.pixel_bytes-width.ensures in
+    let whole = c.new.ensures ∙ text_is g.row.I.Denot g.row.I-Op.Denot g.I.Isa.table c.args.head c.args.block c.as_slice.result.now c.bytes-width.result c.in_ok-code.code c.in_ok-code.labels c.in_ok-code.ensures.code c.in_ok-code.ensures.labels (c.as_slice.ensures ∙ c.in_ok-widths.ensures) c.bytes-width.ensures.value in
     subst (λ p. Moved g.I.Isa.table (length p.head.taps) p.code p.labels) (sym whole)
     (row_is_moved g.row.I.Denot g.row.I-Op.Denot g.I.Isa.table c.args.head (slots_in g.I.Isa.table c.args.head) c.args.block c.requires g.I.Isa.is_op g.met.I.Isa.laws)
 
 pub returns-clause-work : goal.returns-clause-work
 returns-clause-work g c =
-    let whole = c.new.ensures ∙ text_is g.row.I.Denot g.row.I-Op.Denot g.I.Isa.table c.args.head c.args.block c.as_slice.result.now c.pixel_bytes-width.result c.in_ok-code.code c.in_ok-code.labels c.in_ok-code.ensures.code c.in_ok-code.ensures.labels (c.as_slice.ensures ∙ c.in_ok-widths.ensures) c.pixel_bytes-width.ensures in
+    let whole = c.new.ensures ∙ text_is g.row.I.Denot g.row.I-Op.Denot g.I.Isa.table c.args.head c.args.block c.as_slice.result.now c.bytes-width.result c.in_ok-code.code c.in_ok-code.labels c.in_ok-code.ensures.code c.in_ok-code.ensures.labels (c.as_slice.ensures ∙ c.in_ok-widths.ensures) c.bytes-width.ensures.value in
     subst (λ p. Work g.I.Isa.table p.code ≡ block_cost g.I.Isa.table c.args.block) (sym whole)
     (row_is_work g.row.I.Denot g.row.I-Op.Denot g.I.Isa.table c.args.head (slots_in g.I.Isa.table c.args.head) c.args.block c.requires g.I.Isa.is_op g.met.I.Isa.laws)
 
 pub returns-clause-rows : goal.returns-clause-rows
 returns-clause-rows g c =
-    let whole = c.new.ensures ∙ text_is g.row.I.Denot g.row.I-Op.Denot g.I.Isa.table c.args.head c.args.block c.as_slice.result.now c.pixel_bytes-width.result c.in_ok-code.code c.in_ok-code.labels c.in_ok-code.ensures.code c.in_ok-code.ensures.labels (c.as_slice.ensures ∙ c.in_ok-widths.ensures) c.pixel_bytes-width.ensures in
+    let whole = c.new.ensures ∙ text_is g.row.I.Denot g.row.I-Op.Denot g.I.Isa.table c.args.head c.args.block c.as_slice.result.now c.bytes-width.result c.in_ok-code.code c.in_ok-code.labels c.in_ok-code.ensures.code c.in_ok-code.ensures.labels (c.as_slice.ensures ∙ c.in_ok-widths.ensures) c.bytes-width.ensures.value in
     subst (λ p. RunsBlock g.I.Isa.table (slots_in g.I.Isa.table c.args.head) c.args.block p) (sym whole)
     (runs_block g.row.I.Denot g.row.I-Op.Denot g.I.Isa.table g.I.Isa.is_op g.met.I.Isa.laws c.args.head (slots_in g.I.Isa.table c.args.head) c.args.block c.in_ok-code.ensures.known c.requires)
 
 pub returns-clause-lanes : goal.returns-clause-lanes
 returns-clause-lanes g c =
-    let whole = c.new.ensures ∙ text_is g.row.I.Denot g.row.I-Op.Denot g.I.Isa.table c.args.head c.args.block c.as_slice.result.now c.pixel_bytes-width.result c.in_ok-code.code c.in_ok-code.labels c.in_ok-code.ensures.code c.in_ok-code.ensures.labels (c.as_slice.ensures ∙ c.in_ok-widths.ensures) c.pixel_bytes-width.ensures in
+    let whole = c.new.ensures ∙ text_is g.row.I.Denot g.row.I-Op.Denot g.I.Isa.table c.args.head c.args.block c.as_slice.result.now c.bytes-width.result c.in_ok-code.code c.in_ok-code.labels c.in_ok-code.ensures.code c.in_ok-code.ensures.labels (c.as_slice.ensures ∙ c.in_ok-widths.ensures) c.bytes-width.ensures.value in
     subst (λ p. LeavesLanes g.I.Isa.table (slots_in g.I.Isa.table c.args.head) c.args.block p) (sym whole)
     (leaves_lanes g.row.I.Denot g.row.I-Op.Denot g.I.Isa.table g.I.Isa.is_op g.met.I.Isa.laws c.args.head (slots_in g.I.Isa.table c.args.head) c.args.block c.in_ok-code.ensures.known c.requires)

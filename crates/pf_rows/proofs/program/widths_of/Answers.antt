@@ -26,7 +26,7 @@ loop-tap-preserved c =
     let taps = c.as_slice-tap-items.ensures in
     let within : c.loop-tap.tap-index < length c.args.head.now.taps = subst (λ l. c.loop-tap.tap-index < length l) taps c.loop-tap-test.true in
     let first : Tap = record { image = 0; dx = pos 0; dy = pos 0 } in
-    one_more c.args.head.now.images c.args.head.now.taps c.loop-tap.tap-index c.from.result c.pixel_bytes.result first c.index-images-from.result c.loop-tap.widths c.push.new.self c.requires.taps within
+    one_more c.args.head.now.images c.args.head.now.taps c.loop-tap.tap-index c.from.result c.bytes.result first c.index-images-from.result c.loop-tap.widths c.push.new.self c.requires.taps within
     (subst (λ (l : List Tap). c.from.result ≡ (get_or l c.loop-tap.tap-index first).image) taps c.from.ensures)
-    (subst (λ (l : List ImageDecl). c.pixel_bytes.result ≡ pixel_bytes (get_or l c.from.result c.index-images-from.result).ty) images c.pixel_bytes.ensures)
+    (subst (λ (l : List ImageDecl). c.bytes.result ≡ pixel_bytes (get_or l c.from.result c.index-images-from.result).ty) images c.bytes.ensures.value)
     c.in_ok-push.ensures.ok c.loop-tap.invariant
