@@ -12,6 +12,11 @@ use std::alloc::Global;
 use std::process::Abort;
 use std::test::Fail;
 
+/// The seeds of the two images.
+const LEFT: u32 = 9973;
+
+const RIGHT: u32 = 23_689;
+
 /// A text of no code whose head has two taps of u16, and how far to the right of the output pixel's
 /// column, and below its row, each of them stands in its image.
 #[derive(Clone, Copy)]
@@ -77,26 +82,14 @@ fn image(alloc: Global, seed: u32, width: u32, height: u32) -> Result<Image, Fai
     Ok(read_pgm(alloc, file.as_slice(), LaneType::U16)?)
 }
 
-fn pixel_at(image: &Image, x: u32, y: u32) -> Result<u16, Fail> {
-    let row = (y as usize).wrapping_mul(image.width() as usize);
-    let pixel = image.pixels().get(row.wrapping_add(x as usize));
-    Ok(*pixel.ok_or("a pixel")?)
-}
-
 /// The lesser of the pixels of the two taps at each output pixel, row by row.
-fn least_pixels(
-    alloc: Global,
-    shifts: Shifts,
-    images: (&Image, &Image),
-    width: u32,
-    height: u32,
-) -> Result<Vec<u16>, Fail> {
+fn least_pixels(alloc: Global, shifts: Shifts, width: u32, height: u32) -> Result<Vec<u16>, Fail> {
     let (left, right) = (shifts.left, shifts.right);
     let mut pixels = Vec::new(alloc);
     for y in 0..height {
         for x in 0..width {
-            let one = pixel_at(images.0, x.wrapping_add(left.0), y.wrapping_add(left.1))?;
-            let other = pixel_at(images.1, x.wrapping_add(right.0), y.wrapping_add(right.1))?;
+            let one = pixel(LEFT, x.wrapping_add(left.0), y.wrapping_add(left.1));
+            let other = pixel(RIGHT, x.wrapping_add(right.0), y.wrapping_add(right.1));
             pixels.push(one.min(other))?;
         }
     }
@@ -113,14 +106,12 @@ fn try_width<R: Abort + AllocGlobal>(
     let alloc = rt.alloc();
     let wide = width.wrapping_add(shifts.left.0.max(shifts.right.0));
     let high = shifts.left.1.max(shifts.right.1).wrapping_add(2);
-    let left = image(alloc, 9973, wide, high)?;
-    let right = image(alloc, 23_689, wide, high)?;
-    let least = least_pixels(alloc, shifts, (&left, &right), width, 2)?;
     let mut images = Sequence::new(alloc);
-    images.push(left)?;
-    images.push(right)?;
+    images.push(image(alloc, LEFT, wide, high)?)?;
+    images.push(image(alloc, RIGHT, wide, high)?)?;
     assert!(rt; text.len() < 0x8000_0000);
     let output = run_images(alloc, text, &images)?;
+    let least = least_pixels(alloc, shifts, width, 2)?;
     assert_eq!(rt; output.width(), width);
     assert_eq!(rt; output.pixels(), least.as_slice());
     Ok(())
