@@ -1,17 +1,13 @@
 ghost use Rattle.pf_ints.specs.Images.{IsPixelType};
 
 use super::*;
-use pf_ints::{LaneType};
+use pf_ints::LaneType;
 use std::test::Fail;
 
 fn pixel_type(is_wide: bool) -> LaneType
     ensures { IsPixelType result }
 {
-    if is_wide {
-        LaneType::U16
-    } else {
-        LaneType::U8
-    }
+    if is_wide { LaneType::U16 } else { LaneType::U8 }
 }
 
 /// Files, whether they are read for u16, and the places and words of their faults.

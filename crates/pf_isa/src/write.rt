@@ -8,9 +8,7 @@ ghost use Rattle.pf_isa.specs.Texts.{IsText, IsOpOf, printed, target_line, range
 use crate::code::{Label, Line};
 use crate::isa::Isa;
 use crate::program::{Head, Program};
-use pf_ints::{
-    Duplicate, LaneType, Memory, Name, Sequence, Target, push_number, push_whole,
-};
+use pf_ints::{Duplicate, LaneType, Memory, Name, Sequence, Target, push_number, push_whole};
 use pf_terms::{DefName, Definition, ImageDecl, ImageName, Names, Tap, write_term, write_type};
 use std::alloc::Global;
 

@@ -12,11 +12,7 @@ use std::test::Fail;
 fn pixel_type(is_wide: bool) -> LaneType
     ensures { IsPixelType result }
 {
-    if is_wide {
-        LaneType::U16
-    } else {
-        LaneType::U8
-    }
+    if is_wide { LaneType::U16 } else { LaneType::U8 }
 }
 
 /// A u8 image of this name with this range.
