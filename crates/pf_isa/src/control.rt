@@ -115,6 +115,8 @@ impl Model for Ctl {
 }
 
 impl Ctl {
+    /// The instruction that does this. Its registers, its numbers and its label have to be such as
+    /// an instruction may have.
     pub fn new(control: Control) -> Ctl
         requires { IsControl control }
         ensures { result ≡ control }

@@ -49,7 +49,8 @@ impl<I: Isa> Model for Machine<I> {
 
 impl<I: Isa> Machine<I> {
     /// The machine of the program over this memory, before the first instruction, with all
-    /// registers clear. The only error is want of memory.
+    /// registers and the flag clear. The regions have to be apart, so that no address lies in two
+    /// of them, and each has to end below 2^31. The only error is want of memory.
     pub fn new(
         alloc: Global,
         program: Program<I>,
@@ -80,9 +81,10 @@ impl<I: Isa> Machine<I> {
         })
     }
 
-    /// Begins a row: writes the entries, 8 bytes each, over the region at `table`, which has their
-    /// size, puts its address in the table register, clears all other registers and the flag, and
-    /// goes to the first instruction. It takes no memory.
+    /// Begins a row: writes the entries, 8 bytes each, over the region at `table`, puts its address
+    /// in the table register, clears all other registers and the flag, and goes to the first
+    /// instruction. A region has to begin at `table` and have exactly the size of the entries. All
+    /// other regions stay as they are. It takes no memory.
     pub fn start_row(&mut self, table: u64, entries: &[u64])
         requires { HasTable self.old.state.regions table (8 * length entries.now) }
         ensures text { self.new.text ≡ self.old.text }
@@ -95,8 +97,9 @@ impl<I: Isa> Machine<I> {
         clear_registers(&mut self.core.file, &self.zeros);
     }
 
-    /// Takes one step, and tells whether it went on; false is a return, at which the state stays.
-    /// After a trap the state is as before.
+    /// Takes one step from whatever state the machine is in, and tells whether it went on; false is
+    /// a return, at which the state stays. The only error is `Trap::Outside`, after which the state
+    /// is as before. It takes no memory.
     pub fn step(&mut self) -> Result<bool, Trap>
         ensures value { Answers (step I.table self.old.text.code self.old.text.labels self.old.state) result self.old.state self.new.state }
         ensures text { self.new.text ≡ self.old.text }
@@ -108,8 +111,10 @@ impl<I: Isa> Machine<I> {
         }
     }
 
-    /// Steps to the return of the row, in at most `budget` steps, the return included. After an
-    /// error the state is the one that the last whole step left.
+    /// Steps from the state that the machine is in, as `start_row` leaves it for a new row, to the
+    /// return, in at most `budget` steps, the return included. Where they don't come to the return,
+    /// it is `Trap::Outside` or `Trap::Spent`. In each case the state is the one that the last
+    /// whole step left. It takes no memory.
     pub fn run_row(&mut self, budget: u64) -> Result<(), Trap>
         ensures value { Ends (run I.table self.old.text.code self.old.text.labels budget self.old.state) budget result self.new.state }
         ensures text { self.new.text ≡ self.old.text }

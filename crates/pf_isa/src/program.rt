@@ -45,6 +45,9 @@ impl<I: Isa> Model for Program<I> {
 }
 
 impl<I: Isa> Program<I> {
+    /// The program of a head, instructions and labels, as they stand in its text. They have to be
+    /// a program: each jump goes to one of the labels, which have different names and stand in the
+    /// order of their places, and the last instruction is a jump or the return.
     pub fn new(head: Head, code: Code<I>, labels: LabelList) -> Program<I>
         requires { IsProgram I.table (record { head = head; code = code; labels = labels }) }
         ensures { result ≡ record { head = head; code = code; labels = labels } }
@@ -52,6 +55,7 @@ impl<I: Isa> Program<I> {
         Program { head, code, labels }
     }
 
+    /// What the text says before the code.
     pub fn head(&self) -> &Head
         ensures value { result.now ≡ self.now.head }
         ensures kept { IsProgram I.table self.now }
@@ -59,12 +63,14 @@ impl<I: Isa> Program<I> {
         &self.head
     }
 
+    /// The instructions, in order.
     pub fn code(&self) -> &Code<I>
         ensures { result.now ≡ self.now.code }
     {
         &self.code
     }
 
+    /// The labels, in the order of the text.
     pub fn labels(&self) -> &LabelList
         ensures { result.now ≡ self.now.labels }
     {

@@ -53,6 +53,7 @@ impl RegList {
         self
     }
 
+    /// How many registers the list has, at most four.
     pub fn len(&self) -> usize
         ensures { result ≡ length self.now }
     {

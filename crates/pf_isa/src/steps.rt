@@ -1,7 +1,7 @@
 ghost use Rattle.std.specs.Prelude.{◌≡◌, ◌+◌, ◌-◌, ◌<◌, ◌≤◌, ◌*◌, ◌^◌, [], length, slice_index, slice_index_or, true, false, Err};
 ghost use Rattle.pf_isa.specs.Control.{IsControl};
 ghost use Rattle.pf_isa.specs.Tables.{IsOver};
-ghost use Rattle.pf_isa.specs.Steps.{pointer_bytes, wrapped, sum_of, general_of, with_general, load_step, store_step, control_step, access_step, by_access, line_step};
+ghost use Rattle.pf_isa.specs.Steps.{pointer_bytes, wrapped, sum_of, general_of, with_general, Moved, load_step, store_step, control_step, access_step, by_access, line_step};
 ghost use Rattle.pf_isa.specs.Machines.{state_of, IsState, IsLineOver, Answers};
 
 use crate::access::Access;
@@ -68,10 +68,23 @@ fn sum_of(target: Target, n: u64, down: bool, by: u32) -> u64
     }
 }
 
-fn entry_address(target: Target, base: u64, entry: u8) -> u64
-    ensures { result ≡ wrapped target (base + 8 * entry) }
+/// What the general register of this role holds.
+fn general_of(core: &Core, role: u8) -> u64
+    requires role { role < 8 }
+    requires registers { length core.now.general ≡ 8 }
+    ensures { result ≡ general_of (state_of core.now) role }
 {
-    wrapped(target, u128::from(base) + 8 * u128::from(entry))
+    core.general[usize::from(role)]
+}
+
+/// The address of an entry of the table that the general register of this role points to.
+fn entry_address(target: Target, core: &Core, base: u8, entry: u8) -> u64
+    requires base { base < 8 }
+    requires registers { length core.now.general ≡ 8 }
+    ensures { result ≡ wrapped target (general_of (state_of core.now) base + 8 * entry) }
+{
+    let table = general_of(core, base);
+    wrapped(target, u128::from(table) + 8 * u128::from(entry))
 }
 
 fn outside(core: &Core, address: u64, length: u32) -> Trap
@@ -85,14 +98,16 @@ fn outside(core: &Core, address: u64, length: u32) -> Trap
     }
 }
 
-fn set_general(to: u8, n: u64, core: &mut Core)
+/// Goes on with the number in the general register of this role.
+fn set_general(to: u8, n: u64, core: &mut Core) -> Result<bool, Trap>
     requires to { to < 8 }
     requires registers { length core.old.general ≡ 8 }
     requires room { core.old.at + 1 < 2 ^ 64 }
-    ensures { state_of core.new ≡ with_general (state_of core.old) to n }
+    ensures { Answers (Moved (with_general (state_of core.old) to n)) result (state_of core.old) (state_of core.new) }
 {
     core.general[usize::from(to)] = n;
     core.at += 1;
+    Ok(true)
 }
 
 fn load_number(to: u8, address: u64, count: u8, core: &mut Core) -> Result<bool, Trap>
@@ -106,8 +121,7 @@ fn load_number(to: u8, address: u64, count: u8, core: &mut Core) -> Result<bool,
         None => Err(outside(core, address, u32::from(count))),
         Some(held) => {
             let n = number_of(held);
-            set_general(to, n, core);
-            Ok(true)
+            set_general(to, n, core)
         }
     }
 }
@@ -137,36 +151,26 @@ fn run_control(target: Target, place: u64, control: Control, core: &mut Core) ->
 {
     match control {
         Control::LoadPtr { to, base, entry } => {
-            let address = entry_address(target, core.general[usize::from(base)], entry);
+            let address = entry_address(target, core, base, entry);
             load_number(to, address, pointer_bytes(target), core)
         }
         Control::StorePtr { base, entry, from } => {
-            let address = entry_address(target, core.general[usize::from(base)], entry);
+            let address = entry_address(target, core, base, entry);
             store_number(from, address, pointer_bytes(target), core)
         }
-        Control::Imm { to, n } => {
-            set_general(to, u64::from(n), core);
-            Ok(true)
-        }
+        Control::Imm { to, n } => set_general(to, u64::from(n), core),
         Control::AddImm { to, from, down, by } => {
-            let sum = sum_of(target, core.general[usize::from(from)], down, by);
-            set_general(to, sum, core);
-            Ok(true)
+            let sum = sum_of(target, general_of(core, from), down, by);
+            set_general(to, sum, core)
         }
         Control::AddReg { to, left, right } => {
-            let sum = u128::from(core.general[usize::from(left)])
-                + u128::from(core.general[usize::from(right)]);
-            set_general(to, wrapped(target, sum), core);
-            Ok(true)
+            let sum = u128::from(general_of(core, left)) + u128::from(general_of(core, right));
+            set_general(to, wrapped(target, sum), core)
         }
-        Control::LoadByte { to, at } => load_number(to, core.general[usize::from(at)], 1, core),
-        Control::LoadHalf { to, at } => load_number(to, core.general[usize::from(at)], 2, core),
-        Control::StoreByte { at, from } => {
-            store_number(from, core.general[usize::from(at)], 1, core)
-        }
-        Control::StoreHalf { at, from } => {
-            store_number(from, core.general[usize::from(at)], 2, core)
-        }
+        Control::LoadByte { to, at } => load_number(to, general_of(core, at), 1, core),
+        Control::LoadHalf { to, at } => load_number(to, general_of(core, at), 2, core),
+        Control::StoreByte { at, from } => store_number(from, general_of(core, at), 1, core),
+        Control::StoreHalf { at, from } => store_number(from, general_of(core, at), 2, core),
         Control::Compare { left, right } => {
             core.flag = core.general[usize::from(left)] < core.general[usize::from(right)];
             core.at += 1;
@@ -189,7 +193,7 @@ fn access_address(target: Target, access: Access, core: &Core) -> u64
     requires registers { length core.now.general ≡ 8 }
     ensures { result ≡ wrapped target (general_of (state_of core.now) access.base + access.offset) }
 {
-    let base = core.general[usize::from(access.base)];
+    let base = general_of(core, access.base);
     wrapped(target, u128::from(base) + u128::from(access.offset))
 }
 

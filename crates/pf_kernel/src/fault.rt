@@ -6,7 +6,8 @@ use pf_terms::LimitKind;
 use std::alloc::{AllocError, AllocFailed};
 
 /// Why a text is no kernel. Lines count from 1, columns in bytes from 1. The limit of bytes is
-/// judged first, and then line by line, on one line in the order of these causes.
+/// judged first, and then line by line, on one line in the order of these causes, but that types and
+/// amounts (`LimitKind::Amount`) are judged together, node by node in post-order.
 #[derive(Debug, Drop)]
 pub enum KernelFault {
     /// The line, up to and with the token at this column, begins no line that may stand there; or

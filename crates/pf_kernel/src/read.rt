@@ -19,9 +19,13 @@ use std::alloc::Global;
 
 const MOST_BYTES: usize = 65_536;
 
-/// The kernel of a text of lines: `kernel NAME`, `image NAME TYPE` or `image NAME TYPE LO HI` once
-/// or more, `def NAME TYPE = EXPRESSION` any number of times, and last `out TYPE = EXPRESSION`.
-/// Lines end in LF or CR LF, a `#` begins a comment, and blank lines are free.
+/// The kernel of a text of lines: `kernel NAME`, `image NAME TYPE` or `image NAME TYPE LO HI` one to
+/// eight times, `def NAME TYPE = EXPRESSION` none to 64 times, and last `out TYPE = EXPRESSION`.
+/// Lines end in LF or CR LF, a `#` begins a comment, and blank lines are free. A text has at most
+/// 65,536 bytes, and a kernel at most 64 taps, with offsets from -64 to 64, and 512 nodes in terms
+/// that are at most 128 deep.
+///
+/// The first fault is told, in the order of `KernelFault`.
 #[tactic(auto, unfolding(crate::specs::Texts::byte_limit))]
 pub fn read_kernel(alloc: Global, text: &[u8]) -> Result<Kernel, KernelFault>
     // What is read is the kernel of the text.

@@ -2,7 +2,7 @@ ghost use Rattle.std.specs.Prelude.{◌≡◌, ◌+◌, ◌*◌, ◌≤◌, ◌+
 ghost use Rattle.pf_neon.specs.Lines.{word, suffix, vector_text, general_text, value_text, at_text, place_text, comma, text, offset_text, sum_word, control_text};
 
 use crate::op::{Form, Lanes, Mnemonic};
-use pf_isa::{Control, ShortLine};
+use pf_isa::{Control, ShortLine, role};
 
 fn word(name: Mnemonic) -> &'static [u8]
     ensures value { result.now ≡ word name }
@@ -83,11 +83,11 @@ pub fn form_line(form: Form) -> ShortLine
     match form {
         Form::Load { to, j } => {
             let line = comma(line.word(b"ldr q").number(to));
-            place(line, 5, 16 * u32::from(j))
+            place(line, role::POINTER, 16 * u32::from(j))
         }
         Form::Store { from, j } => {
             let line = comma(line.word(b"str q").number(from));
-            place(line, 5, 16 * u32::from(j))
+            place(line, role::POINTER, 16 * u32::from(j))
         }
         Form::Copy { to, from } => {
             let line = comma(vector(line.word(b"mov "), Lanes::Bytes, to));

@@ -10,7 +10,7 @@ use crate::lines::{control_line, form_line};
 use crate::op::{Form, Op};
 use crate::reads;
 use pf_ints::{Memory, Target};
-use pf_isa::{Access, Ctl, Isa, Reg, RegFile, RegList};
+use pf_isa::{Access, Ctl, Isa, Reg, RegFile, RegList, role};
 use std::alloc::Global;
 
 /// The instructions of A64 Advanced SIMD.
@@ -143,13 +143,13 @@ impl Isa for Neon {
             Form::Load { to, j } => Some(Access {
                 load: true,
                 vector: to,
-                base: 5,
+                base: role::POINTER,
                 offset: 16 * u32::from(j),
             }),
             Form::Store { from, j } => Some(Access {
                 load: false,
                 vector: from,
-                base: 5,
+                base: role::POINTER,
                 offset: 16 * u32::from(j),
             }),
             Form::Copy { .. } | Form::Lanewise { .. } => None,

@@ -22,7 +22,8 @@ use std::alloc::{AllocError, AllocFailed, Global};
 /// The most taps that a kernel has.
 const MOST_TAPS: usize = 64;
 
-/// Why a text is no term, judged in the order of these causes.
+/// Why a text is no term, judged in the order of these causes, but that types and amounts are judged
+/// together, node by node in post-order.
 #[derive(Debug, Drop)]
 pub enum ReadFault {
     /// No expression begins as the text does up to and with the token at this column, counted in

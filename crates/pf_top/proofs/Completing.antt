@@ -11,10 +11,10 @@ use Rattle.pf_images.specs.Counts.{Rose}
 use Rattle.pf_images.specs.Outside.{Contents, Changes}
 use Rattle.pf_top.specs.declared.image_files.ImageRefusal.{ImageRefusal}
 use Rattle.pf_top.specs.declared.image_files.ImageRefusal.TheVariants.{TooLong as ImageTooLong, At as ImageAt}
-use Rattle.pf_top.specs.declared.run_verdict.NotRun.{NotRun}
+use Rattle.pf_top.specs.declared.run_verdict.NoImage.{NoImage}
 use Rattle.pf_top.specs.declared.run_verdict.RunFile.TheVariants.{Text as TextFile, Image}
 use Rattle.pf_top.specs.declared.run_verdict.RunVerdict.{RunVerdict}
-use Rattle.pf_top.specs.declared.run_verdict.RunVerdict.TheVariants.{Done, Missing, ReadFailed, TextRefused, Count, ImageRefused, NotRun as Prevented, WriteFailed, Memory}
+use Rattle.pf_top.specs.declared.run_verdict.RunVerdict.TheVariants.{Done, Missing, ReadFailed, TextRefused, Count, ImageRefused, NoImage as WithoutImage, WriteFailed, Memory}
 use Rattle.pf_top.specs.Completeness.{IsSomeImage, IsImageThere, IsRunnable}
 use Rattle.pf_top.specs.Courses.{Store, Begins}
 use Rattle.pf_top.specs.ImageFiles.{HoldsImage, IsImageFile, RefusesImage, image_limit}
@@ -22,11 +22,11 @@ use Rattle.pf_top.specs.Running.{Language, Run, Holds, HoldsText, RunLeads, RanT
 use Rattle.pf_top.specs.RunStatuses.{run_due}
 use Rattle.pf_top.specs.Statuses.{Due, Output, Told, Tells, wanting}
 
--- what is spelled has one meaning and is not refused, and what works is not prevented
+-- what is spelled has one meaning and is not refused, and what works is not without_image
 pub record IsFit {P R : Type 0} (l : Language P R) : Type 0 where
   pub same : (p q : P) (bytes : List ℕ) → l.Means p bytes → l.Spells q bytes → p ≡ q
   pub not_refused : (e : R) (p : P) (bytes : List ℕ) → l.Refuses e bytes → l.Spells p bytes → ⊥
-  pub not_prevented : (e : NotRun) (p : P) (pictures : List Picture) → l.Works p pictures → l.Ends p pictures (Err e) → ⊥
+  pub not_prevented : (e : NoImage) (p : P) (pictures : List Picture) → l.Works p pictures → l.Ends p pictures (Err e) → ⊥
 
 -- the verdicts whose causes are in the files
 abbrev IsRefusal : {R : Type 0} → RunVerdict R → Type 0
@@ -94,8 +94,8 @@ module _ {P R : Type 0} (l : Language P R) (fit : IsFit l) (r : Run) (m : Conten
           omega (arith, over, within)
       clash (ImageAt at kind) w q refused held = let facts = both (m w.0) (image_limit + 1) (RefusesImage w.1.ty (ImageAt at kind)) (IsSomeImage w.1.ty q) refused held in facts.1.1 q facts.2.1
 
-  prevented : (e : NotRun) (p : P) (pictures : List Picture) → Holds l r m (length r.images) p pictures → l.Ends p pictures (Err e) → ⊥
-  prevented e p pictures holds ran =
+  without_image : (e : NoImage) (p : P) (pictures : List Picture) → Holds l r m (length r.images) p pictures → l.Ends p pictures (Err e) → ⊥
+  without_image e p pictures holds ran =
       let same : p ≡ can.meaning = same_meaning p holds.text in
       let zipped = length-zip r.images (l.decls p) in
       let whole : take (length r.images) (zip r.images (l.decls p)) ≡ zip r.images (l.decls p) = take_all (length r.images) (zip r.images (l.decls p)) (omega (arith, zipped)) in
@@ -123,7 +123,7 @@ module _ {P R : Type 0} (l : Language P R) (fit : IsFit l) (r : Run) (m : Conten
       let within : k < length (l.decls can.meaning) = slice_get_within (l.decls can.meaning) k leads.2 declared in
       let count = can.count in
       no_image_refusal k e leads.2 (omega (arith, within, count)) declared leads.5
-  no_refusal (Prevented e) n refusal leads = prevented e leads.0.0 leads.0.1 leads.0.2 leads.0.3
+  no_refusal (WithoutImage e) n refusal leads = without_image e leads.0.0 leads.0.1 leads.0.2 leads.0.3
   no_refusal WriteFailed n refusal leads = refusal
   no_refusal Memory n refusal leads = refusal
 
@@ -145,6 +145,6 @@ complete l fit refused r m b a ob oa answer (ReadFailed w) is can calm quiet ran
 complete l fit refused r m b a ob oa answer (TextRefused e) is can calm quiet ran told = absurd (refuted l fit r m can b a (TextRefused e) is tt ran)
 complete l fit refused r m b a ob oa answer (Count want got) is can calm quiet ran told = absurd (refuted l fit r m can b a (Count want got) is tt ran)
 complete l fit refused r m b a ob oa answer (ImageRefused n e) is can calm quiet ran told = absurd (refuted l fit r m can b a (ImageRefused n e) is tt ran)
-complete l fit refused r m b a ob oa answer (Prevented e) is can calm quiet ran told = absurd (refuted l fit r m can b a (Prevented e) is tt ran)
+complete l fit refused r m b a ob oa answer (WithoutImage e) is can calm quiet ran told = absurd (refuted l fit r m can b a (WithoutImage e) is tt ran)
 complete l fit refused r m b a ob oa answer WriteFailed is can calm quiet ran told = absurd (calm ran.went.faults)
 complete l fit refused r m b a ob oa answer Memory is can calm quiet ran told = inr (poor ob oa answer quiet told)

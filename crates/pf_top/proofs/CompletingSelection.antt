@@ -15,7 +15,7 @@ use Rattle.pf_top.specs.declared.verdict.Verdict.TheVariants.{Done, TargetNotBui
 use Rattle.pf_top.specs.Completeness.{IsSelectable}
 use Rattle.pf_top.specs.Courses.{Store}
 use Rattle.pf_top.specs.KernelFiles.{RefusesKernel}
-use Rattle.pf_top.specs.Selections.{Select, IsSelect, IsBuilt, HasForm, IsOther, OfJudged, Differs, Leads, Came, file_name, limit}
+use Rattle.pf_top.specs.Selections.{Select, IsSelect, IsTaken, HasForm, IsOther, OfJudged, Differs, Leads, Came, file_name, limit}
 use Rattle.pf_top.specs.SelectStatuses.{select_due}
 use Rattle.pf_top.specs.Statuses.{Output, Tells}
 use Rattle.pf_top.proofs.Completing.{both, led, not_missing, poor}
@@ -59,7 +59,7 @@ module _ (s : Select) (m : Contents) (can : IsSelectable s m) where
   no_other Kernel other =
       let facts = both (m s.kernel) (limit Kernel + 1) (IsOther Kernel) (λ bytes. IsKernel bytes can.meaning) other can.kernel in
       let same : facts.1.0 ≡ can.meaning = facts.1.1.1 can.meaning facts.2 in
-      facts.1.2 (subst IsBuilt (sym same) can.built)
+      facts.1.2 (subst IsTaken (sym same) can.built)
   no_other Lift other = let facts = both (m s.lift) (limit Lift + 1) (IsOther Lift) (HasForm Lift) other can.lift in facts.1 facts.2
   no_other Lower other = let facts = both (m s.lower) (limit Lower + 1) (IsOther Lower) (HasForm Lower) other can.lower in facts.1 facts.2
 

@@ -5,13 +5,13 @@ use Rattle.pf_isa.specs.Programs.{Text}
 use Rattle.pf_neon.specs.declared.neon.Neon.{Neon}
 use Rattle.pf_neon.specs.declared.op.Form.{Form}
 use Rattle.pf_kernel.specs.Kernels.{Meaning}
-use Rattle.pf_top.specs.declared.run_verdict.NotRun.{NotRun}
-use Rattle.pf_top.specs.declared.run_verdict.NotRun.TheVariants.{Size, Pixel, NoOutput, Outside, Spent}
+use Rattle.pf_top.specs.declared.run_verdict.NoImage.{NoImage}
+use Rattle.pf_top.specs.declared.run_verdict.NoImage.TheVariants.{Size, Pixel, NoOutput, Outside, Spent}
 use Rattle.pf_top.specs.declared.text_file.TextRefusal.{TextRefusal}
 use Rattle.pf_top.specs.declared.text_file.TextRefusal.TheVariants.{TooLong, NotBuilt, At}
 use Rattle.pf_top.specs.KernelFiles.{Evaluates, kernels}
 use Rattle.pf_top.specs.Least.{least_source}
-use Rattle.pf_top.specs.TextFiles.{IsSomeText, Leaves, RefusesText, Returns, programs, text_limit}
+use Rattle.pf_top.specs.TextFiles.{IsSomeText, RunsTo, RefusesText, Returns, programs, text_limit}
 use Rattle.pf_terms.specs.Kernels.{Keeps}
 use Rattle.pf_top.proofs.Completing.{IsFit}
 
@@ -23,7 +23,7 @@ no_text_refused TooLong p bytes refused text =
 no_text_refused (NotBuilt target) p bytes refused text = refused.1 p text.1
 no_text_refused (At line kind) p bytes refused text = refused.1 p text.1
 
-returns : (e : NotRun) (p : Text Neon Form) (pictures : List Picture) → Returns p pictures → Leaves p pictures (Err e) → ⊥
+returns : (e : NoImage) (p : Text Neon Form) (pictures : List Picture) → Returns p pictures → RunsTo p pictures (Err e) → ⊥
 returns (Size image width height) p pictures works ran = ran.0 (least_source p.head 0 0) refl refl (works.1 (least_source p.head 0 0) refl refl)
 returns (Pixel image x y value) p pictures works ran = ran.0 (least_source p.head 0 0) refl refl (works.1 (least_source p.head 0 0) refl refl)
 returns NoOutput p pictures works ran = ran.0 (least_source p.head 0 0) refl refl (works.1 (least_source p.head 0 0) refl refl)
@@ -33,7 +33,7 @@ returns (Spent steps) p pictures works ran = let fails = ran.1.2 in let ends = w
 pub programs_fit : IsFit programs
 programs_fit = record { same = λ p q bytes means text. means.2 q text.1; not_refused = no_text_refused; not_prevented = returns }
 
-evaluates : (e : NotRun) (k : Meaning) (pictures : List Picture) → Keeps k.source pictures → Evaluates k pictures (Err e) → ⊥
+evaluates : (e : NoImage) (k : Meaning) (pictures : List Picture) → Keeps k.source pictures → Evaluates k pictures (Err e) → ⊥
 evaluates (Size image width height) k pictures keeps ends = ends.0 keeps
 evaluates (Pixel image x y value) k pictures keeps ends = ends.0 keeps
 evaluates NoOutput k pictures keeps ends = ends.0 keeps

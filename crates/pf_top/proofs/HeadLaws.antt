@@ -24,7 +24,7 @@ use Rattle.pf_terms.specs.Terms.{node_count}
 use Rattle.pf_terms.specs.TermTexts.{is_named, named_step, is_named_leaf}
 use Rattle.pf_isa.specs.Heads.{IsHead, IsDecl, IsTap}
 use Rattle.pf_kernel.specs.Kernels.{Meaning, IsKernelOf, IsTermOf, names_of, names_behind, image_name, def_name, terms_of, IsDecl as IsRange}
-use Rattle.pf_top.specs.Least.{byte_type, tap_term, least_term, IsLeastOf, HasTaps}
+use Rattle.pf_top.specs.Least.{byte_type, tap_term, least_term, AreTapsOf, IsLeastOf, HasTaps}
 use Rattle.pf_top.specs.Selected.{head_of}
 
 -- ---- a fold of a tap, and of the lesser of two
@@ -151,6 +151,10 @@ module _ (k : Meaning) (kernel : IsKernelOf k) (none : k.source.defs ≡ []) whe
         cost = omega arith;
       }
 
+-- a kernel's taps are of its images
+pub taps_known : (k : Meaning) → IsKernelOf k → All (λ t. t.image < length k.source.images) k.source.taps
+taps_known k kernel i d h = let near = kernel.names.near i d h in omega (arith, near.image, length-map k.source.images image_name)
+
 -- the head of a kernel that is the lesser of two taps
 pub head_taps : (k : Meaning) (first second : ℕ) → IsKernelOf k → IsLeastOf k.source first second → HasTaps (head_of k.source) first second
 head_taps k first second kernel least =
@@ -158,7 +162,7 @@ head_taps k first second kernel least =
     let within = taps_within (names_behind k.source.images k.source.taps []) first second named in
     record {
       head = head_is k kernel least.defs;
-      images = subst (λ ty. All (λ d. d.ty ≡ ty) k.source.images) (sym least.out_ty) least.images;
+      taps = subst (λ ty. AreTapsOf ty k.source.images k.source.taps) (sym least.out_ty) least.taps;
       scratch = refl;
       first_tap = within.0;
       second_tap = within.1;

@@ -1,5 +1,6 @@
 -- The headline of a text that is written of a program of the lesser of two taps.
-use Rattle.std.proofs.Common.{◌≡◌, sym, ap, subst, ◌∙◌, ℕ, List, length}
+use Rattle.std.proofs.Common.{◌≡◌, sym, ap, subst, ◌∙◌, ℕ, List, ◌++◌, length}
+use Rattle.pf_ints.specs.declared.target.Target.TheVariants.{Neon as NeonTarget}
 use Rattle.pf_ints.specs.declared.lane.LaneType.{LaneType}
 use Rattle.pf_ints.specs.Images.{Picture}
 use Rattle.pf_terms.specs.declared.kernel.Definition.{Definition}
@@ -8,7 +9,7 @@ use Rattle.pf_terms.specs.Kernels.{Source, Keeps, Out}
 use Rattle.pf_isa.specs.declared.program.Head.{Head}
 use Rattle.pf_isa.specs.Moved.{Moved, Work}
 use Rattle.pf_isa.specs.Programs.{Text}
-use Rattle.pf_isa.specs.Texts.{IsText}
+use Rattle.pf_isa.specs.Texts.{IsText, printed, head_lines, code_lines}
 use Rattle.pf_isa.specs.Runs.{Places, IsPlaced, Leaves, pixel_bytes}
 use Rattle.pf_neon.specs.declared.neon.Neon.{Neon}
 use Rattle.pf_neon.specs.declared.op.Form.{Form}
@@ -53,12 +54,13 @@ pub record IsMade (wanted : Head) (first second : ℕ) (p : Text Neon Form) : Ty
   pub right : LeavesLeast p first second
 
 pub selected_from : (s : Source) (text : List ℕ) (head : Head) (first second : ℕ) (p : Text Neon Form) → IsLeastOf s first second → head ≡ head_of s → IsMade head first second p
-    → IsText table IsForm text p → IsSelected s text
+    → IsText table IsForm text p → text ≡ printed (head_lines NeonTarget p.head ++ code_lines table 0 p.code p.labels) → IsSelected s text
 unfolding headline_at
-selected_from s text head first second p least same_head made parses =
+selected_from s text head first second p least same_head made parses spelled =
     let is : p.head ≡ head_of s = made.head ∙ same_head in
     record {
       headline = headline_at s text p first second least is made.right parses;
+      spelled = spelled;
       head = is;
       moved = made.moved;
       work = made.work ∙ ap (λ (h : Head). pixel_bytes h.out_ty) same_head ∙ ap pixel_bytes least.out_ty ∙ sym (ap (λ (h : Head). h.cost) is);

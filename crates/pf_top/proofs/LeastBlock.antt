@@ -173,10 +173,13 @@ module _ (h : Head) (first second : ℕ) (has : HasTaps h first second) where
   tap_image : (k : ℕ) → k < length h.taps → (get_or h.taps k no_tap).image < length h.images
   tap_image k known = let t : IsTap (length h.images) (get_or h.taps k no_tap) = All-get_or (IsTap (length h.images)) h.taps k no_tap known has.head.taps in t.image
 
+  tap_type : (k : ℕ) → k < length h.taps → (get_or h.images (get_or h.taps k no_tap).image no_decl).ty ≡ h.out_ty
+  tap_type k known = All-get_or (λ t. (get_or h.images t.image no_decl).ty ≡ h.out_ty) h.taps k no_tap known has.taps
+
   tap_width : (k : ℕ) → k < length h.taps → get_or (tap_widths h) k 0 ≡ width
   tap_width k known =
       get_or-map (λ t. pixel_bytes (get_or h.images t.image no_decl).ty) h.taps k no_tap 0 known
-      ∙ ap pixel_bytes (All-get_or (λ d. d.ty ≡ h.out_ty) h.images (get_or h.taps k no_tap).image no_decl (tap_image k known) has.images)
+      ∙ ap pixel_bytes (tap_type k known)
 
   length-widths : length (tap_widths h) ≡ length h.taps
   length-widths = length-map h.taps (λ t. pixel_bytes (get_or h.images t.image no_decl).ty)
@@ -243,15 +246,14 @@ module _ (h : Head) (first second : ℕ) (has : HasTaps h first second) (picture
   abbrev bound : ℕ
   bound = 256 ^ pixel_bytes h.out_ty
 
-  image_below : (k : ℕ) → k < length h.images → All (λ n. n < bound) (get_or pictures k no_picture).pixels
-  image_below k inside =
+  image_below : (k : ℕ) → k < length h.images → (get_or h.images k no_decl).ty ≡ h.out_ty → All (λ n. n < bound) (get_or pictures k no_picture).pixels
+  image_below k inside same =
       let p = get_or pictures k no_picture in
       let known : k < length pictures = omega (arith, keeps.count) in
       let picture : IsPicture p = All-get_or IsPicture pictures k no_picture known keeps.limits in
       let declared = get_or h.images k no_decl in
       let pair : get_or (zip h.images pictures) k (no_decl, no_picture) ≡ (declared, p) = get_or-zip h.images pictures k (no_decl, no_picture) inside known in
       let kept : KeepsRange declared p = subst (λ q. KeepsRange q.0 q.1) pair (All-get_or (λ q. KeepsRange q.0 q.1) (zip h.images pictures) k (no_decl, no_picture) (omega (arith, length-zip h.images pictures)) keeps.each) in
-      let same : declared.ty ≡ h.out_ty = All-get_or (λ d. d.ty ≡ h.out_ty) h.images k no_decl inside has.images in
       All-weaker (λ n. IsNumber p.ty (pos n)) (λ n. n < bound) (λ n number. below h.out_ty n has.head.out_ty (subst (λ t. IsNumber t (pos n)) (kept.ty ∙ same) number)) p.pixels picture.each
 
   module _ (x y : ℕ) where
@@ -266,7 +268,7 @@ module _ (h : Head) (first second : ℕ) (has : HasTaps h first second) (picture
     number_is k known =
         let t = get_or h.taps k no_tap in
         let pixel = tap_pixel h.taps pictures x y t in
-        let small : pixel < bound = get_or_below bound (get_or pictures t.image no_picture).pixels _ (some_numbers h.out_ty.bits) (image_below t.image (tap_image h first second has k known)) in
+        let small : pixel < bound = get_or_below bound (get_or pictures t.image no_picture).pixels _ (some_numbers h.out_ty.bits) (image_below t.image (tap_image h first second has k known) (tap_type h first second has k known)) in
         let held : get_or numbers k 0 ≡ pixel = get_or-map (tap_pixel h.taps pictures x y) h.taps k no_tap 0 known in
         let rest : pixel ≡ get_or numbers k 0 % bound = sym (mod-eq_of_lt small) ∙ ap (λ n. n % bound) (sym held) in
         get_or-map (tap_value h.taps pictures x y) h.taps k no_tap (pos 0) known ∙ ap pos rest

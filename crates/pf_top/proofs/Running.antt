@@ -16,10 +16,10 @@ use Rattle.pf_top.specs.declared.judging.Stop.{Stop}
 use Rattle.pf_top.specs.declared.judging.Stop.TheVariants.{Unread, Refused}
 use Rattle.pf_top.specs.declared.judging.Unwritten.{Unwritten}
 use Rattle.pf_top.specs.declared.judging.Unwritten.TheVariants.{Failed as NotWritten, Memory as NoMemory}
-use Rattle.pf_top.specs.declared.run_verdict.NotRun.{NotRun as Why}
+use Rattle.pf_top.specs.declared.run_verdict.NoImage.{NoImage as Why}
 use Rattle.pf_top.specs.declared.run_verdict.RunFile.TheVariants.{Text as TextFile, Image}
 use Rattle.pf_top.specs.declared.run_verdict.RunVerdict.{RunVerdict}
-use Rattle.pf_top.specs.declared.run_verdict.RunVerdict.TheVariants.{Done, Missing, ReadFailed, TextRefused, Count, ImageRefused, NotRun, WriteFailed, Memory}
+use Rattle.pf_top.specs.declared.run_verdict.RunVerdict.TheVariants.{Done, Missing, ReadFailed, TextRefused, Count, ImageRefused, NoImage, WriteFailed, Memory}
 use Rattle.pf_top.specs.Courses.{Store, Course, Well, Lacking, Failing, Wanting, Went, Begins, Judged, Written}
 use Rattle.pf_top.specs.ImageFiles.{HoldsImage, HoldImages, IsImageFile, RefusesImage, image_limit, images_course}
 use Rattle.pf_top.specs.Running.{Language, Run, Holds, HoldsText, IsAmong, IsImageAmong, RunLeads, RanTo, files_read, run_course, run_file_name}
@@ -141,20 +141,20 @@ module _ {P R : Type 0} (l : Language P R) (r : Run) (p : P) (b c : Store) (one 
         (λ m o same text all. holds m o (length r.images) pictures text same (subst (λ w. AllZip (HoldsImage o) w pictures) (sym whole) all)) has_text two in
         subst (λ k. After All (k + 1) b d) long went
 
-    pub not_run : (among_of : (e : Why) → length pictures ≡ length r.images → l.Ends p pictures (Err e) → IsImageAmong r e) (v : RunVerdict R) → StopsAt l p pictures v → RanTo l r b v d
-    not_run among_of (NotRun e) outputs =
-        ran l r b d (NotRun e) (Well (files_read r)) (among_of e long outputs) refl
+    pub no_image : (among_of : (e : Why) → length pictures ≡ length r.images → l.Ends p pictures (Err e) → IsImageAmong r e) (v : RunVerdict R) → StopsAt l p pictures v → RanTo l r b v d
+    no_image among_of (NoImage e) outputs =
+        ran l r b d (NoImage e) (Well (files_read r)) (among_of e long outputs) refl
         (record { contents = changes_weaker _ _ (λ m n q. ((p, pictures, q.0, outputs), q.1)) b.held d.held has_all.contents; faults = has_all.faults; calls = has_all.calls })
-    not_run among_of Memory outputs =
+    no_image among_of Memory outputs =
         ran l r b d Memory (Wanting (files_read r + 1)) tt refl
         (record { contents = changes_weaker _ _ (λ m n q. q.1) b.held d.held has_all.contents; faults = has_all.faults; calls = (files_read r, omega arith, has_all.calls) })
-    not_run among_of Done outputs = absurd outputs
-    not_run among_of (Missing _) outputs = absurd outputs
-    not_run among_of (ReadFailed _) outputs = absurd outputs
-    not_run among_of (TextRefused _) outputs = absurd outputs
-    not_run among_of (Count _ _) outputs = absurd outputs
-    not_run among_of (ImageRefused _ _) outputs = absurd outputs
-    not_run among_of WriteFailed outputs = absurd outputs
+    no_image among_of Done outputs = absurd outputs
+    no_image among_of (Missing _) outputs = absurd outputs
+    no_image among_of (ReadFailed _) outputs = absurd outputs
+    no_image among_of (TextRefused _) outputs = absurd outputs
+    no_image among_of (Count _ _) outputs = absurd outputs
+    no_image among_of (ImageRefused _ _) outputs = absurd outputs
+    no_image among_of WriteFailed outputs = absurd outputs
 
     -- the output is written
     module _ (o : Picture) (output : l.Ends p pictures (Ok o)) (text : List ℕ) (spelled : text ≡ pgm_text o) (e : Store) where
@@ -191,7 +191,7 @@ module _ {P R : Type 0} (l : Language P R) (r : Run) (p : P) (b c d : Store) (on
   read = subst (λ ds. Went (λ old new. AllZip (HoldsImage old) (zip r.images ds) pictures × SameContents old new) (Well (length pictures)) c d) same two
 
   pub stopped_output : (among_of : (e : Why) → length pictures ≡ length r.images → l.Ends p pictures (Err e) → IsImageAmong r e) (v : RunVerdict R) → StopsAt l p pictures v → RanTo l r b v d
-  stopped_output among_of v stops = not_run l r p b c one counted pictures d long read among_of v stops
+  stopped_output among_of v stops = no_image l r p b c one counted pictures d long read among_of v stops
 
   pub ended : (text items : List ℕ) (e : Store) (w : Result ⊤ Unwritten) → text ≡ items → (o : Picture) × l.Ends p pictures (Ok o) × (items ≡ pgm_text o) → Written r.out text d w e → RanTo l r b (written_verdict w) e
   ended text items e w is output step = written l r p b c one counted pictures d long read output.0 output.1 text (is ∙ output.2) e w step

@@ -19,7 +19,7 @@ use Rattle.pf_top.specs.Least.{IsLeastOf}
 use Rattle.pf_images.specs.Outside.{Contents, SameContents}
 use Rattle.pf_top.specs.Courses.{Store, Course, Well, Lacking, Failing, Wanting, Went, Judged, Written}
 use Rattle.pf_top.specs.Selected.{IsSelected}
-use Rattle.pf_top.specs.Selections.{Select, Came, Selects, Reaches, Fits, Leads, IsBuilt, HasForm, IsOther, OfJudged, file_name, place, limit, course}
+use Rattle.pf_top.specs.Selections.{Select, Came, Selects, Reaches, Fits, Leads, IsTaken, HasForm, IsOther, OfJudged, file_name, place, limit, course}
 use Rattle.pf_top.specs.Steps.{unread_at, at, stopped, at_kernel, unwritten}
 use Rattle.pf_top.proofs.Courses.{After, after_none, after_judged, begins_before, weaker_begins, changes_weaker, went_then, same_then, puts_then, puts_part_then}
 
@@ -109,14 +109,14 @@ came_other s k b c neon none step = came s b c (NotBuilt Kernel) (Well 1) neon (
   calls = step.calls;
 })
 
-reach_lift : (s : Select) (k : Meaning) → IsBuilt k → (m : Contents) → HasKernel s k m → Fits s m Kernel
+reach_lift : (s : Select) (k : Meaning) → IsTaken k → (m : Contents) → HasKernel s k m → Fits s m Kernel
 reach_lift s k built m has = weaker_begins s.kernel (limit Kernel + 1) (IsKernelFile k) (HasForm Kernel) m (λ front is. (k, is, built)) has
 
 abbrev pub written_verdict : Result ⊤ Unwritten → Verdict
 written_verdict (Ok _) = Done
 written_verdict (Err u) = unwritten u
 
-module _ (s : Select) (neon : s.target ≡ Neon) (k : Meaning) (built : IsBuilt k) (b c : Store) (one : Judged IsKernelFile RefusesKernel s.kernel (limit Kernel + 1) b (Ok k) c) where
+module _ (s : Select) (neon : s.target ≡ Neon) (k : Meaning) (built : IsTaken k) (b c : Store) (one : Judged IsKernelFile RefusesKernel s.kernel (limit Kernel + 1) b (Ok k) c) where
   after_kernel : After (HasKernel s k) 1 b c
   after_kernel = after_judged IsKernelFile RefusesKernel (λ _. Unit {0}) (HasKernel s k) s.kernel (limit Kernel + 1) 0 b b c k (λ m _ is. is) (after_none b) one
 

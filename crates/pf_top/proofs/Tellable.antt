@@ -13,8 +13,8 @@ use Rattle.pf_run.specs.declared.fault.SetFault.{SetFault}
 use Rattle.pf_run.specs.declared.fault.SetFault.TheVariants.{Count, Kind, Size, Pixel, NoOutput}
 use Rattle.pf_run.specs.Answers.{Ran}
 use Rattle.pf_run.specs.Sets.{IsFirstFault, IsSetFault}
-use Rattle.pf_top.specs.declared.run_verdict.NotRun.{NotRun}
-use Rattle.pf_top.specs.declared.run_verdict.NotRun.TheVariants.{Size as NotRunSize, Pixel as NotRunPixel, NoOutput as NotRunNoOutput, Outside as NotRunOutside, Spent as NotRunSpent}
+use Rattle.pf_top.specs.declared.run_verdict.NoImage.{NoImage}
+use Rattle.pf_top.specs.declared.run_verdict.NoImage.TheVariants.{Size as NoImageSize, Pixel as NoImagePixel, NoOutput as NoImageNoOutput, Outside as NoImageOutside, Spent as NoImageSpent}
 use Rattle.pf_top.specs.KernelFiles.{Evaluates}
 use Rattle.pf_top.specs.Running.{Run, IsImageAmong}
 use Rattle.pf_top.specs.RunSteps.{IsTellable}
@@ -55,16 +55,16 @@ pixel_within width height number (d ∷ ds) [] image x y n fault = absurd fault
 pixel_within width height number (d ∷ ds) (p ∷ ps) image x y n (inl here) = let same : image ≡ number = here.0 in omega (arith, same)
 pixel_within width height number (d ∷ ds) (p ∷ ps) image x y n (inr next) = let low = pixel_within width height (number + 1) ds ps image x y n next.1 in omega (arith, low)
 
-pub image_among : {I O : Type 0} (t : Table O) (p : Text I O) (r : Run) (pictures : List Picture) (e : NotRun) → length pictures ≡ length r.images → Ran t p pictures (Err (fault_of e)) → IsImageAmong r e
-image_among t p r pictures (NotRunSize image w h) long ran = let low = size_within _ _ 0 p.head.images pictures image w h ran.1.1 in omega (arith, low, long)
-image_among t p r pictures (NotRunPixel image x y n) long ran = let low = pixel_within _ _ 0 p.head.images pictures image x y n ran.1.1 in omega (arith, low, long)
-image_among t p r pictures NotRunNoOutput long ran = tt
-image_among t p r pictures (NotRunOutside at address count) long ran = tt
-image_among t p r pictures (NotRunSpent steps) long ran = tt
+pub image_among : {I O : Type 0} (t : Table O) (p : Text I O) (r : Run) (pictures : List Picture) (e : NoImage) → length pictures ≡ length r.images → Ran t p pictures (Err (fault_of e)) → IsImageAmong r e
+image_among t p r pictures (NoImageSize image w h) long ran = let low = size_within _ _ 0 p.head.images pictures image w h ran.1.1 in omega (arith, low, long)
+image_among t p r pictures (NoImagePixel image x y n) long ran = let low = pixel_within _ _ 0 p.head.images pictures image x y n ran.1.1 in omega (arith, low, long)
+image_among t p r pictures NoImageNoOutput long ran = tt
+image_among t p r pictures (NoImageOutside at address count) long ran = tt
+image_among t p r pictures (NoImageSpent steps) long ran = tt
 
-pub kernel_among : (k : Meaning) (r : Run) (pictures : List Picture) (e : NotRun) → length pictures ≡ length r.images → Evaluates k pictures (Err e) → IsImageAmong r e
-kernel_among k r pictures (NotRunSize image w h) long ends = let low = size_within _ _ 0 k.source.images pictures image w h ends.1.1 in omega (arith, low, long)
-kernel_among k r pictures (NotRunPixel image x y n) long ends = let low = pixel_within _ _ 0 k.source.images pictures image x y n ends.1.1 in omega (arith, low, long)
-kernel_among k r pictures NotRunNoOutput long ends = tt
-kernel_among k r pictures (NotRunOutside at address count) long ends = tt
-kernel_among k r pictures (NotRunSpent steps) long ends = tt
+pub kernel_among : (k : Meaning) (r : Run) (pictures : List Picture) (e : NoImage) → length pictures ≡ length r.images → Evaluates k pictures (Err e) → IsImageAmong r e
+kernel_among k r pictures (NoImageSize image w h) long ends = let low = size_within _ _ 0 k.source.images pictures image w h ends.1.1 in omega (arith, low, long)
+kernel_among k r pictures (NoImagePixel image x y n) long ends = let low = pixel_within _ _ 0 k.source.images pictures image x y n ends.1.1 in omega (arith, low, long)
+kernel_among k r pictures NoImageNoOutput long ends = tt
+kernel_among k r pictures (NoImageOutside at address count) long ends = tt
+kernel_among k r pictures (NoImageSpent steps) long ends = tt

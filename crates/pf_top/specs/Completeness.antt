@@ -14,14 +14,14 @@ use Rattle.pf_top.specs.declared.verdict.FileWord.TheVariants.{Kernel, Lift, Low
 use Rattle.pf_top.specs.Courses.{Begins}
 use Rattle.pf_top.specs.ImageFiles.{image_limit}
 use Rattle.pf_top.specs.Running.{Language, Run}
-use Rattle.pf_top.specs.Selections.{Select, IsBuilt, Fits, OfJudged}
+use Rattle.pf_top.specs.Selections.{Select, IsTaken, Fits, OfJudged}
 
 -- the target is neon, and the files hold a text of a kernel that is built and the two texts of rules
 pub record IsSelectable (s : Select) (files : Contents) : Type 0 where
   pub meaning : Meaning
   pub target : s.target ≡ Neon
   pub kernel : OfJudged s Kernel (λ bytes. IsKernel bytes meaning) files
-  pub built : IsBuilt meaning
+  pub built : IsTaken meaning
   pub lift : Fits s files Lift
   pub lower : Fits s files Lower
 

@@ -12,8 +12,8 @@ use Rattle.pf_run.specs.declared.fault.SetFault.TheVariants.{Size as SetSize, Pi
 use Rattle.pf_run.specs.Evaluations.{Evaluated}
 use Rattle.pf_top.specs.declared.kernel_file.KernelRefusal.{KernelRefusal}
 use Rattle.pf_top.specs.declared.kernel_file.KernelRefusal.TheVariants.{Syntax, Name, Types, Limit}
-use Rattle.pf_top.specs.declared.run_verdict.NotRun.{NotRun}
-use Rattle.pf_top.specs.declared.run_verdict.NotRun.TheVariants.{Size, Pixel, NoOutput, Outside, Spent}
+use Rattle.pf_top.specs.declared.run_verdict.NoImage.{NoImage}
+use Rattle.pf_top.specs.declared.run_verdict.NoImage.TheVariants.{Size, Pixel, NoOutput, Outside, Spent}
 use Rattle.pf_top.specs.Running.{Language}
 
 -- the bytes are a text of this kernel and of no other, within the limit
@@ -32,7 +32,7 @@ abbrev pub RefusesKernel : KernelRefusal → List ℕ → Type 0
 RefusesKernel e bytes = ((k : Meaning) → IsKernel bytes k → ⊥) × IsKernelFault bytes (kernel_fault e)
 
 -- what is wrong with a set of images, where nothing else is
-abbrev pub set_fault : NotRun → Option SetFault
+abbrev pub set_fault : NoImage → Option SetFault
 set_fault (Size image width height) = Some (SetSize image width height)
 set_fault (Pixel image x y value) = Some (SetPixel image x y value)
 set_fault NoOutput = Some SetNoOutput
@@ -40,7 +40,7 @@ set_fault (Outside at address length) = None
 set_fault (Spent steps) = None
 
 -- the output of a kernel on images, or what is wrong with them
-abbrev pub Evaluates : Meaning → List Picture → Result Picture NotRun → Type 0
+abbrev pub Evaluates : Meaning → List Picture → Result Picture NoImage → Type 0
 Evaluates k pictures (Ok o) = Evaluated k.source pictures (Ok o)
 Evaluates k pictures (Err e) = IsSomeAnd (set_fault e) (λ fault. Evaluated k.source pictures (Err (Set fault)))
 

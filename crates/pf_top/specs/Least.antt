@@ -1,9 +1,11 @@
 -- The lesser of two taps of images of one type: the term, the block that computes it, and what its program promises.
-use Rattle.std.specs.Prelude.{◌≡◌, ℕ, ◌<◌, List, [], ◌∷◌, ◌++◌, length, All, false}
+use Rattle.std.specs.Prelude.{◌≡◌, ℕ, ◌<◌, List, [], ◌∷◌, ◌++◌, length, All, false, slice_index_or}
 use Rattle.pf_ints.specs.declared.lane.LaneType.{LaneType}
 use Rattle.pf_ints.specs.declared.lane.Bits.{Bits}
 use Rattle.pf_ints.specs.declared.lane.Bits.TheVariants.{Eight, Sixteen, ThirtyTwo}
 use Rattle.pf_ints.specs.Images.{Picture}
+use Rattle.pf_terms.specs.declared.kernel.ImageDecl.{ImageDecl}
+use Rattle.pf_terms.specs.declared.names.Tap.{Tap as TapOf}
 use Rattle.pf_terms.specs.declared.op.Op.TheVariants.{Min}
 use Rattle.pf_terms.specs.declared.term.Leaf.TheVariants.{Tap}
 use Rattle.pf_terms.specs.declared.term.Term.{Term}
@@ -21,6 +23,7 @@ use Rattle.pf_neon.specs.declared.op.Lanes.{Lanes}
 use Rattle.pf_neon.specs.declared.op.Lanes.TheVariants.{Bytes, Halves}
 use Rattle.pf_neon.specs.declared.op.Mnemonic.TheVariants.{Umin}
 use Rattle.pf_neon.specs.Neon.{table}
+use Rattle.pf_rows.specs.BlockRows.{no_decl}
 use Rattle.pf_rows.specs.RowCode.{scratch_bytes}
 
 abbrev pub byte_type : LaneType
@@ -37,9 +40,13 @@ least_term ty first second = Node Min ty 0 (tap_term ty first ∷ tap_term ty se
 abbrev pub least_source : Head → ℕ → ℕ → Source
 least_source h first second = record { images = h.images; taps = h.taps; defs = []; out_ty = h.out_ty; out = least_term h.out_ty first second }
 
--- what a kernel says is the lesser of two of its taps, numbers `first` and `second`, and all is u8
+-- the taps are pixels of this type
+abbrev pub AreTapsOf : LaneType → List ImageDecl → List TapOf → Type 0
+AreTapsOf ty images taps = All (λ t. (slice_index_or images t.image no_decl).ty ≡ ty) taps
+
+-- what a kernel says is the lesser of two of its taps, numbers `first` and `second`, and its taps and its output are of u8
 pub record IsLeastOf (s : Source) (first second : ℕ) : Type 0 where
-  pub images : All (λ d. d.ty ≡ byte_type) s.images
+  pub taps : AreTapsOf byte_type s.images s.taps
   pub defs : s.defs ≡ []
   pub out_ty : s.out_ty ≡ byte_type
   pub out : s.out ≡ least_term byte_type first second
@@ -54,10 +61,10 @@ least_block Eight first second = least_part Bytes first second 0
 least_block Sixteen first second = least_part Halves first second 0 ++ least_part Halves first second 1
 least_block ThirtyTwo first second = []
 
--- two taps of a head whose images have the output's type, with the scratch that its rows need
+-- two taps of a head whose taps have the output's type, with the scratch that its rows need
 pub record HasTaps (h : Head) (first second : ℕ) : Type 0 where
   pub head : IsHead h
-  pub images : All (λ d. d.ty ≡ h.out_ty) h.images
+  pub taps : AreTapsOf h.out_ty h.images h.taps
   pub scratch : h.scratch ≡ scratch_bytes 16 (length h.taps) 0
   pub first_tap : first < length h.taps
   pub second_tap : second < length h.taps

@@ -6,11 +6,11 @@ use Rattle.pf_images.specs.Words.{kind_word}
 use Rattle.pf_isa.specs.TextFaults.{kind_word as text_kind_word}
 use Rattle.pf_top.specs.declared.image_files.ImageRefusal.{ImageRefusal}
 use Rattle.pf_top.specs.declared.image_files.ImageRefusal.TheVariants.{TooLong as ImageTooLong, At as ImageAt}
-use Rattle.pf_top.specs.declared.run_verdict.NotRun.{NotRun}
-use Rattle.pf_top.specs.declared.run_verdict.NotRun.TheVariants.{Size, Pixel, NoOutput, Outside, Spent}
+use Rattle.pf_top.specs.declared.run_verdict.NoImage.{NoImage}
+use Rattle.pf_top.specs.declared.run_verdict.NoImage.TheVariants.{Size, Pixel, NoOutput, Outside, Spent}
 use Rattle.pf_top.specs.declared.run_verdict.RunFile.TheVariants.{Image}
 use Rattle.pf_top.specs.declared.run_verdict.RunVerdict.{RunVerdict}
-use Rattle.pf_top.specs.declared.run_verdict.RunVerdict.TheVariants.{Done, Missing, ReadFailed, TextRefused, Count, ImageRefused, NotRun as Prevented, WriteFailed, Memory}
+use Rattle.pf_top.specs.declared.run_verdict.RunVerdict.TheVariants.{Done, Missing, ReadFailed, TextRefused, Count, ImageRefused, NoImage as WithoutImage, WriteFailed, Memory}
 use Rattle.pf_top.specs.declared.text_file.TextRefusal.{TextRefusal}
 use Rattle.pf_top.specs.declared.text_file.TextRefusal.TheVariants.{TooLong, NotBuilt, At}
 use Rattle.pf_top.specs.Statuses.{Due, due, line_of, wanting, write_failed}
@@ -45,12 +45,12 @@ outside_due at address length = due 11 (line_of (codes "outside: instruction " �
 abbrev pub spent_due : ℕ → Due
 spent_due steps = due 12 (line_of (codes "spent: " ∷ decimal steps ∷ codes " steps" ∷ []))
 
-abbrev pub not_run_due : Run → NotRun → Due
-not_run_due r (Size n width height) = size_due (run_file_name r (Image n)) width height
-not_run_due r (Pixel n x y value) = pixel_due (run_file_name r (Image n)) x y value
-not_run_due r NoOutput = due 9 (line_of (codes "no output pixel" ∷ []))
-not_run_due r (Outside at address length) = outside_due at address length
-not_run_due r (Spent steps) = spent_due steps
+abbrev pub no_image_due : Run → NoImage → Due
+no_image_due r (Size n width height) = size_due (run_file_name r (Image n)) width height
+no_image_due r (Pixel n x y value) = pixel_due (run_file_name r (Image n)) x y value
+no_image_due r NoOutput = due 9 (line_of (codes "no output pixel" ∷ []))
+no_image_due r (Outside at address length) = outside_due at address length
+no_image_due r (Spent steps) = spent_due steps
 
 -- what is due at each verdict of `run` or `eval`, by what is due for a text that is refused; nothing is put on success
 abbrev pub run_due : {R : Type 0} → (List ℕ → R → Due) → Run → RunVerdict R → Option Due
@@ -60,6 +60,6 @@ run_due refused r (ReadFailed w) = Some (due 3 (line_of (codes "read failed: " �
 run_due refused r (TextRefused e) = Some (refused r.text e)
 run_due refused r (Count want got) = Some (count_due want got)
 run_due refused r (ImageRefused n e) = Some (image_due (run_file_name r (Image n)) e)
-run_due refused r (Prevented e) = Some (not_run_due r e)
+run_due refused r (WithoutImage e) = Some (no_image_due r e)
 run_due refused r WriteFailed = Some (write_failed r.out)
 run_due refused r Memory = Some wanting

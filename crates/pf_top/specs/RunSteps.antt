@@ -15,7 +15,7 @@ use Rattle.pf_top.specs.declared.judging.Unwritten.TheVariants.{Failed as NotWri
 use Rattle.pf_top.specs.declared.run_verdict.RunFile.{RunFile}
 use Rattle.pf_top.specs.declared.run_verdict.RunFile.TheVariants.{Text as TextFile, Image}
 use Rattle.pf_top.specs.declared.run_verdict.RunVerdict.{RunVerdict}
-use Rattle.pf_top.specs.declared.run_verdict.RunVerdict.TheVariants.{Done, Missing, ReadFailed, TextRefused, Count, ImageRefused, NotRun, WriteFailed, Memory}
+use Rattle.pf_top.specs.declared.run_verdict.RunVerdict.TheVariants.{Done, Missing, ReadFailed, TextRefused, Count, ImageRefused, NoImage, WriteFailed, Memory}
 use Rattle.pf_top.specs.declared.run_words.RunWords.{RunWords}
 use Rattle.pf_top.specs.Running.{Run, Language}
 use Rattle.pf_top.specs.TextFiles.{fault_of}
@@ -57,7 +57,7 @@ Counted want got (Err v) = (v ≡ Count want got) × (want ≢ got)
 
 -- the verdict of a run that isn't run to its end
 abbrev pub IsVerdictOf : {R : Type 0} → RunFault → RunVerdict R → Type 0
-IsVerdictOf fault (NotRun e) = fault ≡ fault_of e
+IsVerdictOf fault (NoImage e) = fault ≡ fault_of e
 IsVerdictOf fault Memory = fault ≡ RunMemory
 IsVerdictOf fault _ = ⊥
 
@@ -70,7 +70,7 @@ IsTellable _ = Unit {0}
 
 -- why a text makes no image of images, or want of memory
 abbrev pub StopsAt : {P R : Type 0} → Language P R → P → List Picture → RunVerdict R → Type 0
-StopsAt l p pictures (NotRun e) = l.Ends p pictures (Err e)
+StopsAt l p pictures (NoImage e) = l.Ends p pictures (Err e)
 StopsAt l p pictures Memory = Unit {0}
 StopsAt l p pictures _ = ⊥
 

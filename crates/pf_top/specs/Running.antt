@@ -5,12 +5,12 @@ use Rattle.pf_ints.specs.Images.{Picture}
 use Rattle.pf_terms.specs.declared.kernel.ImageDecl.{ImageDecl}
 use Rattle.pf_images.specs.Outside.{Contents, SameContents, Puts, PutsPart}
 use Rattle.pf_images.specs.Pgm.{pgm_text}
-use Rattle.pf_top.specs.declared.run_verdict.NotRun.{NotRun}
-use Rattle.pf_top.specs.declared.run_verdict.NotRun.TheVariants.{Size, Pixel}
+use Rattle.pf_top.specs.declared.run_verdict.NoImage.{NoImage}
+use Rattle.pf_top.specs.declared.run_verdict.NoImage.TheVariants.{Size, Pixel}
 use Rattle.pf_top.specs.declared.run_verdict.RunFile.{RunFile}
 use Rattle.pf_top.specs.declared.run_verdict.RunFile.TheVariants.{Text as TextFile, Image}
 use Rattle.pf_top.specs.declared.run_verdict.RunVerdict.{RunVerdict}
-use Rattle.pf_top.specs.declared.run_verdict.RunVerdict.TheVariants.{Done, Missing, ReadFailed, TextRefused, Count, ImageRefused, NotRun as Prevented, WriteFailed, Memory}
+use Rattle.pf_top.specs.declared.run_verdict.RunVerdict.TheVariants.{Done, Missing, ReadFailed, TextRefused, Count, ImageRefused, NoImage as WithoutImage, WriteFailed, Memory}
 use Rattle.pf_top.specs.Courses.{Store, Course, Well, Lacking, Failing, Wanting, Went, Begins}
 use Rattle.pf_top.specs.ImageFiles.{image_limit, RefusesImage, HoldsImage}
 
@@ -42,7 +42,7 @@ pub record Language (P R : Type 0) : Type 1 where
   -- the images that the text declares
   pub decls : P → List ImageDecl
   -- the image that it makes of images, or why there is none
-  pub Ends : P → List Picture → Result Picture NotRun → Type 0
+  pub Ends : P → List Picture → Result Picture NoImage → Type 0
   -- it makes one of these
   pub Works : P → List Picture → Type 0
 
@@ -64,7 +64,7 @@ RunReaches l r files TextFile = Unit {0}
 RunReaches {P} l r files (Image n) = (p : P) × (pictures : List Picture) × Holds l r files n p pictures × (n < length r.images)
 
 -- the text makes this of the images, where all files hold such
-abbrev pub EndsIn : {P R : Type 0} → Language P R → Run → Result Picture NotRun → Contents → Type 0
+abbrev pub EndsIn : {P R : Type 0} → Language P R → Run → Result Picture NoImage → Contents → Type 0
 EndsIn {P} l r e files = (p : P) × (pictures : List Picture) × Holds l r files (length r.images) p pictures × l.Ends p pictures e
 
 -- ---- verdicts
@@ -80,7 +80,7 @@ RunLeads {P} l r (Count want got) old new = (p : P) × HoldsText l r old p × (w
 RunLeads {P} l r (ImageRefused n e) old new =
     (p : P) × (pictures : List Picture) × (d : ImageDecl) × Holds l r old n p pictures × (slice_get (l.decls p) n ≡ Some d)
     × Begins (run_file_name r (Image n)) (image_limit + 1) (RefusesImage d.ty e) old × SameContents old new
-RunLeads l r (Prevented e) old new = EndsIn l r (Err e) old × SameContents old new
+RunLeads l r (WithoutImage e) old new = EndsIn l r (Err e) old × SameContents old new
 RunLeads l r WriteFailed old new = (o : Picture) × EndsIn l r (Ok o) old × PutsPart r.out (pgm_text o) old new
 RunLeads l r Memory old new = SameContents old new
 
@@ -101,12 +101,12 @@ run_course r (ReadFailed w) = Failing (run_place w)
 run_course r (TextRefused e) = Well 1
 run_course r (Count want got) = Well 1
 run_course r (ImageRefused n e) = Well (n + 2)
-run_course r (Prevented e) = Well (files_read r)
+run_course r (WithoutImage e) = Well (files_read r)
 run_course r WriteFailed = Failing (files_read r + 1)
 run_course r Memory = Wanting (files_read r + 1)
 
 -- the file that a verdict names is one that is read
-abbrev pub IsImageAmong : Run → NotRun → Type 0
+abbrev pub IsImageAmong : Run → NoImage → Type 0
 IsImageAmong r (Size n width height) = n < length r.images
 IsImageAmong r (Pixel n x y value) = n < length r.images
 IsImageAmong r _ = Unit {0}
@@ -115,7 +115,7 @@ abbrev pub IsAmong : {R : Type 0} → Run → RunVerdict R → Type 0
 IsAmong r (Missing w) = run_place w ≤ files_read r
 IsAmong r (ReadFailed w) = run_place w ≤ files_read r
 IsAmong r (ImageRefused n e) = n < length r.images
-IsAmong r (Prevented e) = IsImageAmong r e
+IsAmong r (WithoutImage e) = IsImageAmong r e
 IsAmong r _ = Unit {0}
 
 -- the call came to this verdict

@@ -1,9 +1,11 @@
 -- The texts that are selected for a kernel.
-use Rattle.std.specs.Prelude.{◌≡◌, ℕ, List, [], ◌∷◌, length, codes}
+use Rattle.std.specs.Prelude.{◌≡◌, ℕ, List, [], ◌∷◌, ◌++◌, length, codes}
+use Rattle.pf_ints.specs.declared.target.Target.TheVariants.{Neon}
 use Rattle.pf_terms.specs.declared.kernel.Definition.{Definition}
 use Rattle.pf_terms.specs.Kernels.{Source}
 use Rattle.pf_isa.specs.declared.program.Head.{Head}
 use Rattle.pf_isa.specs.Moved.{Moved, Work}
+use Rattle.pf_isa.specs.Texts.{printed, head_lines, code_lines}
 use Rattle.pf_neon.specs.Neon.{table}
 use Rattle.pf_rows.specs.RowCode.{scratch_bytes}
 use Rattle.pf_top.specs.Headline.{Headline}
@@ -22,10 +24,12 @@ head_of s = record {
   cost = 1;
 }
 
--- The text may be written for what a kernel says: it keeps the headline's promise, its program has just this head, its control
--- instructions compute with no pixel, and its vector instructions cost what the head says.
+-- The text may be written for what a kernel says: it keeps the headline's promise, it is printed line by line with no blank or
+-- comment more, its program has just this head, its control instructions compute with no pixel, and its vector instructions cost
+-- what the head says.
 pub record IsSelected (s : Source) (text : List ℕ) : Type 0 where
   pub headline : Headline s text
+  pub spelled : text ≡ printed (head_lines Neon headline.program.head ++ code_lines table 0 headline.program.code headline.program.labels)
   pub head : headline.program.head ≡ head_of s
   pub moved : Moved table (length headline.program.head.taps) headline.program.code headline.program.labels
   pub work : Work table headline.program.code ≡ headline.program.head.cost

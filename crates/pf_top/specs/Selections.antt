@@ -61,18 +61,18 @@ limit Lift = rule_limit
 limit Lower = rule_limit
 
 -- a text is selected for this kernel: it is the lesser of two taps
-abbrev pub IsBuilt : Meaning → Type 0
-IsBuilt k = (first second : ℕ) × IsLeastOf k.source first second
+abbrev pub IsTaken : Meaning → Type 0
+IsTaken k = (first second : ℕ) × IsLeastOf k.source first second
 
 -- the bytes of a file that are judged are those up to one past its limit: they have the form that is asked of it
 abbrev pub HasForm : FileWord → List ℕ → Type 0
-HasForm Kernel bytes = (k : Meaning) × IsKernelFile k bytes × IsBuilt k
+HasForm Kernel bytes = (k : Meaning) × IsKernelFile k bytes × IsTaken k
 HasForm Lift bytes = bytes ≡ lift_text
 HasForm Lower bytes = bytes ≡ lower_text
 
 -- they are not what is built: a text of another kernel, or other rules
 abbrev pub IsOther : FileWord → List ℕ → Type 0
-IsOther Kernel bytes = (k : Meaning) × IsKernelFile k bytes × (IsBuilt k → ⊥)
+IsOther Kernel bytes = (k : Meaning) × IsKernelFile k bytes × (IsTaken k → ⊥)
 IsOther Lift bytes = bytes ≡ lift_text → ⊥
 IsOther Lower bytes = bytes ≡ lower_text → ⊥
 

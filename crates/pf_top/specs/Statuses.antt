@@ -18,7 +18,7 @@ line_end = 10 ∷ []
 unfoldable pub memory_line : List ℕ
 memory_line = codes "out of memory" ++ line_end
 
--- a status with the line of a name
+-- a status with its line; or 13 and the line of want of memory, where memory is wanting for it
 abbrev pub due : ℕ → List ℕ → Due
 due status line = record { status = status; line = line; poor_status = 13; poor_line = memory_line }
 
@@ -35,7 +35,7 @@ usage = due 2 (line_of (codes "usage: pitchfork select|check|run|eval|explain|de
 unfoldable pub wanting : Due
 wanting = record { status = 13; line = memory_line; poor_status = 13; poor_line = [] }
 
--- what is due where the write of the text failed: 4, also where memory is wanting for its line
+-- what is due where the write of OUT failed: 4, also where memory is wanting for its line
 unfoldable pub write_failed : List ℕ → Due
 write_failed name = record { status = 4; line = line_of (codes "write failed: " ∷ name ∷ []); poor_status = 4; poor_line = [] }
 

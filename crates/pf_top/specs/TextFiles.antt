@@ -18,8 +18,8 @@ use Rattle.pf_run.specs.declared.fault.RunFault.TheVariants.{Set, Outside as Run
 use Rattle.pf_run.specs.declared.fault.SetFault.TheVariants.{Size as SetSize, Pixel as SetPixel, NoOutput as SetNoOutput}
 use Rattle.pf_run.specs.Answers.{Ran, run_end}
 use Rattle.pf_run.specs.Sets.{KeepsAll}
-use Rattle.pf_top.specs.declared.run_verdict.NotRun.{NotRun}
-use Rattle.pf_top.specs.declared.run_verdict.NotRun.TheVariants.{Size, Pixel, NoOutput, Outside, Spent}
+use Rattle.pf_top.specs.declared.run_verdict.NoImage.{NoImage}
+use Rattle.pf_top.specs.declared.run_verdict.NoImage.TheVariants.{Size, Pixel, NoOutput, Outside, Spent}
 use Rattle.pf_top.specs.declared.text_file.TextRefusal.{TextRefusal}
 use Rattle.pf_top.specs.declared.text_file.TextRefusal.TheVariants.{TooLong, NotBuilt, At}
 use Rattle.pf_top.specs.Running.{Language}
@@ -47,7 +47,7 @@ RefusesText (NotBuilt target) bytes = (length bytes ≤ text_limit) × IsNoText 
 RefusesText (At line kind) bytes = (length bytes ≤ text_limit) × IsNoText bytes × ((target : Target) → IsFor target (lines bytes) → target ≡ OnNeon) × IsTextFault Neon table IsForm bytes line kind
 
 -- what a run of a program answers where it isn't run to its end
-abbrev pub fault_of : NotRun → RunFault
+abbrev pub fault_of : NoImage → RunFault
 fault_of (Size image width height) = Set (SetSize image width height)
 fault_of (Pixel image x y value) = Set (SetPixel image x y value)
 fault_of NoOutput = Set SetNoOutput
@@ -55,9 +55,9 @@ fault_of (Outside at address length) = RunOutside at address length
 fault_of (Spent steps) = RunSpent steps
 
 -- what a program leaves of images, or why it isn't run to its end
-abbrev pub Leaves : Text Neon Form → List Picture → Result Picture NotRun → Type 0
-Leaves p pictures (Ok o) = Ran table p pictures (Ok o)
-Leaves p pictures (Err e) = Ran table p pictures (Err (fault_of e))
+abbrev pub RunsTo : Text Neon Form → List Picture → Result Picture NoImage → Type 0
+RunsTo p pictures (Ok o) = Ran table p pictures (Ok o)
+RunsTo p pictures (Err e) = Ran table p pictures (Err (fault_of e))
 
 -- the images are such as the program asks for, and all rows of its run return
 abbrev pub Returns : Text Neon Form → List Picture → Type 0
@@ -65,4 +65,4 @@ Returns p pictures = (regions : List Region) × KeepsAll p.head.images p.head.ta
 
 -- the texts that are run
 abbrev pub programs : Language (Text Neon Form) TextRefusal
-programs = record { most = text_limit; Spells = IsSomeText; Means = IsTextFile; Refuses = RefusesText; decls = λ p. p.head.images; Ends = Leaves; Works = Returns }
+programs = record { most = text_limit; Spells = IsSomeText; Means = IsTextFile; Refuses = RefusesText; decls = λ p. p.head.images; Ends = RunsTo; Works = Returns }

@@ -31,7 +31,7 @@ fn output_of(
 {
     let output = match eval_images(alloc, kernel, images) {
         Ok(output) => output,
-        Err(EvalFault::Set(fault)) => return Err(RunVerdict::NotRun(not_suited(fault))),
+        Err(EvalFault::Set(fault)) => return Err(RunVerdict::NoImage(not_suited(fault))),
         Err(EvalFault::Memory) => return Err(RunVerdict::Memory),
     };
     let text = write_pgm(alloc, &output)?;

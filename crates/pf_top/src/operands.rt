@@ -1,9 +1,9 @@
-ghost use Rattle.std.specs.Prelude.{◌≡◌, ◌↔◌, ℕ, All, MatchOption, true};
-ghost use Rattle.pf_top.specs.Least.{byte_type, tap_term, least_term, IsLeastOf};
+ghost use Rattle.std.specs.Prelude.{◌≡◌, ◌↔◌, ◌<◌, ℕ, All, MatchOption, length, true};
+ghost use Rattle.pf_top.specs.Least.{byte_type, tap_term, least_term, AreTapsOf, IsLeastOf};
 
 use pf_ints::LaneType;
 use pf_kernel::Kernel;
-use pf_terms::{ImageDecl, Leaf, Op, Term};
+use pf_terms::{ImageDecl, Leaf, Op, Tap, Term};
 
 /// The numbers of two taps.
 #[derive(Clone, Copy, Debug)]
@@ -18,10 +18,12 @@ fn is_byte(ty: LaneType) -> bool
     ty == LaneType::U8
 }
 
-fn are_bytes(images: &[ImageDecl]) -> bool
-    ensures { (result ≡ true) ↔ All (λ d. d.ty ≡ byte_type) images.now }
+fn are_bytes(images: &[ImageDecl], taps: &[Tap]) -> bool
+    requires { All (λ t. t.image < length images.now) taps.now }
+    ensures { (result ≡ true) ↔ AreTapsOf byte_type images.now taps.now }
 {
-    images.iter().all(|image| is_byte(image.ty))
+    taps.iter()
+        .all(|tap| is_byte(images[usize::from(tap.image)].ty))
 }
 
 /// The tap that a term is, where it is one of u8.
@@ -62,15 +64,17 @@ fn taps_of(term: &Term) -> Option<Operands>
     Some(Operands { first, second })
 }
 
-/// The taps that a kernel's output is the lesser of, where it has no definition and all images and
-/// the output are u8.
+/// The taps that a kernel's output is the lesser of, where it has no definition and its taps and
+/// its output are of u8.
+#[tactic(auto, using(crate::proofs::HeadLaws::taps_known))]
 pub fn operands_of(kernel: &Kernel) -> Option<Operands>
     ensures { MatchOption result ((m n : ℕ) → IsLeastOf kernel.now.source m n → ⊥)
         (λ o. IsLeastOf kernel.now.source o.first o.second) }
 {
+    let taps = kernel.names().taps.as_slice();
     if !kernel.defs().is_empty()
         || !is_byte(kernel.out_ty())
-        || !are_bytes(kernel.images().as_slice())
+        || !are_bytes(kernel.images().as_slice(), taps)
     {
         return None;
     }

@@ -70,7 +70,7 @@ pub fn tell<S: Sink>(alloc: Global, out: &mut S, status: u8, pieces: &[Piece<'_>
     }
 }
 
-/// Puts that the write of the text failed, and answers 4 in every case.
+/// Puts that the write of OUT failed, and answers 4 in every case.
 #[tactic(auto, unfolding(crate::specs::Statuses::write_failed))]
 pub fn tell_write_failed<S: Sink>(alloc: Global, out: &mut S, name: &[u8]) -> u8
     ensures { Told (write_failed name.now) (seen_output S.written S.faults S.calls out.old) result

@@ -10,7 +10,7 @@ ghost use Rattle.pf_top.specs.TextFiles.{fault_of, programs};
 
 use crate::image_files::read_images;
 use crate::judging::write_file;
-use crate::run_verdict::{NotRun, RunVerdict};
+use crate::run_verdict::{NoImage, RunVerdict};
 use crate::run_words::RunWords;
 use crate::text_file::{TextRefusal, read_program};
 use pf_images::{Files, write_pgm};
@@ -34,7 +34,7 @@ pub fn judge_count<R>(want: usize, got: usize) -> Result<(), RunVerdict<R>>
 }
 
 /// Why a text makes no image, of what is wrong with as many images as declared, of their types.
-pub fn not_suited(fault: SetFault) -> NotRun
+pub fn not_suited(fault: SetFault) -> NoImage
     requires { IsTellable (RunFault.Set fault) }
     ensures run { RunFault.Set fault ≡ fault_of result }
     ensures set { set_fault result ≡ Some fault }
@@ -44,13 +44,13 @@ pub fn not_suited(fault: SetFault) -> NotRun
             image,
             width,
             height,
-        } => NotRun::Size {
+        } => NoImage::Size {
             image,
             width,
             height,
         },
-        SetFault::Pixel { image, x, y, value } => NotRun::Pixel { image, x, y, value },
-        SetFault::NoOutput => NotRun::NoOutput,
+        SetFault::Pixel { image, x, y, value } => NoImage::Pixel { image, x, y, value },
+        SetFault::NoOutput => NoImage::NoOutput,
         SetFault::Count { .. } | SetFault::Kind { .. } => unreachable!(),
     }
 }
@@ -61,17 +61,17 @@ fn verdict_of(fault: RunFault) -> RunVerdict<TextRefusal>
     ensures { IsVerdictOf fault result }
 {
     match fault {
-        RunFault::Set(fault) => RunVerdict::NotRun(not_suited(fault)),
+        RunFault::Set(fault) => RunVerdict::NoImage(not_suited(fault)),
         RunFault::Outside {
             at,
             address,
             length,
-        } => RunVerdict::NotRun(NotRun::Outside {
+        } => RunVerdict::NoImage(NoImage::Outside {
             at,
             address,
             length,
         }),
-        RunFault::Spent { steps } => RunVerdict::NotRun(NotRun::Spent { steps }),
+        RunFault::Spent { steps } => RunVerdict::NoImage(NoImage::Spent { steps }),
         RunFault::Text { .. } => unreachable!(),
         RunFault::Memory => RunVerdict::Memory,
     }

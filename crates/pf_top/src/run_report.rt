@@ -3,7 +3,7 @@
 ghost use Rattle.std.specs.Prelude.{◌≡◌, ℕ, List};
 ghost use Rattle.pf_top.specs.KernelStatuses.{kernel_due};
 ghost use Rattle.pf_top.specs.Running.{run_file_name};
-ghost use Rattle.pf_top.specs.RunStatuses.{text_due, image_due, count_due, size_due, pixel_due, outside_due, spent_due, not_run_due, run_due};
+ghost use Rattle.pf_top.specs.RunStatuses.{text_due, image_due, count_due, size_due, pixel_due, outside_due, spent_due, no_image_due, run_due};
 ghost use Rattle.pf_top.specs.RunSteps.{the_run};
 ghost use Rattle.pf_top.specs.Statuses.{Due, Told, Tells};
 ghost use Rattle.pf_top.specs.Steps.{seen_output};
@@ -12,7 +12,7 @@ use crate::image_files::ImageRefusal;
 use crate::kernel_file::KernelRefusal;
 use crate::kernel_report::tell_kernel;
 use crate::report::{Piece, tell, tell_named, tell_want, tell_write_failed};
-use crate::run_verdict::{NotRun, RunFile, RunVerdict};
+use crate::run_verdict::{NoImage, RunFile, RunVerdict};
 use crate::run_words::RunWords;
 use crate::text_file::TextRefusal;
 use pf_images::Sink;
@@ -201,14 +201,14 @@ fn tell_spent<S: Sink>(alloc: Global, out: &mut S, steps: u64) -> u8
     )
 }
 
-/// Puts why a program was not run to its end, and answers the status.
-fn tell_not_run<S: Sink>(alloc: Global, out: &mut S, words: &RunWords<'_>, why: NotRun) -> u8
-    ensures { Told (not_run_due (the_run words.now) why)
+/// Puts why there is no image of the images, and answers the status.
+fn tell_no_image<S: Sink>(alloc: Global, out: &mut S, words: &RunWords<'_>, why: NoImage) -> u8
+    ensures { Told (no_image_due (the_run words.now) why)
         (seen_output S.written S.faults S.calls out.old) result
         (seen_output S.written S.faults S.calls out.new) }
 {
     match why {
-        NotRun::Size {
+        NoImage::Size {
             image,
             width,
             height,
@@ -221,7 +221,7 @@ fn tell_not_run<S: Sink>(alloc: Global, out: &mut S, words: &RunWords<'_>, why: 
                 height,
             )
         }
-        NotRun::Pixel { image, x, y, value } => {
+        NoImage::Pixel { image, x, y, value } => {
             tell_pixel(
                 alloc,
                 out,
@@ -231,17 +231,17 @@ fn tell_not_run<S: Sink>(alloc: Global, out: &mut S, words: &RunWords<'_>, why: 
                 value,
             )
         }
-        NotRun::NoOutput => tell(alloc, out, 9, &[Piece::Word(b"no output pixel")]),
-        NotRun::Outside {
+        NoImage::NoOutput => tell(alloc, out, 9, &[Piece::Word(b"no output pixel")]),
+        NoImage::Outside {
             at,
             address,
             length,
         } => tell_outside(alloc, out, at, address, length),
-        NotRun::Spent { steps } => tell_spent(alloc, out, steps),
+        NoImage::Spent { steps } => tell_spent(alloc, out, steps),
     }
 }
 
-/// Puts that the text is for another number of images, and answers the status.
+/// Puts that the program or kernel is for another number of images, and answers the status.
 fn tell_count<S: Sink>(alloc: Global, out: &mut S, want: u64, got: u64) -> u8
     ensures { Told (count_due want got)
         (seen_output S.written S.faults S.calls out.old) result
@@ -288,7 +288,7 @@ pub fn tell_run_verdict<R: Refusal, S: Sink>(
         RunVerdict::ImageRefused(n, refusal) => {
             tell_image(alloc, out, file_name(words, RunFile::Image(n)), refusal)
         }
-        RunVerdict::NotRun(why) => tell_not_run(alloc, out, words, why),
+        RunVerdict::NoImage(why) => tell_no_image(alloc, out, words, why),
         RunVerdict::WriteFailed => tell_write_failed(alloc, out, words.out.as_bytes()),
         RunVerdict::Memory => tell_want(alloc, out),
     }

@@ -20,7 +20,7 @@ pub enum RunFile {
 /// Why a text makes no image of images: they don't suit it, or the run of a program ends before its
 /// last row does. Images are counted from 0.
 #[derive(Clone, Copy, Debug, PartialEq, Eq)]
-pub enum NotRun {
+pub enum NoImage {
     /// This image has another size than the first.
     Size {
         image: u32,
@@ -64,7 +64,7 @@ pub enum RunVerdict<R> {
     /// The file of this image, counted from 0, is refused.
     ImageRefused(usize, ImageRefusal),
     /// The text makes no image of the images.
-    NotRun(NotRun),
+    NoImage(NoImage),
     /// The output could not be written.
     WriteFailed,
     /// Memory was wanting.

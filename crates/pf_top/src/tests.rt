@@ -159,8 +159,9 @@ fn judges_the_rules_one_by_one(rt: HostRuntime) -> Result<(), Fail> {
 
 #[test]
 fn takes_every_spelling_of_its_kernels(rt: HostRuntime) -> Result<(), Fail> {
-    let kernels: [&[u8]; 4] = [
+    let kernels: [&[u8]; 5] = [
         b"kernel m\nimage a u8\nimage b u8\nout u8 = min(b[-64,10], a[7,-1])\n",
+        b"kernel m\nimage a u8\nimage b u8\nimage c u16\nout u8 = min(b[0,0], a[0,0])\n",
         b"# the lesser\r\nkernel m\r\n\r\nimage a u8 3 200\r\n out u8=min( a[-0,01] ,a[0,0] ) # twice",
         b"kernel m\nimage a u8\nimage b u8 0 1\nimage c u8\nout u8 = min(c[0,0], a[0,0])\n",
         b"kernel m\nimage a u8\nout u8 = (min(a[2,2], a[2,2]))\n",

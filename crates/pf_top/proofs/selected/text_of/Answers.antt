@@ -9,4 +9,4 @@ pub returns : goal.returns
 returns c =
     let made : IsMade _ _ _ _ = record { head = c.in_ok-program.ensures.head; moved = c.in_ok-program.ensures.moved; work = c.in_ok-program.ensures.work; right = c.in_ok-program.ensures.right } in
     selected_from c.args.kernel.now.source c.in_ok-text.text.items c.in_ok-head.head _ _ c.in_ok-program.program
-    c.requires c.in_ok-head.ensures made c.in_ok-text.ensures.text
+    c.requires c.in_ok-head.ensures made c.in_ok-text.ensures.text c.in_ok-text.ensures.written

@@ -1,4 +1,4 @@
-use Rattle.pf_top.proofs.run_report.tell_not_run.Goals as goal
+use Rattle.pf_top.proofs.run_report.tell_no_image.Goals as goal
 
 pub returns-in-NoOutput : goal.returns-in-NoOutput
 returns-in-NoOutput g c = rw c.in-NoOutput.is c.tell.ensures
