@@ -7,6 +7,16 @@ use std::alloc::{AllocError, Global};
 use std::process::Abort;
 use std::test::Fail;
 
+const U8: LaneType = LaneType::U8;
+
+const I8: LaneType = LaneType::I8;
+
+const U16: LaneType = LaneType::U16;
+
+const I16: LaneType = LaneType::I16;
+
+const U32: LaneType = LaneType::U32;
+
 /// The text of a kernel with one image `a`, and these lines behind it.
 pub fn behind(alloc: Global, lines: &[u8]) -> Result<Vec<u8>, AllocError> {
     let mut text = Vec::from_slice(alloc, b"kernel k\nimage a u8\n")?;
@@ -319,84 +329,24 @@ fn names(rt: HostRuntime) {
 
 #[test]
 fn types(rt: HostRuntime) {
-    try_types(
-        &rt,
-        b"image b u16\nout u16 = a[0,0] + b[0,0]",
-        4,
-        LaneType::U8,
-        LaneType::U16,
-    );
-    try_types(&rt, b"out u16 = a[0,0]", 3, LaneType::U16, LaneType::U8);
-    try_types(&rt, b"def d i16 = 1u16", 3, LaneType::I16, LaneType::U16);
-    try_types(
-        &rt,
-        b"out u16 = widening_add(1u32, 1u32)",
-        3,
-        LaneType::U16,
-        LaneType::U32,
-    );
-    try_types(
-        &rt,
-        b"out u16 = widening_mul(1u8, 1u32)",
-        3,
-        LaneType::U8,
-        LaneType::U32,
-    );
-    try_types(
-        &rt,
-        b"out u16 = extending_add(1u8, 1u8)",
-        3,
-        LaneType::U16,
-        LaneType::U8,
-    );
-    try_types(
-        &rt,
-        b"out u16 = extending_add(1u16, 1u16)",
-        3,
-        LaneType::U8,
-        LaneType::U16,
-    );
-    try_types(&rt, b"out u8 = abs(1u8)", 3, LaneType::I8, LaneType::U8);
-    try_types(&rt, b"out u16 = a[65,0]", 3, LaneType::U16, LaneType::U8);
+    try_types(&rt, b"image b u16\nout u16 = a[0,0] + b[0,0]", 4, U8, U16);
+    try_types(&rt, b"out u16 = a[0,0]", 3, U16, U8);
+    try_types(&rt, b"def d i16 = 1u16", 3, I16, U16);
+    try_types(&rt, b"out u16 = widening_add(1u32, 1u32)", 3, U16, U32);
+    try_types(&rt, b"out u16 = widening_mul(1u8, 1u32)", 3, U8, U32);
+    try_types(&rt, b"out u16 = extending_add(1u8, 1u8)", 3, U16, U8);
+    try_types(&rt, b"out u16 = extending_add(1u16, 1u16)", 3, U8, U16);
+    try_types(&rt, b"out u8 = abs(1u8)", 3, I8, U8);
+    try_types(&rt, b"out u16 = a[65,0]", 3, U16, U8);
 }
 
 #[test]
 fn types_of_selects(rt: HostRuntime) {
-    try_types(
-        &rt,
-        b"out u8 = select(1u8 > 2i8, 3u8, 4u8)",
-        3,
-        LaneType::U8,
-        LaneType::I8,
-    );
-    try_types(
-        &rt,
-        b"out u8 = select(1u8 < 2u16, 3u8, 4u8)",
-        3,
-        LaneType::U16,
-        LaneType::U8,
-    );
-    try_types(
-        &rt,
-        b"out u16 = select(1u8 > 2u8, 3u16, 4u16)",
-        3,
-        LaneType::U8,
-        LaneType::U16,
-    );
-    try_types(
-        &rt,
-        b"out u8 = select(1u8 == 2u8, 3i16, 4i16)",
-        3,
-        LaneType::I8,
-        LaneType::I16,
-    );
-    try_types(
-        &rt,
-        b"out u8 = select(1u8 == 2u8, 3u8, 4i8)",
-        3,
-        LaneType::U8,
-        LaneType::I8,
-    );
+    try_types(&rt, b"out u8 = select(1u8 > 2i8, 3u8, 4u8)", 3, U8, I8);
+    try_types(&rt, b"out u8 = select(1u8 < 2u16, 3u8, 4u8)", 3, U16, U8);
+    try_types(&rt, b"out u16 = select(1u8 > 2u8, 3u16, 4u16)", 3, U8, U16);
+    try_types(&rt, b"out u8 = select(1u8 == 2u8, 3i16, 4i16)", 3, I8, I16);
+    try_types(&rt, b"out u8 = select(1u8 == 2u8, 3u8, 4i8)", 3, U8, I8);
 }
 
 const HALF: &[u8] =

@@ -148,6 +148,16 @@ mod tests {
     use super::*;
     use crate::row::Operands;
 
+    const U8: LaneType = LaneType::U8;
+
+    const I8: LaneType = LaneType::I8;
+
+    const U16: LaneType = LaneType::U16;
+
+    const I16: LaneType = LaneType::I16;
+
+    const I32: LaneType = LaneType::I32;
+
     // The operator on these numbers, or None where they aren't such as it takes.
     fn of(op: Op, ty: LaneType, k: u8, xs: &[i128]) -> Option<i128> {
         let most: i128 = 1 << 32;
@@ -166,120 +176,75 @@ mod tests {
 
     #[test]
     fn wraps(rt: HostRuntime) {
-        assert_eq!(rt; of(Op::Cast, LaneType::I8, 0, &[200]), Some(-56));
-        assert_eq!(rt; of(Op::Cast, LaneType::U8, 0, &[-1]), Some(255));
-        assert_eq!(rt; of(Op::Add, LaneType::U8, 0, &[250, 10]), Some(4));
-        assert_eq!(rt; of(Op::Add, LaneType::I8, 0, &[127, 1]), Some(-128));
-        assert_eq!(rt; of(Op::Sub, LaneType::U8, 0, &[0, 1]), Some(255));
-        assert_eq!(rt; of(Op::Mul, LaneType::I16, 0, &[-32768, -1]), Some(-32768));
-        assert_eq!(rt; of(Op::Mul, LaneType::U8, 0, &[255, 255]), Some(1));
-        assert_eq!(rt; of(Op::ShiftLeft, LaneType::U8, 7, &[255]), Some(128));
-        assert_eq!(rt; of(Op::ShiftLeft, LaneType::I8, 7, &[1]), Some(-128));
-        assert_eq!(rt;
-            of(Op::ExtendingAdd, LaneType::U16, 0, &[65535, 255]),
-            Some(254)
-        );
+        assert_eq!(rt; of(Op::Cast, I8, 0, &[200]), Some(-56));
+        assert_eq!(rt; of(Op::Cast, U8, 0, &[-1]), Some(255));
+        assert_eq!(rt; of(Op::Add, U8, 0, &[250, 10]), Some(4));
+        assert_eq!(rt; of(Op::Add, I8, 0, &[127, 1]), Some(-128));
+        assert_eq!(rt; of(Op::Sub, U8, 0, &[0, 1]), Some(255));
+        assert_eq!(rt; of(Op::Mul, I16, 0, &[-32768, -1]), Some(-32768));
+        assert_eq!(rt; of(Op::Mul, U8, 0, &[255, 255]), Some(1));
+        assert_eq!(rt; of(Op::ShiftLeft, U8, 7, &[255]), Some(128));
+        assert_eq!(rt; of(Op::ShiftLeft, I8, 7, &[1]), Some(-128));
+        assert_eq!(rt; of(Op::ExtendingAdd, U16, 0, &[65535, 255]), Some(254));
     }
 
     #[test]
     fn compares(rt: HostRuntime) {
-        assert_eq!(rt; of(Op::Min, LaneType::I8, 0, &[-128, 127]), Some(-128));
-        assert_eq!(rt; of(Op::Max, LaneType::I8, 0, &[-128, 127]), Some(127));
-        assert_eq!(rt;
-            of(Op::SelectGreater, LaneType::U8, 0, &[-128, 127, 1, 2]),
-            Some(2)
-        );
-        assert_eq!(rt;
-            of(Op::SelectGreater, LaneType::U8, 0, &[127, -128, 1, 2]),
-            Some(1)
-        );
-        assert_eq!(rt;
-            of(Op::SelectGreater, LaneType::U8, 0, &[5, 5, 1, 2]),
-            Some(2)
-        );
-        assert_eq!(rt;
-            of(Op::SelectEqual, LaneType::U8, 0, &[5, 5, 1, 2]),
-            Some(1)
-        );
-        assert_eq!(rt;
-            of(Op::SelectEqual, LaneType::U8, 0, &[5, 6, 1, 2]),
-            Some(2)
-        );
-        assert_eq!(rt; of(Op::Abs, LaneType::U8, 0, &[-128]), Some(128));
-        assert_eq!(rt; of(Op::Absd, LaneType::U8, 0, &[-128, 127]), Some(255));
-        assert_eq!(rt; of(Op::Absd, LaneType::U8, 0, &[0, 255]), Some(255));
+        assert_eq!(rt; of(Op::Min, I8, 0, &[-128, 127]), Some(-128));
+        assert_eq!(rt; of(Op::Max, I8, 0, &[-128, 127]), Some(127));
+        assert_eq!(rt; of(Op::SelectGreater, U8, 0, &[-128, 127, 1, 2]), Some(2));
+        assert_eq!(rt; of(Op::SelectGreater, U8, 0, &[127, -128, 1, 2]), Some(1));
+        assert_eq!(rt; of(Op::SelectGreater, U8, 0, &[5, 5, 1, 2]), Some(2));
+        assert_eq!(rt; of(Op::SelectEqual, U8, 0, &[5, 5, 1, 2]), Some(1));
+        assert_eq!(rt; of(Op::SelectEqual, U8, 0, &[5, 6, 1, 2]), Some(2));
+        assert_eq!(rt; of(Op::Abs, U8, 0, &[-128]), Some(128));
+        assert_eq!(rt; of(Op::Absd, U8, 0, &[-128, 127]), Some(255));
+        assert_eq!(rt; of(Op::Absd, U8, 0, &[0, 255]), Some(255));
     }
 
     #[test]
     fn widens_and_halves(rt: HostRuntime) {
+        assert_eq!(rt; of(Op::WideningAdd, U16, 0, &[255, 255]), Some(510));
+        assert_eq!(rt; of(Op::WideningSub, I16, 0, &[0, 255]), Some(-255));
         assert_eq!(rt;
-            of(Op::WideningAdd, LaneType::U16, 0, &[255, 255]),
-            Some(510)
-        );
-        assert_eq!(rt;
-            of(Op::WideningSub, LaneType::I16, 0, &[0, 255]),
-            Some(-255)
-        );
-        assert_eq!(rt;
-            of(Op::WideningMul, LaneType::I32, 0, &[-32768, -32768]),
+            of(Op::WideningMul, I32, 0, &[-32768, -32768]),
             Some(1_073_741_824)
         );
-        assert_eq!(rt; of(Op::HalvingAdd, LaneType::U8, 0, &[255, 255]), Some(255));
+        assert_eq!(rt; of(Op::HalvingAdd, U8, 0, &[255, 255]), Some(255));
+        assert_eq!(rt; of(Op::HalvingAdd, I8, 0, &[-128, -127]), Some(-128));
+        assert_eq!(rt; of(Op::RoundingHalvingAdd, U8, 0, &[254, 255]), Some(255));
         assert_eq!(rt;
-            of(Op::HalvingAdd, LaneType::I8, 0, &[-128, -127]),
-            Some(-128)
-        );
-        assert_eq!(rt;
-            of(Op::RoundingHalvingAdd, LaneType::U8, 0, &[254, 255]),
-            Some(255)
-        );
-        assert_eq!(rt;
-            of(Op::RoundingHalvingAdd, LaneType::I8, 0, &[-128, -127]),
+            of(Op::RoundingHalvingAdd, I8, 0, &[-128, -127]),
             Some(-127)
         );
-        assert_eq!(rt; of(Op::HalvingSub, LaneType::U8, 0, &[0, 255]), Some(128));
-        assert_eq!(rt;
-            of(Op::HalvingSub, LaneType::I8, 0, &[-128, 127]),
-            Some(-128)
-        );
+        assert_eq!(rt; of(Op::HalvingSub, U8, 0, &[0, 255]), Some(128));
+        assert_eq!(rt; of(Op::HalvingSub, I8, 0, &[-128, 127]), Some(-128));
     }
 
     #[test]
     fn saturates(rt: HostRuntime) {
+        assert_eq!(rt; of(Op::SaturatingAdd, U8, 0, &[250, 10]), Some(255));
+        assert_eq!(rt; of(Op::SaturatingAdd, I8, 0, &[-128, -1]), Some(-128));
+        assert_eq!(rt; of(Op::SaturatingSub, U8, 0, &[0, 1]), Some(0));
+        assert_eq!(rt; of(Op::SaturatingSub, I8, 0, &[127, -1]), Some(127));
+        assert_eq!(rt; of(Op::SaturatingCast, U8, 0, &[-5]), Some(0));
+        assert_eq!(rt; of(Op::SaturatingCast, I8, 0, &[200]), Some(127));
+        assert_eq!(rt; of(Op::MulShr, I16, 15, &[-32768, -32768]), Some(32767));
+        assert_eq!(rt; of(Op::MulShr, U8, 8, &[255, 255]), Some(254));
         assert_eq!(rt;
-            of(Op::SaturatingAdd, LaneType::U8, 0, &[250, 10]),
-            Some(255)
-        );
-        assert_eq!(rt;
-            of(Op::SaturatingAdd, LaneType::I8, 0, &[-128, -1]),
-            Some(-128)
-        );
-        assert_eq!(rt; of(Op::SaturatingSub, LaneType::U8, 0, &[0, 1]), Some(0));
-        assert_eq!(rt;
-            of(Op::SaturatingSub, LaneType::I8, 0, &[127, -1]),
-            Some(127)
-        );
-        assert_eq!(rt; of(Op::SaturatingCast, LaneType::U8, 0, &[-5]), Some(0));
-        assert_eq!(rt; of(Op::SaturatingCast, LaneType::I8, 0, &[200]), Some(127));
-        assert_eq!(rt;
-            of(Op::MulShr, LaneType::I16, 15, &[-32768, -32768]),
+            of(Op::RoundingMulShr, I16, 15, &[-32768, -32768]),
             Some(32767)
         );
-        assert_eq!(rt; of(Op::MulShr, LaneType::U8, 8, &[255, 255]), Some(254));
-        assert_eq!(rt;
-            of(Op::RoundingMulShr, LaneType::I16, 15, &[-32768, -32768]),
-            Some(32767)
-        );
-        assert_eq!(rt; of(Op::RoundingMulShr, LaneType::I16, 1, &[1, 1]), Some(1));
+        assert_eq!(rt; of(Op::RoundingMulShr, I16, 1, &[1, 1]), Some(1));
     }
 
     #[test]
     fn shifts(rt: HostRuntime) {
-        assert_eq!(rt; of(Op::ShiftRight, LaneType::I8, 7, &[-128]), Some(-1));
-        assert_eq!(rt; of(Op::ShiftRight, LaneType::I8, 1, &[-1]), Some(-1));
-        assert_eq!(rt; of(Op::ShiftRight, LaneType::U8, 7, &[255]), Some(1));
-        assert_eq!(rt; of(Op::RoundingShr, LaneType::U8, 1, &[255]), Some(128));
-        assert_eq!(rt; of(Op::RoundingShr, LaneType::I8, 1, &[-1]), Some(0));
-        assert_eq!(rt; of(Op::RoundingShr, LaneType::U8, 7, &[255]), Some(2));
+        assert_eq!(rt; of(Op::ShiftRight, I8, 7, &[-128]), Some(-1));
+        assert_eq!(rt; of(Op::ShiftRight, I8, 1, &[-1]), Some(-1));
+        assert_eq!(rt; of(Op::ShiftRight, U8, 7, &[255]), Some(1));
+        assert_eq!(rt; of(Op::RoundingShr, U8, 1, &[255]), Some(128));
+        assert_eq!(rt; of(Op::RoundingShr, I8, 1, &[-1]), Some(0));
+        assert_eq!(rt; of(Op::RoundingShr, U8, 7, &[255]), Some(2));
     }
 }
