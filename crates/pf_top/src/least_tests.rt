@@ -1,13 +1,12 @@
-ghost use Rattle.std.specs.Prelude.{◌≡◌, ◌↔◌, All, IfOk, true};
-ghost use Rattle.pf_terms.specs.declared.kernel.ImageDecl.{ImageDecl};
+ghost use Rattle.std.specs.Prelude.{◌≡◌, IfOk};
 
 use crate::least_program::least_program;
+use crate::operands::are_taps_of;
 use pf_images::read_pgm;
 use pf_ints::{Duplicate, Image, LaneType, Memory, Sequence};
 use pf_isa::{Head, read_text, write_text};
 use pf_neon::Neon;
 use pf_run::run_images;
-use pf_terms::ImageDecl;
 use std::alloc::Global;
 use std::process::Abort;
 use std::test::Fail;
@@ -24,12 +23,6 @@ struct Shifts {
     text: &'static [u8],
     left: (u32, u32),
     right: (u32, u32),
-}
-
-fn have_type(ty: LaneType, images: &[ImageDecl]) -> bool
-    ensures { (result ≡ true) ↔ All (λ d. d.ty ≡ ty) images.now }
-{
-    images.iter().all(|image| image.ty == ty)
 }
 
 fn copy_of(alloc: Global, head: &Head) -> Result<Head, Memory>
@@ -50,7 +43,7 @@ fn least_text<R: Abort + AllocGlobal>(rt: &R, text: &[u8]) -> Result<Vec<u8>, Fa
     let alloc = rt.alloc();
     let program = read_text::<Neon>(alloc, text)?;
     let head = copy_of(alloc, program.head())?;
-    assert!(rt; have_type(head.out_ty, head.images.as_slice()));
+    assert!(rt; are_taps_of(head.out_ty, head.images.as_slice(), head.taps.as_slice()));
     assert_eq!(rt; head.taps.len(), 2);
     assert_eq!(rt; head.scratch, 224);
     let program = least_program(alloc, head, 0, 1)?;

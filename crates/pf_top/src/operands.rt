@@ -18,12 +18,13 @@ fn is_byte(ty: LaneType) -> bool
     ty == LaneType::U8
 }
 
-fn are_bytes(images: &[ImageDecl], taps: &[Tap]) -> bool
+/// Whether the taps are pixels of this type.
+pub fn are_taps_of(ty: LaneType, images: &[ImageDecl], taps: &[Tap]) -> bool
     requires { All (λ t. t.image < length images.now) taps.now }
-    ensures { (result ≡ true) ↔ AreTapsOf byte_type images.now taps.now }
+    ensures { (result ≡ true) ↔ AreTapsOf ty images.now taps.now }
 {
     taps.iter()
-        .all(|tap| is_byte(images[usize::from(tap.image)].ty))
+        .all(|tap| images[usize::from(tap.image)].ty == ty)
 }
 
 /// The tap that a term is, where it is one of u8.
@@ -74,7 +75,7 @@ pub fn operands_of(kernel: &Kernel) -> Option<Operands>
     let taps = kernel.names().taps.as_slice();
     if !kernel.defs().is_empty()
         || !is_byte(kernel.out_ty())
-        || !are_bytes(kernel.images().as_slice(), taps)
+        || !are_taps_of(LaneType::U8, kernel.images().as_slice(), taps)
     {
         return None;
     }
