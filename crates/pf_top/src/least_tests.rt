@@ -1,5 +1,4 @@
 ghost use Rattle.std.specs.Prelude.{◌≡◌, ◌↔◌, All, IfOk, true};
-ghost use Rattle.pf_terms.specs.declared.kernel.ImageDecl.{ImageDecl};
 
 use crate::least_program::least_program;
 use pf_images::read_pgm;
@@ -12,14 +11,15 @@ use std::alloc::Global;
 use std::process::Abort;
 use std::test::Fail;
 
-const WORD: LaneType = LaneType {
+const WIDE: LaneType = LaneType {
     signed: false,
     bits: Bits::Sixteen,
 };
 
-/// The seeds of the two images.
+/// The seed of the first image.
 const LEFT: u32 = 9973;
 
+/// The seed of the second image.
 const RIGHT: u32 = 23_689;
 
 /// A text of no code whose head has two taps of u16, and how far to the right of the output pixel's
@@ -84,7 +84,7 @@ fn image(alloc: Global, seed: u32, width: u32, height: u32) -> Result<Image, Fai
             file.extend_from_slice(&pixel(seed, x, y).to_be_bytes())?;
         }
     }
-    Ok(read_pgm(alloc, file.as_slice(), WORD)?)
+    Ok(read_pgm(alloc, file.as_slice(), WIDE)?)
 }
 
 /// The lesser of the pixels of the two taps at each output pixel, row by row.
