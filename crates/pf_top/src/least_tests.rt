@@ -11,9 +11,10 @@ use std::alloc::Global;
 use std::process::Abort;
 use std::test::Fail;
 
-/// The seeds of the two images.
+/// The seed of the first image.
 const LEFT: u32 = 9973;
 
+/// The seed of the second image.
 const RIGHT: u32 = 23_689;
 
 /// A text of no code whose head has two taps of u16, and how far to the right of the output pixel's
