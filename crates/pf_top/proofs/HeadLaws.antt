@@ -22,6 +22,7 @@ use Rattle.pf_terms.specs.KernelNames.{all_names, IsNearTap}
 use Rattle.pf_terms.specs.Kernels.{Source}
 use Rattle.pf_terms.specs.Terms.{node_count}
 use Rattle.pf_terms.specs.TermTexts.{is_named, named_step, is_named_leaf}
+use Rattle.pf_isa.specs.declared.program.Head.{Head}
 use Rattle.pf_isa.specs.Heads.{IsHead, IsDecl, IsTap}
 use Rattle.pf_kernel.specs.Kernels.{Meaning, IsKernelOf, IsTermOf, names_of, names_behind, image_name, def_name, terms_of, IsDecl as IsRange}
 use Rattle.pf_top.specs.Least.{byte_type, tap_term, least_term, AreTapsOf, IsLeastOf, HasTaps}
@@ -150,6 +151,10 @@ module _ (k : Meaning) (kernel : IsKernelOf k) (none : k.source.defs ≡ []) whe
         distinct_names = apart;
         cost = omega arith;
       }
+
+-- a head's taps are of its images
+pub head_taps_known : (h : Head) → IsHead h → All (λ t. t.image < length h.images) h.taps
+head_taps_known h head i d inside = let tap = head.taps i d inside in tap.image
 
 -- a kernel's taps are of its images
 pub taps_known : (k : Meaning) → IsKernelOf k → All (λ t. t.image < length k.source.images) k.source.taps
