@@ -210,7 +210,7 @@ fn takes_no_other_kernel(rt: HostRuntime) -> Result<(), Fail> {
     let others: [&[u8]; 5] = [
         b"kernel m\nimage a u8\nout u8 = a[0,0]\n",
         b"kernel m\nimage a u16\nimage b u16\nout u16 = min(a[0,0], b[0,0])\n",
-        b"kernel m\nimage a u8\nimage b u16\nout u8 = min(a[0,0], a[1,0])\n",
+        b"kernel m\nimage a u8\nout u8 = min(a[0,0], min(a[1,0], a[2,0]))\n",
         b"kernel m\nimage a u8\nout u8 = min(a[0,0], 3u8)\n",
         b"kernel m\nimage a u8\ndef d u8 = a[0,0]\nout u8 = min(a[0,0], a[1,0])\n",
     ];
