@@ -1,22 +1,13 @@
 #!/bin/sh
-# Evaluates each of the filters on its images, and writes the pictures NAME.pgm and NAME.png.
+# Evaluates each filter of filters.txt on its images, and writes the pictures NAME.pgm and NAME.png.
+# pitchfork.sh says which program it is.
 set -e
 here=$(cd "$(dirname "$0")" && pwd)
-cd "$here/../crates/pitchfork"
-evaluate() {
-    name=$1
-    shift
-    images=
-    for image; do
-        images="$images $here/$image.pgm"
+while read -r name images; do
+    set -- eval "$here/$name.kern"
+    for image in $images; do
+        set -- "$@" "$here/$image.pgm"
     done
-    # shellcheck disable=SC2086
-    rt run -- eval "$here/$name.kern" $images "$here/$name.pgm"
+    sh "$here/pitchfork.sh" "$@" "$here/$name.pgm" </dev/null
     python3 "$here/png.py" "$here/$name.pgm" "$here/$name.png"
-}
-evaluate blur sky
-evaluate sobel sky
-evaluate blend sky ink fade
-evaluate median ink
-evaluate contrast sky
-evaluate threshold sky
+done <"$here/filters.txt"
