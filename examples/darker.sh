@@ -7,4 +7,5 @@ sh "$here/pitchfork.sh" select neon "$here/darker.kern" "$here/none.rules" "$her
 sh "$here/pitchfork.sh" run "$here/darker.s" "$here/sky.pgm" "$here/ink.pgm" "$here/darker.pgm"
 if command -v python3 >/dev/null; then
     python3 "$here/png.py" "$here/darker.pgm" "$here/darker.png"
+    echo "$here/darker.png"
 fi

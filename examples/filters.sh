@@ -10,4 +10,5 @@ while read -r name images; do
     done
     sh "$here/pitchfork.sh" "$@" "$here/$name.pgm" </dev/null
     python3 "$here/png.py" "$here/$name.pgm" "$here/$name.png"
+    echo "$here/$name.png"
 done <"$here/filters.txt"
