@@ -3,8 +3,8 @@ use Rattle.std.specs.Prelude.{pos, ◌≤ℤ◌, unsigned_abs}
 use Rattle.std.specs.Int.{w16}
 use Rattle.pf_isa.specs.Runs.{columns, row_budget}
 use Rattle.pf_terms.specs.Kernels.{left_reach, up_reach}
-use Rattle.pf_run.specs.declared.reach.Axis.TheVariants.{Columns, Rows}
-use Rattle.pf_run.specs.Reach.{extent}
+use Rattle.pf_terms.specs.declared.reach.Axis.TheVariants.{Columns, Rows}
+use Rattle.pf_terms.specs.Reach.{extent}
 use Rattle.pf_run.proofs.ReadyLaws.{ready, plan_is}
 use Rattle.pf_run.proofs.plan.plan_of.Goals as goal
 

@@ -2,8 +2,8 @@
 use Rattle.std.specs.Prelude.{ℕ, ℤ, pos, ◌-ℤ◌, List, map}
 use Rattle.pf_terms.specs.declared.names.Tap.{Tap}
 use Rattle.pf_terms.specs.Kernels.{lowest, highest}
-use Rattle.pf_run.specs.declared.reach.Axis.{Axis}
-use Rattle.pf_run.specs.declared.reach.Axis.TheVariants.{Columns, Rows}
+use Rattle.pf_terms.specs.declared.reach.Axis.{Axis}
+use Rattle.pf_terms.specs.declared.reach.Axis.TheVariants.{Columns, Rows}
 
 -- a tap's offset, counted in columns or in rows
 abbrev pub offset_along : Axis → Tap → ℤ

@@ -5,7 +5,6 @@ use Rattle.std.proofs.lemmas.List.{drop_more}
 use Rattle.std.specs.Int.{int_min, int_max}
 use Rattle.pf_terms.specs.declared.names.Tap.{Tap}
 use Rattle.pf_terms.specs.Kernels.{lowest, highest}
-use Rattle.pf_kernel.specs.Sizes.{IsOffset}
 
 pub lowest_sign : (ns : List ℤ) → lowest ns ≤ℤ pos 0
 lowest_sign [] = omega (arith, ints)
@@ -40,9 +39,3 @@ least_step f taps i d least within = least_next least (f (slice_index_or taps i 
 
 pub most_step : (f : Tap → ℤ) (taps : List Tap) (i : ℕ) (d : Tap) (most : ℤ) → i < length taps → int_max (int_max (f (slice_index_or taps i d)) most) (highest (map f (drop (i + 1) taps))) ≡ int_max most (highest (map f (drop i taps)))
 most_step f taps i d most within = most_next most (f (slice_index_or taps i d)) (highest (map f (drop (i + 1) taps))) ∙ sym (ap (λ ts. int_max most (highest (map f ts))) (drop_more taps i d within))
-
-pub least_near : (a b : ℤ) → IsOffset a → IsOffset b → IsOffset (int_min a b)
-least_near a b near other = record { low = omega (arith, ints, int_min_is a b, near.low, other.low); high = omega (arith, ints, int_min_is a b, near.high, other.high) }
-
-pub most_near : (a b : ℤ) → IsOffset a → IsOffset b → IsOffset (int_max a b)
-most_near a b near other = record { low = omega (arith, ints, int_max_is a b, near.low, other.low); high = omega (arith, ints, int_max_is a b, near.high, other.high) }
