@@ -3,7 +3,7 @@ use Rattle.std.specs.Prelude.{◌≡◌, ℕ, ◌+◌, ◌*◌, ◌<◌, ◌≤�
 use Rattle.pf_ints.specs.declared.lane.LaneType.{LaneType}
 use Rattle.pf_ints.specs.Images.{Picture, IsPixelType}
 use Rattle.pf_terms.specs.declared.names.Tap.{Tap}
-use Rattle.pf_terms.specs.Kernels.{left_reach, up_reach, out_width}
+use Rattle.pf_terms.specs.Kernels.{out_width}
 use Rattle.pf_isa.specs.declared.memory.Region.{Region}
 use Rattle.pf_isa.specs.Memory.{nowhere}
 use Rattle.pf_isa.specs.declared.program.Head.{Head}
@@ -13,6 +13,7 @@ use Rattle.pf_run.specs.declared.fault.RunFault.{RunFault}
 use Rattle.pf_run.specs.declared.fault.RunFault.TheVariants.{Text, Set, Outside, Spent as Overspent, Memory}
 use Rattle.pf_run.specs.declared.plan.Plan.{Plan}
 use Rattle.pf_run.specs.Placement.{places_of, run_places}
+use Rattle.pf_run.specs.Pixels.{IsReach}
 
 -- the table of row y, for these taps and an output of this type
 abbrev pub entries_of : List Tap → LaneType → List Picture → Places → ℕ → List ℕ
@@ -22,6 +23,7 @@ entries_of taps out_ty pictures at y =
 -- what a plan says of its taps, of the images and of where the regions start
 pub record IsPlan (pictures : List Picture) (p : Plan) : Type 0 where
   pub reach : IsReach p.taps pictures p.reach
+  pub columns : p.reach.columns ≡ unsigned_abs (out_width p.taps pictures)
   pub taps : All (λ t. t.image < length pictures) p.taps
   pub starts : length p.starts.images.items ≡ length pictures
   pub low : All (λ start. start < 2 ^ 31) p.starts.images.items

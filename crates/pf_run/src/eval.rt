@@ -133,7 +133,8 @@ fn eval_kept(alloc: Global, kernel: &Kernel, images: &[Image]) -> Result<Image, 
     requires { Keeps kernel.now.source images.now }
     ensures { IfOk result (λ o. Out kernel.now.source images.now o) }
 {
-    let reach = reach_of(kernel.names().taps.as_slice(), images);
+    let taps = kernel.names().taps.as_slice();
+    let reach = reach_of(taps, images);
     let mut env = Env {
         taps: Sequence::new(alloc),
         defs: Sequence::new(alloc),

@@ -46,7 +46,13 @@ fn output_image<I: Isa>(
         unreachable!()
     };
     let bytes = region.bytes.as_slice();
-    image_in_memory(alloc, bytes, plan.reach.columns, plan.reach.rows, plan.out_ty)
+    image_in_memory(
+        alloc,
+        bytes,
+        plan.reach.columns,
+        plan.reach.rows,
+        plan.out_ty,
+    )
 }
 
 /// The machine of the program over the memory in which its run begins.
