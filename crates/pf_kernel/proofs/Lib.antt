@@ -21,4 +21,3 @@ pub mod WrittenBytes
 pub mod WrittenLines
 pub mod WrittenTokens
 pub mod WrittenKernels
-pub mod Reaching

@@ -5,5 +5,4 @@ pub mod Expressions
 pub mod Readings
 pub mod Texts
 pub mod Reads
-pub mod Sizes
 pub mod Printable

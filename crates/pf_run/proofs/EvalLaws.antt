@@ -30,10 +30,10 @@ use Rattle.pf_terms.specs.KernelNames.{IsNearTap}
 use Rattle.pf_terms.specs.Kernels.{Source, Keeps, KeepsRange, no_picture, left_reach, right_reach, up_reach, down_reach, width_of, height_of, tap_column, tap_row, tap_value, tap_values, def_values}
 use Rattle.pf_terms.specs.Terms.{Val, IsWellTyped, stated_type}
 use Rattle.pf_kernel.specs.Kernels.{AreDefinitions, names_behind, def_name, image_name}
-use Rattle.pf_run.specs.declared.eval.Reach.{Reach}
-use Rattle.pf_run.specs.declared.reach.Axis.{Axis}
-use Rattle.pf_run.specs.declared.reach.Axis.TheVariants.{Columns, Rows}
-use Rattle.pf_run.specs.Reach.{offset_along, least_offset, greatest_offset}
+use Rattle.pf_run.specs.declared.reach.Reach.{Reach}
+use Rattle.pf_terms.specs.declared.reach.Axis.{Axis}
+use Rattle.pf_terms.specs.declared.reach.Axis.TheVariants.{Columns, Rows}
+use Rattle.pf_terms.specs.Reach.{offset_along, least_offset, greatest_offset}
 use Rattle.pf_run.specs.Pixels.{AreTaps, AreDefs, IsReach, LiesInside}
 
 and_left : (a b : Bool) → (a && b) ≡ true → a ≡ true

@@ -11,40 +11,10 @@ use Rattle.pf_ints.specs.Lanes.{IsIn}
 use Rattle.pf_terms.specs.Kernels.{Source, Keeps, Out, out_value, out_width, out_height, left_reach, up_reach}
 use Rattle.pf_isa.specs.RowEnds.{row_values, image_values}
 use Rattle.pf_isa.proofs.RowLaws.{length-image_values, get_or-image_values}
-use Rattle.pf_run.specs.declared.eval.Reach.{Reach}
+use Rattle.pf_run.specs.declared.reach.Reach.{Reach}
 use Rattle.pf_run.specs.Pixels.{IsReach, out_number}
 use Rattle.pf_run.proofs.PlacedLaws.{columns_within, rows_within}
 use Rattle.pf_run.proofs.ReadyLaws.{small_first}
-
-whole : (z : ℤ) → pos 1 ≤ℤ z → pos (unsigned_abs z) ≡ z
-whole z some = omega (arith, ints)
-
-at_least_one : (z : ℤ) → pos 1 ≤ℤ z → 1 ≤ unsigned_abs z
-at_least_one z some = omega (arith, ints)
-
-pub reach_is : (s : Source) (pictures : List Picture) (r : Reach) → Keeps s pictures → r.left ≡ left_reach s.taps → r.up ≡ up_reach s.taps
-    → r.columns ≡ unsigned_abs (out_width s.taps pictures) → r.rows ≡ unsigned_abs (out_height s.taps pictures) → IsReach s.taps pictures r
-reach_is s pictures r keeps left up across down =
-    let first = small_first pictures keeps.limits in
-    let wide = columns_within s.taps pictures keeps.wide in
-    let high = rows_within s.taps pictures keeps.high in
-    let product = mul-le (unsigned_abs (out_width s.taps pictures)) (unsigned_abs (out_height s.taps pictures)) _ _ wide high in
-    let least = first.wide in
-    let tall = first.high in
-    let all = first.most in
-    let some : 1 ≤ unsigned_abs (out_width s.taps pictures) = at_least_one (out_width s.taps pictures) keeps.wide in
-    let others : 1 ≤ unsigned_abs (out_height s.taps pictures) = at_least_one (out_height s.taps pictures) keeps.high in
-    record {
-      left = left;
-      up = up;
-      columns = ap pos across ∙ whole (out_width s.taps pictures) keeps.wide;
-      rows = ap pos down ∙ whole (out_height s.taps pictures) keeps.high;
-      wide = omega arith;
-      high = omega arith;
-      most_columns = omega arith;
-      most_rows = omega arith;
-      most = rw (across, down) (omega arith);
-    }
 
 -- one pixel more of a row
 pub row_more : (s : Source) (pictures : List Picture) (x y n : ℕ) (before now after : List ℕ) → pos n ≡ out_value s pictures x y → now ≡ before ++ row_values (out_number s pictures) x y → after ≡ now ++ n ∷ []

@@ -20,8 +20,8 @@ use Rattle.pf_isa.specs.Memory.{Apart}
 use Rattle.pf_isa.specs.Heads.{IsHead}
 use Rattle.pf_isa.specs.Runs.{IsPlaced, IsAligned, pixel_bytes, pixels_in_memory, region, image_regions, memory, columns, rows, table_size, output_size}
 use Rattle.pf_isa.proofs.ByteLaws.{length-packed}
-use Rattle.pf_run.specs.declared.reach.Axis.{Axis}
-use Rattle.pf_run.specs.Reach.{offset_along, least_offset, greatest_offset, extent}
+use Rattle.pf_terms.specs.declared.reach.Axis.{Axis}
+use Rattle.pf_terms.specs.Reach.{offset_along, least_offset, greatest_offset, extent}
 use Rattle.pf_run.specs.Placement.{start_behind, image_size, starts_from, start_after, run_places, blank_scratch, blank_output}
 
 -- the regions lie one behind the other, from an address on and up to another

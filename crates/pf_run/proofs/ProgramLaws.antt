@@ -81,7 +81,7 @@ module _ {I O : Type 0} (t : Table O) (p : Text I O) (pictures : List Picture) w
             size = ap (λ (r : Region). length r.bytes) (output_there held) ∙ held.of_output ∙ rw (of_program.out_ty, of_program.width, of_program.height) refl;
           }
 
-      pub ran : (o : Picture) → o.ty ≡ plan.out_ty → o.width ≡ plan.columns → o.height ≡ plan.rows → pixels_in_memory plan.out_ty o.pixels ≡ (get_or rs place nowhere).bytes → Ran t p pictures (Ok o)
+      pub ran : (o : Picture) → o.ty ≡ plan.out_ty → o.width ≡ plan.reach.columns → o.height ≡ plan.reach.rows → pixels_in_memory plan.out_ty o.pixels ≡ (get_or rs place nowhere).bytes → Ran t p pictures (Ok o)
       ran o ty width height pixels =
           let held = finished_held rs ends in
           let here : pixels_in_memory o.ty o.pixels ≡ held.output = ap (λ u. pixels_in_memory u o.pixels) ty ∙ pixels ∙ ap (λ (r : Region). r.bytes) (output_there held) in (

@@ -1,5 +1,5 @@
 -- Images that are such as a program asks for, and what follows of their sizes.
-use Rattle.std.proofs.Common.{◌≡◌, ◌*◌, ◌<◌, ◌≤◌, ◌^◌, List, [], ◌∷◌, length, All, refl, sym, ap, subst, ◌∙◌, arith}
+use Rattle.std.proofs.Common.{◌≡◌, ◌*◌, ◌<◌, ◌≤◌, ◌^◌, List, [], ◌∷◌, length, All, refl, sym, ap, subst, ◌∙◌, arith, ℤ}
 use Rattle.std.specs.Prelude.{pos, ◌≤ℤ◌, unsigned_abs}
 use Rattle.std.proofs.lemmas.Int.{ints}
 use Rattle.std.proofs.lemmas.Nat.{mul-le}
@@ -14,6 +14,8 @@ use Rattle.pf_isa.specs.declared.program.Head.{Head}
 use Rattle.pf_isa.specs.Heads.{IsHead, IsTap}
 use Rattle.pf_isa.specs.Runs.{Places, IsPlaced, columns, rows}
 use Rattle.pf_run.specs.declared.plan.Plan.{Plan}
+use Rattle.pf_run.specs.declared.reach.Reach.{Reach}
+use Rattle.pf_run.specs.Pixels.{IsReach}
 use Rattle.pf_run.specs.Rows.{IsPlan}
 use Rattle.pf_run.specs.Placement.{places_of, run_places, blank_scratch, blank_output}
 use Rattle.pf_run.specs.Sets.{KeepsAll}
@@ -84,15 +86,42 @@ ready h pictures is kept =
       places = placed h is pictures keeps.limits few most;
     }
 
+whole : (z : ℤ) → pos 1 ≤ℤ z → pos (unsigned_abs z) ≡ z
+whole z some = omega (arith, ints)
+
+at_least_one : (z : ℤ) → pos 1 ≤ℤ z → 1 ≤ unsigned_abs z
+at_least_one z some = omega (arith, ints)
+
+-- the reach of taps on images within the limits, where the output has a pixel
+pub reach_is : (taps : List Tap) (pictures : List Picture) (r : Reach) → All IsPicture pictures → pos 1 ≤ℤ out_width taps pictures → pos 1 ≤ℤ out_height taps pictures
+    → r.left ≡ left_reach taps → r.up ≡ up_reach taps → r.columns ≡ unsigned_abs (out_width taps pictures) → r.rows ≡ unsigned_abs (out_height taps pictures) → IsReach taps pictures r
+reach_is taps pictures r limits positive tall_enough left up across down =
+    let first = small_first pictures limits in
+    let wide = columns_within taps pictures positive in
+    let high = rows_within taps pictures tall_enough in
+    let product = mul-le (unsigned_abs (out_width taps pictures)) (unsigned_abs (out_height taps pictures)) _ _ wide high in
+    let least = first.wide in
+    let tall = first.high in
+    let all = first.most in
+    let some : 1 ≤ unsigned_abs (out_width taps pictures) = at_least_one (out_width taps pictures) positive in
+    let others : 1 ≤ unsigned_abs (out_height taps pictures) = at_least_one (out_height taps pictures) tall_enough in
+    record {
+      left = left;
+      up = up;
+      columns = ap pos across ∙ whole (out_width taps pictures) positive;
+      rows = ap pos down ∙ whole (out_height taps pictures) tall_enough;
+      wide = omega arith;
+      high = omega arith;
+      most_columns = omega arith;
+      most_rows = omega arith;
+      most = rw (across, down) (omega arith);
+    }
+
 -- a plan for such images
-pub plan_is : (h : Head) (pictures : List Picture) (plan : Plan) → Ready h pictures → plan.taps ≡ h.taps → places_of plan.starts ≡ run_places h pictures
-    → plan.left ≡ left_reach h.taps → plan.up ≡ up_reach h.taps → plan.columns ≡ columns h pictures → plan.rows ≡ rows h pictures → IsPlan pictures plan
-plan_is h pictures plan of taps places left up across down = record {
-  left = left ∙ ap left_reach (sym taps);
-  up = up ∙ ap up_reach (sym taps);
-  columns = across ∙ ap (λ ts. unsigned_abs (out_width ts pictures)) (sym taps);
-  most_columns = subst (λ n. n ≤ 8192) (sym across) of.most_wide;
-  most_rows = subst (λ n. n ≤ 8192) (sym down) of.most_high;
+pub plan_is : (h : Head) (pictures : List Picture) (plan : Plan) → Ready h pictures → plan.taps ≡ h.taps → places_of plan.starts ≡ run_places h pictures → IsReach h.taps pictures plan.reach → IsPlan pictures plan
+plan_is h pictures plan of taps places reach = record {
+  reach = subst (λ ts. IsReach ts pictures plan.reach) (sym taps) reach;
+  columns = ap unsigned_abs reach.columns ∙ ap (λ ts. unsigned_abs (out_width ts pictures)) (sym taps);
   taps = subst (λ ts. All (λ t. t.image < length pictures) ts) (sym taps) of.taps;
   starts = ap (λ (at : Places). length at.images) places ∙ of.places.image_count;
   low = subst (λ (at : Places). All (λ start. start < 2 ^ 31) at.images) (sym places) of.low;

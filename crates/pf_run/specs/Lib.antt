@@ -1,4 +1,3 @@
-pub mod Reach
 pub mod Sets
 pub mod Placement
 pub mod Answers

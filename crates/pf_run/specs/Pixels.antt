@@ -7,7 +7,7 @@ use Rattle.pf_terms.specs.declared.names.Tap.{Tap}
 use Rattle.pf_terms.specs.Kernels.{Source, out_value, left_reach, up_reach, out_width, out_height, no_picture, tap_column, tap_row}
 use Rattle.pf_ints.specs.Lanes.{is_in}
 use Rattle.pf_terms.specs.TermTexts.{no_image, no_tap, no_def}
-use Rattle.pf_run.specs.declared.eval.Reach.{Reach}
+use Rattle.pf_run.specs.declared.reach.Reach.{Reach}
 
 -- each number is of the type of its tap's image
 pub record AreTaps (images : List ImageName) (taps : List Tap) (numbers : List ℤ) : Type 0 where

@@ -3,7 +3,7 @@ use Rattle.std.specs.Prelude.{◌≡◌, ℕ, ◌+◌, ◌*◌, ◌<◌, ◌≤�
 use Rattle.pf_ints.specs.declared.lane.LaneType.{LaneType}
 use Rattle.pf_ints.specs.Images.{Picture, IsPixelType}
 use Rattle.pf_terms.specs.declared.names.Tap.{Tap}
-use Rattle.pf_terms.specs.Kernels.{left_reach, up_reach, out_width}
+use Rattle.pf_terms.specs.Kernels.{out_width}
 use Rattle.pf_isa.specs.declared.memory.Region.{Region}
 use Rattle.pf_isa.specs.Memory.{nowhere}
 use Rattle.pf_isa.specs.declared.program.Head.{Head}
@@ -13,6 +13,7 @@ use Rattle.pf_run.specs.declared.fault.RunFault.{RunFault}
 use Rattle.pf_run.specs.declared.fault.RunFault.TheVariants.{Text, Set, Outside, Spent as Overspent, Memory}
 use Rattle.pf_run.specs.declared.plan.Plan.{Plan}
 use Rattle.pf_run.specs.Placement.{places_of, run_places}
+use Rattle.pf_run.specs.Pixels.{IsReach}
 
 -- the table of row y, for these taps and an output of this type
 abbrev pub entries_of : List Tap → LaneType → List Picture → Places → ℕ → List ℕ
@@ -21,11 +22,8 @@ entries_of taps out_ty pictures at y =
 
 -- what a plan says of its taps, of the images and of where the regions start
 pub record IsPlan (pictures : List Picture) (p : Plan) : Type 0 where
-  pub left : p.left ≡ left_reach p.taps
-  pub up : p.up ≡ up_reach p.taps
-  pub columns : p.columns ≡ unsigned_abs (out_width p.taps pictures)
-  pub most_columns : p.columns ≤ 8192
-  pub most_rows : p.rows ≤ 8192
+  pub reach : IsReach p.taps pictures p.reach
+  pub columns : p.reach.columns ≡ unsigned_abs (out_width p.taps pictures)
   pub taps : All (λ t. t.image < length pictures) p.taps
   pub starts : length p.starts.images.items ≡ length pictures
   pub low : All (λ start. start < 2 ^ 31) p.starts.images.items
@@ -36,8 +34,8 @@ pub record IsPlanOf (h : Head) (instructions : ℕ) (pictures : List Picture) (p
   pub taps : p.taps ≡ h.taps
   pub out_ty : p.out_ty ≡ h.out_ty
   pub places : places_of p.starts ≡ run_places h pictures
-  pub width : p.columns ≡ columns h pictures
-  pub height : p.rows ≡ rows h pictures
+  pub width : p.reach.columns ≡ columns h pictures
+  pub height : p.reach.rows ≡ rows h pictures
   pub budget : p.budget ≡ row_budget instructions (length h.taps) (columns h pictures)
 
 -- what a row answers, and the state that it leaves where it returns
@@ -59,9 +57,9 @@ RowsAnswer end budget (Err Memory) regions = Unit {0}
 pub record HasOutputAt (rs : List Region) (p : Plan) (place : ℕ) : Type 0 where
   pub within : place < length rs
   pub ty : IsPixelType p.out_ty
-  pub wide : 1 ≤ p.columns
-  pub high : 1 ≤ p.rows
-  pub most_wide : p.columns ≤ 8192
-  pub most_high : p.rows ≤ 8192
-  pub most : p.columns * p.rows ≤ 16777216
-  pub size : length (slice_index_or rs place nowhere).bytes ≡ pixel_bytes p.out_ty * (p.columns * p.rows)
+  pub wide : 1 ≤ p.reach.columns
+  pub high : 1 ≤ p.reach.rows
+  pub most_wide : p.reach.columns ≤ 8192
+  pub most_high : p.reach.rows ≤ 8192
+  pub most : p.reach.columns * p.reach.rows ≤ 16777216
+  pub size : length (slice_index_or rs place nowhere).bytes ≡ pixel_bytes p.out_ty * (p.reach.columns * p.reach.rows)

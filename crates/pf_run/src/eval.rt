@@ -9,24 +9,13 @@ ghost use Rattle.pf_run.specs.Evaluations.{Evaluated};
 ghost use Rattle.pf_run.specs.Pixels.{AreDefs, AreTaps, IsReach, LiesInside, out_number};
 
 use crate::fault::EvalFault;
-use crate::reach::{Axis, distance, least_offset, pixel_number, side};
-use crate::set::{judge_set, size_of};
+use crate::reach::{Reach, distance, pixel_number, reach_of};
+use crate::set::judge_set;
 use pf_ints::{Image, ImageSet, Memory, NumberList, Sequence};
 use pf_kernel::Kernel;
 use pf_terms::{Env, Tap, value};
 use std::alloc::Global;
 use std::mem;
-
-/// How far the taps of a kernel reach, and the size of its output.
-#[derive(Clone, Copy, Debug)]
-pub struct Reach {
-    /// The least of 0 and all offsets along a row.
-    pub left: i16,
-    /// The least of 0 and all offsets along a column.
-    pub up: i16,
-    pub columns: u32,
-    pub rows: u32,
-}
 
 /// The room of a list that is filled anew.
 fn emptied(alloc: Global, numbers: &mut NumberList) -> Vec<i128>
@@ -139,32 +128,13 @@ fn push_row(
     Ok(())
 }
 
-/// The reach of the taps on images that are such as the kernel asks for.
-fn reach_of(kernel: &Kernel, images: &[Image]) -> Reach
-    requires { Keeps kernel.now.source images.now }
-    ensures { IsReach kernel.now.source.taps images.now result }
-{
-    let taps = kernel.names().taps.as_slice();
-    let (width, height) = size_of(images);
-    let columns = side(Axis::Columns, taps, width);
-    let rows = side(Axis::Rows, taps, height);
-    let left = least_offset(Axis::Columns, taps);
-    let up = least_offset(Axis::Rows, taps);
-    Reach {
-        left,
-        up,
-        columns,
-        rows,
-    }
-}
-
 /// The kernel's output on images that are such as it asks for.
 fn eval_kept(alloc: Global, kernel: &Kernel, images: &[Image]) -> Result<Image, Memory>
     requires { Keeps kernel.now.source images.now }
     ensures { IfOk result (λ o. Out kernel.now.source images.now o) }
 {
-    let _names = kernel.names();
-    let reach = reach_of(kernel, images);
+    let taps = kernel.names().taps.as_slice();
+    let reach = reach_of(taps, images);
     let mut env = Env {
         taps: Sequence::new(alloc),
         defs: Sequence::new(alloc),

@@ -7,28 +7,20 @@ ghost use Rattle.pf_run.specs.Rows.{IsPlan, IsPlanOf};
 ghost use Rattle.pf_run.specs.Sets.{KeepsAll};
 
 use crate::places::{Starts, run_starts};
-use crate::reach::{Axis, least_offset, side};
-use crate::set::size_of;
+use crate::reach::{Reach, reach_of};
 use pf_ints::{Duplicate, Image, LaneType, Memory};
 use pf_isa::Head;
 use pf_terms::TapList;
 use std::alloc::Global;
 
 /// What the rows of a run have in common.
-#[derive(Debug, Drop)]
+#[derive(Drop)]
 pub struct Plan {
     pub taps: TapList,
     /// The type of the output's pixels.
     pub out_ty: LaneType,
     pub starts: Starts,
-    /// The least of 0 and all offsets of the taps along a row.
-    pub left: i16,
-    /// The least of 0 and all offsets of the taps along a column.
-    pub up: i16,
-    /// Pixels of a row of the output.
-    pub columns: u32,
-    /// Rows of the output.
-    pub rows: u32,
+    pub reach: Reach,
     /// How many steps a row may take.
     pub budget: u64,
 }
@@ -58,22 +50,15 @@ pub fn plan_of(
     ensures program { IfOk result (λ plan. IsPlanOf head.now instructions images.now plan) }
 {
     let taps = head.taps.as_slice();
-    let (width, height) = size_of(images);
-    let columns = side(Axis::Columns, taps, width);
-    let rows = side(Axis::Rows, taps, height);
-    let left = least_offset(Axis::Columns, taps);
-    let up = least_offset(Axis::Rows, taps);
-    let budget = row_budget(instructions, taps.len() as u64, u64::from(columns));
+    let reach = reach_of(taps, images);
+    let budget = row_budget(instructions, taps.len() as u64, u64::from(reach.columns));
     let starts = run_starts(alloc, head, images)?;
     let taps = head.taps.copy(alloc)?;
     Ok(Plan {
         taps,
         out_ty: head.out_ty,
         starts,
-        left,
-        up,
-        columns,
-        rows,
+        reach,
         budget,
     })
 }

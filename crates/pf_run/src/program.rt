@@ -21,11 +21,11 @@ use std::alloc::Global;
 
 /// The bytes of the output.
 fn output_size(plan: &Plan) -> usize
-    requires columns { plan.now.columns ≤ 8192 }
-    requires rows { plan.now.rows ≤ 8192 }
-    ensures { result ≡ pixel_bytes plan.now.out_ty * (plan.now.columns * plan.now.rows) }
+    requires columns { plan.now.reach.columns ≤ 8192 }
+    requires rows { plan.now.reach.rows ≤ 8192 }
+    ensures { result ≡ pixel_bytes plan.now.out_ty * (plan.now.reach.columns * plan.now.reach.rows) }
 {
-    let pixels = u64::from(plan.columns) * u64::from(plan.rows);
+    let pixels = u64::from(plan.reach.columns) * u64::from(plan.reach.rows);
     (u64::from(plan.out_ty.bytes()) * pixels) as usize
 }
 
@@ -38,15 +38,21 @@ fn output_image<I: Isa>(
 ) -> Result<Image, Memory>
     requires { HasOutputAt machine.now.state.regions plan.now n }
     ensures ty { IfOk result (λ o. o.ty ≡ plan.now.out_ty) }
-    ensures width { IfOk result (λ o. o.width ≡ plan.now.columns) }
-    ensures height { IfOk result (λ o. o.height ≡ plan.now.rows) }
+    ensures width { IfOk result (λ o. o.width ≡ plan.now.reach.columns) }
+    ensures height { IfOk result (λ o. o.height ≡ plan.now.reach.rows) }
     ensures pixels { IfOk result (λ o. pixels_in_memory plan.now.out_ty o.pixels ≡ (slice_index_or machine.now.state.regions n nowhere).bytes) }
 {
     let Some(region) = machine.region(n) else {
         unreachable!()
     };
     let bytes = region.bytes.as_slice();
-    image_in_memory(alloc, bytes, plan.columns, plan.rows, plan.out_ty)
+    image_in_memory(
+        alloc,
+        bytes,
+        plan.reach.columns,
+        plan.reach.rows,
+        plan.out_ty,
+    )
 }
 
 /// The machine of the program over the memory in which its run begins.

@@ -1,59 +1,45 @@
-//! How far the taps of a kernel reach along the rows and the columns of its images.
+//! How far taps reach, and where their pixels stand.
 
-ghost use Rattle.std.specs.Prelude.{◌≡◌, ◌+◌, ◌*◌, ◌<◌, ◌≤◌, ◌^◌, ◌+ℤ◌, ◌-ℤ◌, ◌≤ℤ◌, pos, unsigned_abs};
-ghost use Rattle.pf_run.specs.Reach.{offset_along, least_offset, greatest_offset, extent};
+ghost use Rattle.std.specs.Prelude.{◌≡◌, ◌+◌, ◌*◌, ◌<◌, ◌≤◌, ◌^◌, ◌+ℤ◌, ◌-ℤ◌, ◌≤ℤ◌, pos, unsigned_abs, All};
+ghost use Rattle.pf_ints.specs.Images.{IsPicture};
+ghost use Rattle.pf_terms.specs.Kernels.{out_width, out_height};
+ghost use Rattle.pf_run.specs.Pixels.{IsReach};
 
-use pf_terms::Tap;
+use crate::set::size_of;
+use pf_ints::Image;
+use pf_terms::{Axis, Tap, extent, least_offset};
 
-/// The two directions of an image.
-#[derive(Clone, Copy, Debug, PartialEq, Eq)]
-pub enum Axis {
-    Columns,
-    Rows,
+/// How far taps reach, and the size of the output.
+#[derive(Clone, Copy)]
+pub struct Reach {
+    /// The least of 0 and all offsets along a row.
+    pub left: i16,
+    /// The least of 0 and all offsets along a column.
+    pub up: i16,
+    /// Pixels of a row of the output.
+    pub columns: u32,
+    /// Rows of the output.
+    pub rows: u32,
 }
 
-/// A tap's offset in this direction.
-pub fn offset_along(axis: Axis, tap: &Tap) -> i16
-    ensures { result ≡ offset_along axis tap.now }
+/// The reach of the taps on images of one size, where the output has a pixel.
+pub fn reach_of(taps: &[Tap], images: &[Image]) -> Reach
+    requires limits { All IsPicture images.now }
+    requires wide { pos 1 ≤ℤ out_width taps.now images.now }
+    requires high { pos 1 ≤ℤ out_height taps.now images.now }
+    ensures { IsReach taps.now images.now result }
 {
-    match axis {
-        Axis::Columns => tap.dx,
-        Axis::Rows => tap.dy,
+    let (width, height) = size_of(images);
+    let columns = extent(Axis::Columns, taps, width) as u32;
+    let rows = extent(Axis::Rows, taps, height) as u32;
+    let left = least_offset(Axis::Columns, taps);
+    let up = least_offset(Axis::Rows, taps);
+    Reach {
+        left,
+        up,
+        columns,
+        rows,
     }
-}
-
-/// The least of 0 and all offsets in this direction.
-// A loop: clang 22 drops the 0 of a recursive minimum.
-#[tactic(auto, using(pf_kernel::proofs::Reaching::least_start, pf_kernel::proofs::Reaching::least_step))]
-pub fn least_offset(axis: Axis, taps: &[Tap]) -> i16
-    ensures { result ≡ least_offset axis taps.now }
-{
-    let mut least = 0;
-    for tap in taps {
-        least = offset_along(axis, tap).min(least);
-    }
-    least
-}
-
-/// The greatest of 0 and all offsets in this direction.
-#[tactic(auto, using(pf_kernel::proofs::Reaching::most_start, pf_kernel::proofs::Reaching::most_step))]
-pub fn greatest_offset(axis: Axis, taps: &[Tap]) -> i16
-    ensures { result ≡ greatest_offset axis taps.now }
-{
-    let mut most = 0;
-    for tap in taps {
-        most = offset_along(axis, tap).max(most);
-    }
-    most
-}
-
-/// How many output pixels fit into so many pixels of an image in this direction; none where it
-/// isn't positive.
-pub fn extent(axis: Axis, taps: &[Tap], size: u32) -> i64
-    ensures { result ≡ extent axis taps.now size }
-{
-    let reach = i64::from(greatest_offset(axis, taps)) - i64::from(least_offset(axis, taps));
-    i64::from(size) - reach
 }
 
 /// How far a tap of this offset lies from the first pixel of an image, so many pixels on, where
@@ -72,14 +58,4 @@ pub fn pixel_number(width: u32, row: u32, column: u32) -> u64
     ensures small { result < 2 ^ 48 }
 {
     u64::from(width) * u64::from(row) + u64::from(column)
-}
-
-/// The pixels of the output in this direction, on images of so many.
-pub fn side(axis: Axis, taps: &[Tap], size: u32) -> u32
-    requires some { pos 1 ≤ℤ extent axis taps.now size }
-    requires most { size ≤ 8192 }
-    ensures value { result ≡ unsigned_abs (extent axis taps.now size) }
-    ensures most { result ≤ 8192 }
-{
-    extent(axis, taps, size).unsigned_abs() as u32
 }

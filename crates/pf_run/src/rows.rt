@@ -36,8 +36,8 @@ fn tap_address(plan: &Plan, images: &[Image], y: u32, tap: &Tap) -> u64
 {
     let number = usize::from(tap.image);
     let image = &images[number];
-    let column = distance(0, plan.left, tap.dx);
-    let row = distance(y, plan.up, tap.dy);
+    let column = distance(0, plan.reach.left, tap.dx);
+    let row = distance(y, plan.reach.up, tap.dy);
     let n = pixel_number(image.width(), row, column);
     pixel_address(plan.starts.images[number], u64::from(image.ty().bytes()), n)
 }
@@ -57,10 +57,10 @@ fn write_entries(
     'taps: for tap in plan.taps.as_slice() {
         entries.push(tap_address(plan, images, y, tap))?;
     }
-    let n = pixel_number(plan.columns, y, 0);
+    let n = pixel_number(plan.reach.columns, y, 0);
     entries.push(pixel_address(plan.starts.output, u64::from(plan.out_ty.bytes()), n))?;
     entries.push(plan.starts.scratch)?;
-    entries.push(u64::from(plan.columns))?;
+    entries.push(u64::from(plan.reach.columns))?;
     Ok(())
 }
 
@@ -103,7 +103,7 @@ pub fn run_rows<I: Isa>(
     ensures text { machine.new.text ≡ machine.old.text }
 {
     let mut entries = Vec::with_capacity(alloc, plan.taps.len() + 3)?;
-    'rows: for y in 0..plan.rows {
+    'rows: for y in 0..plan.reach.rows {
         write_entries(plan, images, y, &mut entries)?;
         if let Err(fault) = run_row(machine, &entries, plan.budget) {
             return Err(fault);

@@ -6,9 +6,8 @@ ghost use Rattle.pf_terms.specs.Kernels.{KeepsRange, width_of, height_of};
 ghost use Rattle.pf_run.specs.Sets.{HasOutput, IsFirstFault, IsImageFault, IsInRange, IsSetFault, KeepsAll, KeepsNone, Suits};
 
 use crate::fault::SetFault;
-use crate::reach::{Axis, extent};
 use pf_ints::{Image, ImageSet};
-use pf_terms::{ImageDecl, Tap};
+use pf_terms::{Axis, ImageDecl, Tap, extent};
 
 /// The fault of the first pixel, row by row, that is out of the declared range, where the image
 /// has this number, the declared type and the size of all.

@@ -33,3 +33,4 @@ pub mod ReadBackLeaves
 pub mod ReadBackTerms
 pub mod ReadBackMeanings
 pub mod NoNames
+pub mod Reaching

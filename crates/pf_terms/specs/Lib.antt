@@ -1,6 +1,7 @@
 pub mod Operators
 pub mod Terms
 pub mod Kernels
+pub mod Reach
 pub mod TermTexts
 pub mod Pieces
 pub mod Small

@@ -12,6 +12,7 @@ mod meaning;
 mod names;
 mod op;
 mod print;
+mod reach;
 mod read;
 #[cfg(test)]
 mod read_tests;
@@ -43,6 +44,7 @@ pub use meaning::{ReadFault, read_term};
 pub use names::{DefName, DefNames, ImageName, ImageNames, Names, Tap, TapList};
 pub use op::Op;
 pub use print::{print_term, write_term, write_type};
+pub use reach::{Axis, extent, least_offset};
 pub use read::read_draft;
 pub use row::{Amounts, Gives, Operands, Spelling};
 pub use sizes::{depth, nodes};

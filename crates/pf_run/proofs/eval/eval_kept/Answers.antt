@@ -4,7 +4,7 @@ use Rattle.pf_ints.specs.Images.{IsPicture}
 use Rattle.pf_ints.specs.Lanes.{IsIn}
 use Rattle.pf_isa.specs.RowEnds.{image_values}
 use Rattle.pf_terms.specs.Kernels.{Out}
-use Rattle.pf_run.specs.Pixels.{out_number}
+use Rattle.pf_run.specs.Pixels.{IsReach, out_number}
 use Rattle.pf_run.proofs.EvalRows.{image_more, positive_rows, picture_is, output_is}
 use Rattle.pf_run.proofs.eval.eval_kept.Goals as goal
 
@@ -24,20 +24,22 @@ new-requires-3 c =
     let s = c.args.kernel.now.source in
     let pictures = c.args.images.now in
     let r = c.reach_of-reach.result in
+    let of = subst (λ ts. IsReach ts pictures r) (c.as_slice-taps.ensures ∙ ap (λ n. n.taps) c.names.ensures.value) c.reach_of-reach.ensures in
     let last : c.rows.y ≡ r.rows = omega arith in
     let are = c.from_vec-pixels.ensures ∙ c.rows.invariant.values ∙ ap (image_values (out_number s pictures) r.columns) last in
     let members = subst (λ l. All (λ n. IsIn s.out_ty (pos n)) l) (sym c.from_vec-pixels.ensures) c.rows.invariant.members in
     subst (λ ty. IsPicture (record { width = r.columns; height = r.rows; ty = ty; pixels = c.from_vec-pixels.result })) (sym c.out_ty.ensures)
-    (picture_is s pictures r c.from_vec-pixels.result c.reach_of-reach.ensures c.names-names.ensures.kept.out_ty are members)
+    (picture_is s pictures r c.from_vec-pixels.result of c.names.ensures.kept.out_ty are members)
 
 pub returns : goal.returns
 returns c =
     let s = c.args.kernel.now.source in
     let pictures = c.args.images.now in
     let r = c.reach_of-reach.result in
+    let of = subst (λ ts. IsReach ts pictures r) (c.as_slice-taps.ensures ∙ ap (λ n. n.taps) c.names.ensures.value) c.reach_of-reach.ensures in
     let last : c.rows.y ≡ r.rows = omega arith in
     let are = c.from_vec-pixels.ensures ∙ c.rows.invariant.values ∙ ap (image_values (out_number s pictures) r.columns) last in
     let positive = λ (x y : ℕ) (column : x < r.columns) (row : y < r.rows). c.rows.invariant.positive x y column (subst (λ n. y < n) (sym last) row) in
     subst (λ o. Out s pictures o) (sym c.new-3.ensures)
     (subst (λ ty. Out s pictures (record { width = r.columns; height = r.rows; ty = ty; pixels = c.from_vec-pixels.result })) (sym c.out_ty.ensures)
-    (output_is s pictures r c.from_vec-pixels.result c.reach_of-reach.ensures are positive))
+    (output_is s pictures r c.from_vec-pixels.result of are positive))
