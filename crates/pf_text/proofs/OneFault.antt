@@ -1,12 +1,7 @@
 -- A text has one reading or one first fault.
 use Rattle.std.proofs.Common.{◌≡◌, refl, sym, ◌∙◌, ap, subst, ℕ, List, [], ◌∷◌, ◌++◌, length, suc}
 use Rattle.pf_text.specs.FirstFaults.{Steps, IsFirstFault}
-
-pub first_same : {A : Type 0} (x y : A) (xs ys : List A) → x ∷ xs ≡ y ∷ ys → x ≡ y
-first_same x y xs ys h = cc
-
-pub rest_same : {A : Type 0} (x y : A) (xs ys : List A) → x ∷ xs ≡ y ∷ ys → xs ≡ ys
-rest_same x y xs ys h = cc
+use Rattle.pf_text.proofs.Lists.{first_same, rest_same}
 
 module _ (S X : Type 0) (Step : S → X → S → Type 0) where
   pub steps_more : (s t u : S) (xs : List X) (x : X) → Steps Step s xs t → Step t x u → Steps Step s (xs ++ x ∷ []) u
