@@ -1,12 +1,16 @@
 -- A reader's answer is the only one.
 use Rattle.std.proofs.Common.{◌≡◌, inl, inr}
-use Rattle.std.specs.Prelude.{◌⊎◌, Result, Ok, Err}
+use Rattle.std.specs.Prelude.{◌⊎◌, Result, Ok, Err, IfOk}
 use Rattle.pf_text.specs.Answers.{Answers, Decides}
 
 pub answers_map : {A F : Type 0} (wanting : F) (P Q : A → Type 0) (E G : F → Type 0) (r : Result A F) → ((a : A) → P a → Q a) → ((f : F) → E f → G f) → Answers wanting P E r → Answers wanting Q G r
 answers_map wanting P Q E G (Ok a) read told h = read a h
 answers_map wanting P Q E G (Err f) read told (inl h) = inl (told f h)
 answers_map wanting P Q E G (Err f) read told (inr h) = inr h
+
+pub on_read : {A F : Type 0} (wanting : F) (P Q : A → Type 0) (E : F → Type 0) (r : Result A F) → ((a : A) → P a → Q a) → Answers wanting P E r → IfOk r Q
+on_read wanting P Q E (Ok a) read h = read a h
+on_read wanting P Q E (Err f) read h = tt
 
 -- where a text has one reading or one fault
 module _ (A F : Type 0) (wanting : F) (P : A → Type 0) (E : F → Type 0) (one : (a b : A) → P a → P b → a ≡ b) (one_fault : (f g : F) → E f → E g → f ≡ g) (whole : (a : A) (f : F) → P a → E f → ⊥) where

@@ -1,5 +1,5 @@
 -- Laws of lists.
-use Rattle.std.proofs.Common.{◌≡◌, refl, sym, ap, subst, inl, inr, List, [], ◌∷◌, ◌++◌}
+use Rattle.std.proofs.Common.{◌≡◌, refl, sym, ◌∙◌, ap, subst, inl, inr, List, [], ◌∷◌, ◌++◌}
 use Rattle.std.specs.Prelude.{◌⊎◌}
 
 pub first_same : {A : Type 0} (x y : A) (xs ys : List A) → x ∷ xs ≡ y ∷ ys → x ≡ y
@@ -30,3 +30,17 @@ fork [] rest (w ∷ other) behind e = inr (inl (record { here = w; more = other;
 fork (z ∷ front) rest [] behind e = inr (inr (record { here = z; more = front; longer = refl; left = sym e }))
 fork {A} (z ∷ front) rest (w ∷ other) behind e =
     subst (λ (v : A). Fork (z ∷ front) rest (v ∷ other) behind) (first_same z w _ _ e) (fork_on z front rest other behind (fork front rest other behind (rest_same z w _ _ e)))
+
+-- the same of two places
+abbrev pub IsFurther : {A : Type 0} → List A → A → List A → Type 0
+IsFurther {A} front x other = (more : List A) × (other ≡ front ++ x ∷ more)
+
+further : {A : Type 0} (front other : List A) (x : A) (rest behind : List A) → IsLonger front (x ∷ rest) other behind → IsFurther front x other
+further front other x rest behind h = (h.more, h.longer ∙ ap (λ v. front ++ v ∷ h.more) (sym (first_same x h.here rest _ h.left)))
+
+pub fork_at : {A : Type 0} (front other : List A) (x y : A) (rest behind : List A) → front ++ x ∷ rest ≡ other ++ y ∷ behind → ((front ≡ other) × (x ≡ y)) ⊎ (IsFurther front x other ⊎ IsFurther other y front)
+fork_at front other x y rest behind e = by (fork front (x ∷ rest) other (y ∷ behind) e) where
+  by : Fork front (x ∷ rest) other (y ∷ behind) → ((front ≡ other) × (x ≡ y)) ⊎ (IsFurther front x other ⊎ IsFurther other y front)
+  by (inl h) = inl (h.0, first_same x y rest behind h.1)
+  by (inr (inl h)) = inr (inl (further front other x rest (y ∷ behind) h))
+  by (inr (inr h)) = inr (inr (further other front y behind (x ∷ rest) h))

@@ -1,12 +1,30 @@
 -- A text has one reading or one first fault.
 use Rattle.std.proofs.Common.{◌≡◌, refl, sym, ◌∙◌, ap, subst, ℕ, List, [], ◌∷◌, ◌++◌, length, suc}
-use Rattle.pf_text.specs.FirstFaults.{Steps, IsFirstFault}
+use Rattle.pf_text.specs.FirstFaults.{Steps, OnlySteps, Halts, IsFirstFault}
 use Rattle.pf_text.proofs.Lists.{first_same, rest_same}
 
 module _ (S X : Type 0) (Step : S → X → S → Type 0) where
   pub steps_more : (s t u : S) (xs : List X) (x : X) → Steps Step s xs t → Step t x u → Steps Step s (xs ++ x ∷ []) u
   steps_more s t u [] x h step = (u, subst (λ (r : S). Step r x u) (sym h) step, refl)
   steps_more s t u (y ∷ ys) x h step = (h.0, h.1, steps_more h.0 t u ys x h.2 step)
+
+  pub steps_on : (s t u : S) (xs ys : List X) → Steps Step s xs t → Steps Step t ys u → Steps Step s (xs ++ ys) u
+  steps_on s t u [] ys h k = subst (λ (r : S). Steps Step r ys u) (sym h) k
+  steps_on s t u (x ∷ xs) ys h k = (h.0, h.1, steps_on h.0 t u xs ys h.2 k)
+
+  pub steps_of : (s t : S) (xs : List X) → OnlySteps Step s xs t → Steps Step s xs t
+  steps_of s t [] h = h
+  steps_of s t (x ∷ xs) h = (h.0, h.1.0, steps_of h.0 t xs h.2)
+
+  -- where each step is the only one there is one halt
+  pub one_halt : (s t u : S) (p q xs ys : List X) → p ++ xs ≡ q ++ ys → OnlySteps Step s p t → Halts Step t xs → Steps Step s q u → Halts Step u ys → (length p ≡ length q) × (t ≡ u)
+  one_halt s t u [] [] xs ys is h halt k other = (refl, sym h ∙ k)
+  one_halt s t u [] (w ∷ q) xs ys is h halt k other = absurd (subst (λ (r : S). Halts Step r (w ∷ (q ++ ys))) (sym h) (subst (Halts Step t) is halt) k.0 k.1)
+  one_halt s t u (z ∷ p) [] xs ys is h halt k other = absurd (subst (λ (r : S). Halts Step r (z ∷ (p ++ xs))) (sym k) (subst (Halts Step u) (sym is) other) h.0 h.1.0)
+  one_halt s t u (z ∷ p) (w ∷ q) xs ys is h halt k other =
+      let step : k.0 ≡ h.0 = h.1.1 k.0 (subst (λ (v : X). Step s v k.0) (sym (first_same z w _ _ is)) k.1) in
+      let rest = one_halt h.0 t u p q xs ys (rest_same z w _ _ is) h.2 halt (subst (λ (r : S). Steps Step r q u) step k.2) other in
+      (ap suc rest.0, rest.1)
 
   module _ (one_step : (s t u : S) (x : X) → Step s x t → Step s x u → t ≡ u) where
     pub one_end : (s t u : S) (xs : List X) → Steps Step s xs t → Steps Step s xs u → t ≡ u
