@@ -6,7 +6,6 @@ use Rattle.pf_text.proofs.Answering.{decides}
 use Rattle.pf_ints.specs.declared.lane.LaneType.{LaneType}
 use Rattle.pf_ints.specs.Images.{Picture, IsPicture, IsPixelType}
 use Rattle.pf_images.specs.declared.fault.Fault.{Fault}
-use Rattle.pf_images.specs.declared.fault.PgmKind.{PgmKind}
 use Rattle.pf_images.specs.declared.fault.ImageFault.{ImageFault}
 use Rattle.pf_images.specs.declared.fault.ImageFault.TheVariants.{At, Memory}
 use Rattle.pf_images.specs.declared.header.Header.{Header}
