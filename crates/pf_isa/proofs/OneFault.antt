@@ -1,5 +1,5 @@
 -- A text has one first fault, and it is told.
-use Rattle.std.proofs.Common.{◌≡◌, ◌≢◌, refl, sym, ap, ◌∙◌, subst, inl, inr, ℕ, suc, ◌+◌, List, [], ◌∷◌, ◌++◌, length, drop, arith, All}
+use Rattle.std.proofs.Common.{◌≡◌, refl, sym, ap, ◌∙◌, subst, inl, inr, ℕ, ◌+◌, List, ◌∷◌, ◌++◌, length, drop, All}
 use Rattle.std.specs.Prelude.{◌⊎◌, Result, Ok, Err, IfOk, IfErr}
 use Rattle.std.specs.Str.Lines.{lines}
 use Rattle.std.proofs.lemmas.List.{drop_at}
@@ -12,13 +12,11 @@ use Rattle.pf_isa.specs.declared.fault.TextFault.TheVariants.{At, Memory}
 use Rattle.pf_isa.specs.declared.fault.TextKind.{TextKind}
 use Rattle.pf_isa.specs.declared.fault.TextKind.TheVariants.{Target as TargetFault, Directive, Instruction, Label as LabelFault, NoEnd}
 use Rattle.pf_isa.specs.declared.program.Head.{Head}
-use Rattle.pf_isa.specs.declared.so_far.Stage.TheVariants.{Code}
 use Rattle.pf_isa.specs.Heads.{IsHead}
-use Rattle.pf_isa.specs.Lines.{IsLine}
 use Rattle.pf_isa.specs.Programs.{Text}
 use Rattle.pf_isa.specs.Tables.{Table, IsTable}
-use Rattle.pf_isa.specs.Texts.{Said, Named, IsHeadText, IsCodeText, target_line}
-use Rattle.pf_isa.specs.TextFaults.{SoFar, nothing, GoesOn, GoesOnAt, GoOn, Stops, IsFor, IsHeadFaultAt, label_names, HasPlace, IsLineFault, IsBadLine, IsBadJump, IsOpenEnd, IsCodeFaultAt, IsCodeRefusal, IsTextFault, IsHeadOr, IsTextFaultOr}
+use Rattle.pf_isa.specs.Texts.{Said, Named, IsHeadText, IsCodeText}
+use Rattle.pf_isa.specs.TextFaults.{IsHeadFaultAt, label_names, HasPlace, IsLineFault, IsBadLine, IsBadJump, IsOpenEnd, IsCodeFaultAt, IsCodeRefusal, IsTextFault, IsHeadOr, IsTextFaultOr}
 use Rattle.pf_isa.proofs.CodeOnce.{all_said, middle, no_bad_line, no_bad_jump, no_fault}
 
 -- ---- the lines behind the head

@@ -1,8 +1,8 @@
-ghost use Rattle.std.specs.Prelude.{◌≡◌, ◌≢◌, neg_ℤ, slice_index_or, ℕ, List, [], ◌∷◌, ◌<◌, ◌≤◌, ◌^◌, pos, length, All, MatchOption, IsTrue, ◌↔◌, decimal, true};
+ghost use Rattle.std.specs.Prelude.{◌≡◌, ◌≢◌, neg_ℤ, slice_index_or, ℕ, List, [], ◌∷◌, ◌<◌, ◌≤◌, ◌^◌, pos, length, MatchOption, IsTrue, ◌↔◌, decimal};
 ghost use Rattle.std.specs.List.{list_all, AllPairs};
 ghost use Rattle.std.specs.Fmt.{signed_decimal};
 ghost use Rattle.pf_ints.specs.Images.{IsPixelType};
-ghost use Rattle.pf_ints.specs.Lanes.{greatest, IsIn};
+ghost use Rattle.pf_ints.specs.Lanes.{IsIn};
 ghost use Rattle.pf_ints.specs.Words.{is_name, is_digit};
 ghost use Rattle.pf_terms.specs.TermTexts.{type_word, no_image};
 ghost use Rattle.pf_isa.specs.Heads.{IsDecl, IsTap};

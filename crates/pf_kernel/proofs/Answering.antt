@@ -5,10 +5,9 @@ use Rattle.std.specs.Option.{option_or}
 use Rattle.pf_ints.specs.declared.lane.LaneType.{LaneType}
 use Rattle.pf_terms.specs.declared.draft.Draft.{Draft}
 use Rattle.pf_terms.specs.declared.meaning.ReadFault.{ReadFault}
-use Rattle.pf_terms.specs.declared.meaning.ReadFault.TheVariants.{Syntax, Name, Types, Amount, Limit, Memory}
+use Rattle.pf_terms.specs.declared.meaning.ReadFault.TheVariants.{Syntax, Name, Memory}
 use Rattle.pf_terms.specs.declared.names.Names.{Names}
 use Rattle.pf_terms.specs.declared.term.Term.{Term}
-use Rattle.pf_terms.specs.Drafts.{IsDraftText}
 use Rattle.pf_terms.specs.Meanings.{first_some}
 use Rattle.pf_kernel.specs.declared.front.Front.TheVariants.{Def as DefFront, Out as OutFront}
 use Rattle.pf_kernel.specs.Expressions.{Judges}

@@ -1,9 +1,8 @@
 -- A line up to its first comment.
-use Rattle.std.proofs.Common.{◌≡◌, refl, sym, ◌∙◌, ap, ℕ, ◌≤◌, Bool, true, false, List, length, take, arith, nat_lt}
+use Rattle.std.proofs.Common.{◌≡◌, refl, sym, ◌∙◌, ap, ℕ, Bool, true, false, List, length, take, nat_lt}
 use Rattle.std.specs.Prelude.{Option, Some, None, cond}
 use Rattle.std.specs.List.{position, position_or_len, before_first}
 use Rattle.std.proofs.lemmas.List.{take_all}
-use Rattle.std.proofs.lemmas.Bool.Decides.{nat_tests}
 use Rattle.std.proofs.lemmas.Bool.{ltb-false}
 
 pub up_to : {X : Type 0} (p : X → Bool) (xs : List X) (n : ℕ) → ◌≡◌ {A = Option ℕ} (Some n) (position p xs) → take n xs ≡ before_first p xs

@@ -1,17 +1,15 @@
 -- What may be added by a line's front, and what else the line can say.
-use Rattle.std.proofs.Common.{◌≡◌, sym, ◌∙◌, ap, subst, ℕ, ◌+◌, ◌-◌, ◌≤◌, ◌<◌, ◌^◌, true, List, [], ◌∷◌, length, take, drop, arith, length-drop, Bool, false, inl, inr}
+use Rattle.std.proofs.Common.{◌≡◌, sym, ◌∙◌, ap, subst, ℕ, ◌+◌, ◌-◌, ◌≤◌, ◌<◌, ◌^◌, true, List, [], ◌∷◌, length, take, drop, arith, length-drop, inl, inr}
 use Rattle.std.proofs.lemmas.List.{length-take-le}
 use Rattle.std.specs.Prelude.{Option, Some, None, Result, Ok, Err}
-use Rattle.pf_kernel.specs.declared.front.Front.TheVariants.{Kernel as KernelFront, Image as ImageFront, Def as DefFront, Out as OutFront}
 use Rattle.pf_ints.specs.Words.{is_name}
 use Rattle.pf_terms.specs.declared.draft.Draft.{Draft}
 use Rattle.pf_terms.specs.declared.meaning.ReadFault.{ReadFault}
-use Rattle.pf_terms.specs.declared.meaning.ReadFault.TheVariants.{Syntax, Name as NameFault, Types, Amount, Limit, Memory}
+use Rattle.pf_terms.specs.declared.meaning.ReadFault.TheVariants.{Syntax}
 use Rattle.pf_terms.specs.declared.token.Kind.{Kind}
 use Rattle.pf_terms.specs.declared.token.Kind.TheVariants.{Name}
 use Rattle.pf_terms.specs.declared.token.Token.{Token}
 use Rattle.pf_terms.specs.Drafts.{IsDraftText, IsSyntaxFault, IsFaultPlace, behind, first}
-use Rattle.pf_terms.specs.Meanings.{first_some}
 use Rattle.pf_terms.specs.Parsing.{kinds}
 use Rattle.pf_terms.specs.Tokens.{IsLexed, ended, blank, token, IsFront, IsRun}
 use Rattle.pf_kernel.specs.declared.front.Front.{Front}

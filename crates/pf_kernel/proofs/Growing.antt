@@ -1,5 +1,5 @@
 -- What is read stays within the rules with each expression.
-use Rattle.std.proofs.Common.{◌≡◌, refl, sym, ◌∙◌, ap, subst, ℕ, ◌+◌, ◌-◌, ◌≤◌, ◌^◌, min, Bool, true, false, ◌&&◌, not, List, [], ◌∷◌, ◌++◌, length, map, sum, append_assoc, append-nil, arith, length-append}
+use Rattle.std.proofs.Common.{◌≡◌, refl, sym, ◌∙◌, ap, subst, ℕ, ◌+◌, ◌-◌, ◌≤◌, ◌^◌, min, true, false, ◌&&◌, not, List, [], ◌∷◌, ◌++◌, length, map, sum, append_assoc, append-nil, arith, length-append}
 use Rattle.std.specs.Prelude.{Result, Option, Some, None, is_some, MatchOption}
 use Rattle.std.specs.List.{flat_map}
 use Rattle.std.proofs.lemmas.List.{length-map, map-append}

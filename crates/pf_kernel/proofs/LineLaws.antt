@@ -1,5 +1,5 @@
 -- What a line says goes by its tokens.
-use Rattle.std.proofs.Common.{◌≡◌, refl, sym, ap, subst, ℕ, zero, suc, ◌+◌, ◌-◌, ◌≤◌, ◌<◌, List, [], ◌∷◌, length, drop, arith, length-drop}
+use Rattle.std.proofs.Common.{◌≡◌, sym, subst, ℕ, zero, suc, ◌+◌, ◌-◌, ◌≤◌, List, length, drop, arith, length-drop}
 use Rattle.std.specs.Prelude.{Ok, Err, Some, None, Option, MatchOption, slice_get}
 use Rattle.std.proofs.lemmas.List.{length-map}
 use Rattle.pf_terms.specs.declared.meaning.ReadFault.TheVariants.{Syntax}

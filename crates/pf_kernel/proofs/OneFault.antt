@@ -1,6 +1,6 @@
 -- A text has one first fault, and a kernel's text has none.
-use Rattle.std.proofs.Common.{◌≡◌, refl, sym, ◌∙◌, ap, subst, ℕ, ◌+◌, ◌≤◌, ◌<◌, nat_lt, Bool, true, false, List, [], ◌∷◌, ◌++◌, length, take, drop, arith, append_assoc, take-append-drop, take-take, ltb-true, ltb-false}
-use Rattle.std.specs.Prelude.{Option, Some, None, Result, Ok, Err, pos}
+use Rattle.std.proofs.Common.{◌≡◌, refl, sym, ◌∙◌, ap, subst, ℕ, ◌+◌, ◌<◌, nat_lt, Bool, true, false, List, ◌++◌, length, take, drop, arith, append_assoc, take-append-drop, take-take, ltb-true, ltb-false}
+use Rattle.std.specs.Prelude.{Option, Some, None, Result}
 use Rattle.std.specs.Str.Lines.{lines}
 use Rattle.std.proofs.lemmas.List.{length-map}
 use Rattle.pf_text.specs.Answers.{Answers, Decides}
@@ -23,7 +23,7 @@ use Rattle.pf_kernel.specs.declared.fault.KernelFault.TheVariants.{Memory}
 use Rattle.pf_kernel.specs.declared.front.Front.{Front}
 use Rattle.pf_kernel.specs.Kernels.{Meaning}
 use Rattle.pf_kernel.specs.Lines.{Begun, nothing, IsShape, Begins, IsFrontFault, told_at, equals_of, end_of, uncommented, Said, Nothing, Bare, Over, SaysOf, faults, with_said, IsTokensFault, front, expression, meaning, IsLineFault, IsStep, AreRead}
-use Rattle.pf_kernel.specs.Texts.{IsKernel, IsKernelFault, long, line, early, at_line, all_of, byte_limit}
+use Rattle.pf_kernel.specs.Texts.{IsKernel, IsKernelFault, long, line, early, at_line, all_of}
 use Rattle.pf_kernel.proofs.FrontLaws.{same_front, only_bare, only_over}
 use Rattle.pf_kernel.proofs.ReadLaws.{never_early, same_meaning}
 

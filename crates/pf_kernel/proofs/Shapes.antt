@@ -1,6 +1,6 @@
 -- The tokens of a line's front are judged as its shape says.
 use Rattle.std.proofs.Common.{◌≡◌, refl, sym, ◌∙◌, ap, subst, ℕ, ◌≤◌, Bool, true, false, List, [], ◌∷◌, arith}
-use Rattle.std.specs.Prelude.{ℤ, pos, negsuc, Ok, Err, Result, int_le, ◌&&◌, if◌then◌else◌, unsigned_abs, ◌≤ℤ◌}
+use Rattle.std.specs.Prelude.{ℤ, pos, negsuc, Ok, Err, Result, int_le, if◌then◌else◌, unsigned_abs, ◌≤ℤ◌}
 use Rattle.std.proofs.lemmas.Int.{ints}
 use Rattle.std.proofs.lemmas.Bool.{and_from, and_parts}
 use Rattle.pf_ints.specs.declared.lane.LaneType.{LaneType}

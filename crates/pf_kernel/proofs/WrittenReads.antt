@@ -34,7 +34,7 @@ use Rattle.pf_terms.proofs.TapLists.{Each, each_front, each_behind, each_of_all,
 use Rattle.pf_terms.proofs.Typing.{same_self}
 use Rattle.pf_kernel.specs.declared.front.Front.TheVariants.{Kernel as KernelFront, Image as ImageFront, Def as DefFront, Out as OutFront}
 use Rattle.pf_kernel.specs.Kernels.{Meaning, image_name, def_name, names_behind, names_of, IsDecl, IsTermOf, AreDefinitions, terms_of, taps_in, AreInTurn, IsKernelOf}
-use Rattle.pf_kernel.specs.Lines.{Begun, nothing, is_empty, Said, Bare, Over, if_so, counted, more_than, is_taken, taken, mistyped, names_with, term_with, nodes_in, judged, expression_faults, with_said, IsRead, IsStep, AreRead}
+use Rattle.pf_kernel.specs.Lines.{Begun, nothing, is_empty, Bare, Over, if_so, counted, more_than, is_taken, taken, mistyped, names_with, term_with, nodes_in, judged, expression_faults, IsStep, AreRead}
 use Rattle.pf_kernel.specs.Texts.{all_of, image_text, def_text}
 use Rattle.pf_kernel.proofs.Extending.{more_names}
 use Rattle.pf_kernel.proofs.Fewer.{taps_split, IsSpoken, means_fewer}

@@ -1,6 +1,6 @@
 ghost use Rattle.std.specs.List.{position};
 ghost use Rattle.pf_terms.specs.Terms.{node_count};
-ghost use Rattle.std.specs.Prelude.{◌-◌, min, sum, map, ◌≡◌, ◌<◌, ◌^◌, ◌==◌, IfSome, ◌+◌, ◌≤◌, ◌∷◌, [], ◌++◌, drop, length, true, false, IfOk, MatchResult, Some, None};
+ghost use Rattle.std.specs.Prelude.{◌-◌, min, sum, map, ◌≡◌, ◌<◌, ◌^◌, ◌==◌, IfSome, ◌+◌, ◌≤◌, [], drop, length, true, IfOk, Some, None};
 ghost use Rattle.pf_text.specs.Answers.{Answers};
 ghost use Rattle.pf_ints.specs.Images.{IsPixelType};
 ghost use Rattle.pf_ints.specs.Words.{is_name};
@@ -8,7 +8,7 @@ ghost use Rattle.pf_terms.specs.declared.meaning.ReadFault.TheVariants.{Memory};
 ghost use Rattle.pf_terms.specs.declared.token.LineWord.TheVariants.{Kernel, Image, Def, Out};
 ghost use Rattle.pf_terms.specs.Parsing.{kinds, place_of};
 ghost use Rattle.pf_terms.specs.Tokens.{IsLexed};
-ghost use Rattle.pf_kernel.specs.declared.front.Front.TheVariants.{Kernel as KernelFront, Image as ImageFront, Def as DefFront, Out as OutFront};
+ghost use Rattle.pf_kernel.specs.declared.front.Front.TheVariants.{Image as ImageFront, Def as DefFront, Out as OutFront};
 ghost use Rattle.pf_kernel.specs.Fronts.{front_of};
 ghost use Rattle.pf_kernel.specs.Kernels.{IsDecl};
 ghost use Rattle.pf_kernel.specs.Lines.{Bare, IsShape, IsStep, IsLineFault, may_stand, told_at, end_of, uncommented};

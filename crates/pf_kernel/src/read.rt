@@ -1,11 +1,11 @@
-ghost use Rattle.std.specs.Prelude.{◌≡◌, ◌+◌, ◌∷◌, [], ◌++◌, ◌<◌, ◌≤◌, ◌^◌, length, IfOk, IfErr, MatchOption, IfSome, pos, Some, None, ◌==◌, List, ℕ};
+ghost use Rattle.std.specs.Prelude.{◌≡◌, ◌+◌, ◌<◌, ◌≤◌, ◌^◌, length, IfOk, pos, Some};
 ghost use Rattle.std.specs.Str.Lines.{lines};
 ghost use Rattle.pf_text.specs.Answers.{Answers, Decides};
 ghost use Rattle.pf_terms.specs.declared.limit.LimitKind.TheVariants.{Bytes};
 ghost use Rattle.pf_kernel.specs.declared.fault.KernelFault.TheVariants.{Limit, Memory};
 ghost use Rattle.pf_kernel.specs.Lines.{IsStep};
 ghost use Rattle.pf_kernel.specs.Readings.{begun_of, IsReading};
-ghost use Rattle.pf_kernel.specs.Reads.{IsFaultAt, IsSoFar, IsWhole, Finishes};
+ghost use Rattle.pf_kernel.specs.Reads.{IsFaultAt, IsWhole, Finishes};
 ghost use Rattle.pf_kernel.specs.Texts.{IsKernel, IsKernelFault, at_line, byte_limit};
 
 use crate::fault::KernelFault;

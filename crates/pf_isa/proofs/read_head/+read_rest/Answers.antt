@@ -1,4 +1,4 @@
-use Rattle.std.proofs.Common.{◌≡◌, ◌≢◌, ◌∙◌, arith, ◌<◌, ◌-◌, ◌+◌, [], length, take, drop, get_or, subst, sym, inl, rules}
+use Rattle.std.proofs.Common.{◌≡◌, ◌≢◌, arith, ◌<◌, ◌-◌, ◌+◌, [], length, take, drop, get_or, subst, sym, inl, rules}
 use Rattle.pf_isa.specs.declared.so_far.Stage.TheVariants.{Code}
 use Rattle.pf_isa.specs.HeadWords.{IsTheOne}
 use Rattle.pf_isa.specs.TextFaults.{texts, GoesOn, Stops}

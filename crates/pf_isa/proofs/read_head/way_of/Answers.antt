@@ -1,4 +1,4 @@
-use Rattle.std.proofs.Common.{◌≡◌, ◌-◌, [], length, take, drop, get_or, subst, sym, inl, rules}
+use Rattle.std.proofs.Common.{◌-◌, [], length, take, drop, get_or, subst, sym, inl, rules}
 use Rattle.pf_text.specs.Answers.{Answers}
 use Rattle.pf_isa.specs.declared.fault.TextFault.TheVariants.{Memory}
 use Rattle.pf_isa.specs.HeadSteps.{IsReached, IsWholeFrom, IsStopped}

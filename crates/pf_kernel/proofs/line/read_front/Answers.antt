@@ -1,4 +1,4 @@
-use Rattle.std.proofs.Common.{◌≡◌, refl, sym, ◌∙◌, ap, subst, Result}
+use Rattle.std.proofs.Common.{refl, sym, ◌∙◌, ap, subst, Result}
 use Rattle.pf_terms.specs.declared.meaning.ReadFault.{ReadFault}
 use Rattle.pf_terms.specs.Parsing.{kinds}
 use Rattle.pf_kernel.specs.declared.front.Front.{Front}
