@@ -153,17 +153,20 @@ FaultParts target ls at kind = ((at ≡ 1) × (kind ≡ TargetFault) × (IsFor t
 fault_parts : (target : Target) (ls : List (List ℕ)) (at : ℕ) (kind : TextKind) → IsHeadFaultAt target ls at kind → FaultParts target ls at kind
 fault_parts target ls at TargetFault h = inl (h.0, refl, h.1)
 fault_parts target [] at Directive h = absurd h
-fault_parts target (l ∷ ls) at Directive (for_target, (n, fault, at_is)) = inr (refl, record {
-  first = l;
-  front = fault.front;
-  behind = fault.rest;
-  end = fault.so_far;
-  parts = ap (λ m. l ∷ m) fault.parts;
-  for_target = for_target;
-  begun = fault.begun;
-  stops = fault.stops;
-  at_is = omega (arith, at_is, fault.count);
-})
+fault_parts target (l ∷ ls) at Directive (for_target, (n, fault, at_is)) = inr (
+  refl,
+  record {
+    first = l;
+    front = fault.front;
+    behind = fault.rest;
+    end = fault.so_far;
+    parts = ap (λ m. l ∷ m) fault.parts;
+    for_target = for_target;
+    begun = fault.begun;
+    stops = fault.stops;
+    at_is = omega (arith, at_is, fault.count);
+  },
+)
 fault_parts target ls at Instruction h = absurd h
 fault_parts target ls at Label h = absurd h
 fault_parts target ls at NoEnd h = absurd h
