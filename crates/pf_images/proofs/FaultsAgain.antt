@@ -1,8 +1,9 @@
 -- Bytes with a fault where the definitions say are refused for that fault, so no bytes have two first faults.
 use Rattle.std.proofs.Common.{◌≡◌, ℕ, suc, ◌+◌, ◌-◌, ◌*◌, ◌^◌, ◌<◌, ◌≤◌, List, [], ◌∷◌, ◌++◌, length, Bool, true, false, ◌&&◌, eqb, leb, ltb, Result, Ok, Err, refl, sym, ap, ◌∙◌, append_assoc, arith, ◌⊎◌, inl, inr, subst}
 use Rattle.std.specs.Prelude.{codes}
-use Rattle.std.proofs.lemmas.Bool.{cases_Bool, cases_lt, cases_order, eqb-true, and_parts, or_cases, and_from, false_from_ne_true, le-leb, leb-true, ltb-true, le-ltb, lt-ltb}
+use Rattle.std.proofs.lemmas.Bool.{cases_Bool, eqb-true, and_parts, or_cases, and_from, false_from_ne_true, le-leb, leb-true, ltb-true, le-ltb, lt-ltb}
 use Rattle.std.proofs.lemmas.List.{length-append, append-nil, drop_at}
+use Rattle.pf_text.proofs.Lists.{Fork, fork}
 use Rattle.pf_ints.specs.declared.lane.LaneType.{LaneType}
 use Rattle.pf_ints.specs.Lanes.{lane_width}
 use Rattle.pf_images.specs.declared.fault.Fault.{Fault}
@@ -16,37 +17,6 @@ use Rattle.pf_images.proofs.Blanks.{blank_begins}
 use Rattle.pf_images.proofs.Fields.{BeginsBlank, FieldTakes, field_takes, field_again, field_reads}
 use Rattle.pf_images.proofs.Headers.{at_third, at_second, at_first, magic_again, start_again, first_again, second_again, field_begins, side_again, header_again}
 use Rattle.pf_images.proofs.CutOff.{FieldStops, field_stops}
-
--- ---- lists that are joined in two ways
-
-longer : (a b c d : List ℕ) → a ++ b ≡ c ++ d → length a < length c → (x : ℕ) × (m : List ℕ) × (c ≡ a ++ x ∷ m) × (b ≡ x ∷ (m ++ d))
-longer [] b [] d e lt = absurd (omega arith)
-longer [] b (x ∷ c) d e lt = (x, c, refl, e)
-longer (y ∷ a) b [] d e lt = absurd (omega arith)
-longer (y ∷ a) b (x ∷ c) d e lt =
-    let first : y ≡ x = cc in
-    let rest : a ++ b ≡ c ++ d = cc in
-    let l = longer a b c d rest (omega arith) in
-    (l.0, l.1, rw first (ap (λ (t : List ℕ). x ∷ t) l.2), l.3)
-
-alike : (a b c d : List ℕ) → a ++ b ≡ c ++ d → length a ≡ length c → (a ≡ c) × (b ≡ d)
-alike [] b [] d e same = (refl, e)
-alike [] b (x ∷ c) d e same = absurd (omega arith)
-alike (y ∷ a) b [] d e same = absurd (omega arith)
-alike (y ∷ a) b (x ∷ c) d e same =
-    let first : y ≡ x = cc in
-    let rest : a ++ b ≡ c ++ d = cc in
-    let l = alike a b c d rest (omega arith) in
-    (rw first (ap (λ (t : List ℕ). x ∷ t) l.0), l.1)
-
-shorter : (a b c d : List ℕ) → a ++ b ≡ c ++ d → length a ≤ length c → (m : List ℕ) × (c ≡ a ++ m)
-shorter [] b c d e le = (c, refl)
-shorter (y ∷ a) b [] d e le = absurd (omega arith)
-shorter (y ∷ a) b (x ∷ c) d e le =
-    let first : y ≡ x = cc in
-    let rest : a ++ b ≡ c ++ d = cc in
-    let l = shorter a b c d rest (omega arith) in
-    (l.0, rw first (ap (λ (t : List ℕ). x ∷ t) l.1))
 
 cases_result : {A : Type 0} (r : Result A Fault) → ((x : A) × (r ≡ Ok x)) ⊎ ((f : Fault) × (r ≡ Err f))
 cases_result (Ok x) = inl (x, refl)
@@ -87,35 +57,36 @@ cut_again comments part here b s some =
     stops_at : (c : ℕ) (rest more : List ℕ) (text there : List ℕ) → Stops comments text there → there ≡ c ∷ rest → IsWhole comments (text ++ c ∷ more) → ⊥
     stops_at c rest more text there s e = subst (λ (t : List ℕ). Stops comments text t → IsWhole comments (text ++ c ∷ more) → ⊥) (sym e) (λ h w. h more w) s
 
+    on : (w more : List ℕ) → IsWhole comments w → part ≡ w ++ more → ⊥
+    on w more whole e =
+        let none = whole_once comments w (more ++ b.0 ∷ b.1) whole (subst (IsWhole comments) (ap (λ (u : List ℕ). u ++ b.0 ∷ b.1) e ∙ append_assoc w more (b.0 ∷ b.1)) b.2) in
+        absurd (omega (arith, none, length-append more (b.0 ∷ b.1)))
+
+    past : (w rest : List ℕ) → part ++ here ≡ w ++ rest → IsWhole comments w → Fork part here w rest → ⊥
+    past w rest parts whole (inr (inl l)) = stops_at l.here (l.more ++ rest) l.more part here s l.left (subst (IsWhole comments) l.longer whole)
+    past w rest parts whole (inl e) = on w [] whole (e.0 ∙ sym (append-nil w))
+    past w rest parts whole (inr (inr l)) = on w (l.here ∷ l.more) whole l.longer
+
     not_read : (x : List ℕ × List ℕ) → FieldTakes comments (part ++ here) x.0 x.1 → ⊥
     not_read x t =
         let c = t.next.0 in
         let w : List ℕ = t.text ++ c ∷ [] in
         let whole : IsWhole comments w = (t.text, number_from 0 x.0, c, t.field, t.next.3, refl) in
         let parts : part ++ here ≡ w ++ t.next.1 = t.parts ∙ ap (λ (u : List ℕ). t.text ++ u) t.next.2 ∙ sym (append_assoc t.text (c ∷ []) t.next.1) in
-        elim (cases_lt (length part) (length w)) [
-          | inl lt ↦
-              let l = longer part here w t.next.1 parts lt in
-              stops_at l.0 (l.1 ++ t.next.1) l.1 part here s l.3 (subst (IsWhole comments) l.2 whole)
-          | inr ge ↦
-              let p = shorter w t.next.1 part here (sym parts) ge in
-              let on = whole_once comments w (p.0 ++ b.0 ∷ b.1) whole (subst (IsWhole comments) (ap (λ (u : List ℕ). u ++ b.0 ∷ b.1) p.1 ∙ append_assoc w p.0 (b.0 ∷ b.1)) b.2) in
-              omega (arith, on, length-append p.0 (b.0 ∷ b.1))
-        ]
+        past w t.next.1 parts whole (fork part here w t.next.1 parts)
 
     same_fault : (f : Fault) → FieldStops comments (part ++ here) f → f ≡ at_these here Number
     same_fault f t =
-        elim (cases_order (length part) (length t.part)) [
-          | inl same ↦ sym t.fault ∙ ap (λ (u : List ℕ). at_these u Number) (sym (alike part here t.part t.here t.parts same).1)
-          | inr (inl lt) ↦
-              let l = longer part here t.part t.here t.parts lt in
-              let c = t.begun.0 in
-              let more = t.begun.1 in
-              absurd (stops_at l.0 (l.1 ++ t.here) (l.1 ++ c ∷ more) part here s l.3 (subst (IsWhole comments) (ap (λ (u : List ℕ). u ++ c ∷ more) l.2 ∙ append_assoc part (l.0 ∷ l.1) (c ∷ more)) t.begun.2))
-          | inr (inr gt) ↦
-              let l = longer t.part t.here part here (sym t.parts) gt in
-              absurd (stops_at l.0 (l.1 ++ here) (l.1 ++ b.0 ∷ b.1) t.part t.here t.stops l.3 (subst (IsWhole comments) (ap (λ (u : List ℕ). u ++ b.0 ∷ b.1) l.2 ∙ append_assoc t.part (l.0 ∷ l.1) (b.0 ∷ b.1)) b.2))
-        ]
+        by (fork part here t.part t.here t.parts)
+      where
+        by : Fork part here t.part t.here → f ≡ at_these here Number
+        by (inl same) = sym t.fault ∙ ap (λ (u : List ℕ). at_these u Number) (sym same.1)
+        by (inr (inl l)) =
+            absurd (stops_at l.here (l.more ++ t.here) (l.more ++ t.begun.0 ∷ t.begun.1) part here s l.left
+            (subst (IsWhole comments) (ap (λ (u : List ℕ). u ++ t.begun.0 ∷ t.begun.1) l.longer ∙ append_assoc part (l.here ∷ l.more) (t.begun.0 ∷ t.begun.1)) t.begun.2))
+        by (inr (inr l)) =
+            absurd (stops_at l.here (l.more ++ here) (l.more ++ b.0 ∷ b.1) t.part t.here t.stops l.left
+            (subst (IsWhole comments) (ap (λ (u : List ℕ). u ++ b.0 ∷ b.1) l.longer ∙ append_assoc t.part (l.here ∷ l.more) (b.0 ∷ b.1)) b.2))
 
 -- in the place of the first white space a byte that begins none
 start_cut : (here : List ℕ) → Stops true [] here → begun true here ≡ Err (at_these here Number)

@@ -1,7 +1,6 @@
 -- What stands at the first fault of bytes that are no file.
-use Rattle.std.specs.Prelude.{◌≡◌, ℕ, ◌*◌, ◌<◌, ◌≤◌, List, [], ◌∷◌, ◌++◌, length, Bool, true, nat_le, codes, Result, Ok, Err}
+use Rattle.std.specs.Prelude.{◌≡◌, ℕ, ◌*◌, ◌<◌, ◌≤◌, List, [], ◌∷◌, ◌++◌, length, Bool, true, nat_le, codes}
 use Rattle.pf_ints.specs.declared.lane.LaneType.{LaneType}
-use Rattle.pf_ints.specs.Images.{Picture}
 use Rattle.pf_images.specs.declared.fault.PgmKind.{PgmKind}
 use Rattle.pf_images.specs.declared.fault.PgmKind.TheVariants.{Magic, Number, Size, Maxval, Short, Extra}
 use Rattle.pf_images.specs.declared.fault.ImageFault.{ImageFault}
@@ -93,16 +92,4 @@ IsFaultAt ty bytes at kind = (before here : List ℕ) × (bytes ≡ before ++ he
 
 abbrev pub IsFault : LaneType → List ℕ → ImageFault → Type 0
 IsFault ty bytes (At at kind) = IsFaultAt ty bytes at kind
-IsFault ty bytes Memory = Unit {0}
-
--- the answer is the image, unless memory ran out
-abbrev pub IsReadAs : Picture → Result Picture ImageFault → Type 0
-IsReadAs p (Ok q) = q ≡ p
-IsReadAs p (Err (At at kind)) = ⊥
-IsReadAs p (Err Memory) = Unit {0}
-
--- the answer is this fault, unless memory ran out
-abbrev pub IsToldAs : ℕ → PgmKind → Result Picture ImageFault → Type 0
-IsToldAs at kind (Ok p) = ⊥
-IsToldAs at kind (Err (At place which)) = (place ≡ at) × (which ≡ kind)
-IsToldAs at kind (Err Memory) = Unit {0}
+IsFault ty bytes Memory = ⊥

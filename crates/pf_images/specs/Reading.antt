@@ -114,7 +114,7 @@ Gives view (Ok x) read = read ≡ Ok (view x)
 Gives view (Err f) read = read ≡ Err f
 
 -- the same, with the place of a fault counted from the front; want of memory may come in place of an image
-abbrev pub Answers : List ℕ → Result Picture ImageFault → Result Picture Fault → Type 0
-Answers bytes (Ok p) read = read ≡ Ok p
-Answers bytes (Err (At at kind)) read = (at ≤ length bytes) × (read ≡ Err (record { left = length bytes - at; kind = kind }))
-Answers bytes (Err Memory) read = Unit {0}
+abbrev pub GivesImage : List ℕ → Result Picture ImageFault → Result Picture Fault → Type 0
+GivesImage bytes (Ok p) read = read ≡ Ok p
+GivesImage bytes (Err (At at kind)) read = (at ≤ length bytes) × (read ≡ Err (record { left = length bytes - at; kind = kind }))
+GivesImage bytes (Err Memory) read = Unit {0}

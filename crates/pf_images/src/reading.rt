@@ -1,10 +1,11 @@
 //! Images of PGM files.
 
-ghost use Rattle.std.specs.Prelude.{◌≡◌, ◌-◌, ◌≤◌, ◌*◌, length, ℕ, IfOk, IfErr};
-ghost use Rattle.pf_ints.specs.Images.{Picture, IsPixelType};
+ghost use Rattle.std.specs.Prelude.{◌≡◌, ◌-◌, ◌≤◌, ◌*◌, length, IfOk};
+ghost use Rattle.pf_ints.specs.Images.{IsPixelType};
+ghost use Rattle.pf_text.specs.Answers.{Decides};
 ghost use Rattle.pf_images.specs.Pgm.{IsPgm, sample_bytes};
-ghost use Rattle.pf_images.specs.Faults.{IsReadAs, IsFault, IsFaultAt, IsToldAs};
-ghost use Rattle.pf_images.specs.Reading.{Gives, Answers, counted, parts_of, pairs, pixels_of, image_of};
+ghost use Rattle.pf_images.specs.Faults.{IsFault};
+ghost use Rattle.pf_images.specs.Reading.{Gives, GivesImage, counted, parts_of, pairs, pixels_of, image_of};
 
 use crate::fault::{Fault, ImageFault, PgmKind};
 use crate::header::{Header, header_of};
@@ -106,7 +107,7 @@ fn placed(fault: Fault, bytes: &[u8]) -> ImageFault
 #[tactic(auto, unfolding(crate::specs::Reading::image_of))]
 fn image_of(alloc: Global, bytes: &[u8], ty: LaneType) -> Result<Image, ImageFault>
     requires { IsPixelType ty }
-    ensures { Answers bytes.now result (image_of ty bytes.now) }
+    ensures { GivesImage bytes.now result (image_of ty bytes.now) }
 {
     match parts_of(bytes, ty) {
         Ok((header, samples)) => {
@@ -130,14 +131,8 @@ fn image_of(alloc: Global, bytes: &[u8], ty: LaneType) -> Result<Image, ImageFau
 /// stand before it.
 pub fn read_pgm(alloc: Global, bytes: &[u8], ty: LaneType) -> Result<Image, ImageFault>
     requires { IsPixelType ty }
-    // What is read is spelled so.
-    ensures found { IfOk result (λ image. IsPgm bytes.now ty image) }
-    // What is spelled so is read, unless memory runs out.
-    ensures only { (p : Picture) → IsPgm bytes.now ty p → IsReadAs p result }
-    // A fault stands where it is told.
-    ensures fault { IfErr result (IsFault ty bytes.now) }
-    // Where a fault stands, it is told, unless memory runs out.
-    ensures told { (at : ℕ) (kind : PgmKind) → IsFaultAt ty bytes.now at kind → IsToldAs at kind result }
+    // The image of the bytes is read, or their first fault is told, unless memory runs out.
+    ensures { Decides ImageFault.Memory (IsPgm bytes.now ty) (IsFault ty bytes.now) result }
 {
     image_of(alloc, bytes, ty)
 }

@@ -39,15 +39,14 @@ leading_are_digits (c ∷ t) =
 pub digit_most : (c : ℕ) → is_digit c ≡ true → c ≤ 57
 digit_most c e = grind (arith, nat_tests)
 
--- one digit more still fits 64 bits
-pub next_fits : (i n : ℕ) → n < 10 ^ i → i < 19 → 10 * n + 9 < 2 ^ 64
-next_fits i n h l =
-    let few : i ≤ 18 = omega arith in
+-- 19 digits fit 64 bits
+pub few_digits : (n k : ℕ) → n < 10 ^ k → k ≤ 19 → n < 2 ^ 64
+few_digits n k h few =
     let some : 1 ≤ 10 = omega arith in
-    let power : 10 ^ i ≤ 10 ^ 18 = pow-le-pow_right some few in
+    let power : 10 ^ k ≤ 10 ^ 19 = pow-le-pow_right some few in
     omega arith
 
--- the same of 128 bits, for one digit more than fit 64
+-- 20 digits fit 128 bits
 pub more_fits : (i n : ℕ) → n < 10 ^ i → i < 20 → 10 * n + 9 < 2 ^ 128
 more_fits i n h l =
     let few : i ≤ 19 = omega arith in

@@ -6,6 +6,7 @@ use Rattle.std.specs.List.{AllPairs, AllZip}
 use Rattle.std.proofs.lemmas.Bool.{cases_Bool}
 use Rattle.std.proofs.lemmas.Slice.Eq.{bytes_eq-Decides}
 use Rattle.std.proofs.lemmas.List.{append-nil, map-append, map_push}
+use Rattle.pf_text.proofs.OneFault.{steps_on}
 use Rattle.pf_ints.specs.declared.target.Target.{Target}
 use Rattle.pf_ints.specs.Words.{is_name, is_reserved}
 use Rattle.pf_terms.specs.declared.kernel.Definition.{Definition}
@@ -18,13 +19,12 @@ use Rattle.pf_isa.specs.declared.so_far.Stage.TheVariants.{Declarations, Scratch
 use Rattle.pf_isa.specs.Heads.{image_name, def_name, with_def, IsDecl, IsTap, IsLifted, AreLifted, AreLiftedNames, IsHead}
 use Rattle.pf_isa.specs.Lines.{IsLine}
 use Rattle.pf_isa.specs.Texts.{IsHeadText, AreLiftedLines, target_line, image_line, tap_line, out_line, scratch_line, declaration_lines}
-use Rattle.pf_isa.specs.TextFaults.{SoFar, nothing, names_so_far, nodes_so_far, stage_behind, IsNextImage, IsNextTap, IsNextLifted, GoOn}
+use Rattle.pf_isa.specs.TextFaults.{SoFar, nothing, names_so_far, nodes_so_far, stage_behind, IsNextImage, IsNextTap, IsNextLifted, GoesOn, GoOn}
 use Rattle.pf_isa.specs.HeadSteps.{whole}
 use Rattle.pf_isa.proofs.ListLaws.{item_at, fresh, sum_split, zip_split}
 
 pub go_on : (a b c : SoFar) (xs ys : List (List ℕ)) → GoOn a xs b → GoOn b ys c → GoOn a (xs ++ ys) c
-go_on a b c [] ys h k = subst (λ s. GoOn s ys c) (sym h) k
-go_on a b c (x ∷ xs) ys h k = (h.0, h.1, go_on h.0 b c xs ys h.2 k)
+go_on a b c xs ys h k = steps_on SoFar (List ℕ) GoesOn a b c xs ys h k
 
 -- the first images of a head; its images and first taps; and so on
 abbrev pub with_images : List ImageDecl → List Tap → Head

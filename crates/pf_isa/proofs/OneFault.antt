@@ -1,8 +1,9 @@
 -- A text has one first fault, and it is told.
-use Rattle.std.proofs.Common.{◌≡◌, ◌≢◌, refl, sym, ap, ◌∙◌, subst, inl, inr, ℕ, suc, ◌+◌, List, [], ◌∷◌, ◌++◌, length, drop, arith, All}
+use Rattle.std.proofs.Common.{◌≡◌, refl, sym, ap, ◌∙◌, subst, inl, inr, ℕ, ◌+◌, List, ◌∷◌, ◌++◌, length, drop, All}
 use Rattle.std.specs.Prelude.{◌⊎◌, Result, Ok, Err, IfOk, IfErr}
 use Rattle.std.specs.Str.Lines.{lines}
 use Rattle.std.proofs.lemmas.List.{drop_at}
+use Rattle.pf_text.proofs.Lists.{IsFurther, fork_at}
 use Rattle.pf_ints.specs.declared.target.Target.{Target}
 use Rattle.pf_isa.specs.declared.code.Label.{Label}
 use Rattle.pf_isa.specs.declared.code.Line.{Line}
@@ -11,112 +12,12 @@ use Rattle.pf_isa.specs.declared.fault.TextFault.TheVariants.{At, Memory}
 use Rattle.pf_isa.specs.declared.fault.TextKind.{TextKind}
 use Rattle.pf_isa.specs.declared.fault.TextKind.TheVariants.{Target as TargetFault, Directive, Instruction, Label as LabelFault, NoEnd}
 use Rattle.pf_isa.specs.declared.program.Head.{Head}
-use Rattle.pf_isa.specs.declared.so_far.Stage.TheVariants.{Code}
 use Rattle.pf_isa.specs.Heads.{IsHead}
-use Rattle.pf_isa.specs.Lines.{IsLine}
 use Rattle.pf_isa.specs.Programs.{Text}
 use Rattle.pf_isa.specs.Tables.{Table, IsTable}
-use Rattle.pf_isa.specs.Texts.{Said, Named, IsHeadText, IsCodeText, target_line}
-use Rattle.pf_isa.specs.TextFaults.{SoFar, nothing, GoesOn, GoesOnAt, GoOn, Stops, IsFor, IsHeadFaultAt, label_names, HasPlace, IsLineFault, IsBadLine, IsBadJump, IsOpenEnd, IsCodeFaultAt, IsCodeRefusal, IsTextFault, IsHeadOr, IsTextFaultOr}
+use Rattle.pf_isa.specs.Texts.{Said, Named, IsHeadText, IsCodeText}
+use Rattle.pf_isa.specs.TextFaults.{IsHeadFaultAt, label_names, HasPlace, IsLineFault, IsBadLine, IsBadJump, IsOpenEnd, IsCodeFaultAt, IsCodeRefusal, IsTextFault, IsHeadOr, IsTextFaultOr}
 use Rattle.pf_isa.proofs.CodeOnce.{all_said, middle, no_bad_line, no_bad_jump, no_fault}
-use Rattle.pf_isa.proofs.ReadingLaws.{first_same, rest_same}
-
--- ---- the lines of a head
-
-stopped_stage : (s : SoFar) (ls : List (List ℕ)) → Stops s ls → s.stage ≢ Code
-stopped_stage s [] h = h
-stopped_stage s (l ∷ ls) h = h.0
-
--- a head that is whole doesn't stop
-pub whole_goes : (s : SoFar) → s.stage ≡ Code → (front rest : List (List ℕ)) (end : SoFar) → GoOn s front end → Stops end rest → ⊥
-whole_goes s is [] rest end k stops = stopped_stage end rest stops (ap (λ (t : SoFar). t.stage) (sym k) ∙ is)
-whole_goes s is (x ∷ front) rest end k stops = subst (λ st. GoesOnAt st s.head x k.0) is k.1
-
-first_told : (n at : ℕ) (f : TextFault) → f ≡ At (n + 1) Directive → at ≡ n + 0 + 1 → IsTextFaultOr {A = Head × ℕ} at Directive (Err f)
-first_told n at f told is = subst (λ e. IsTextFaultOr {A = Head × ℕ} at Directive (Err e)) (sym told) (omega (arith, is), refl)
-
--- where no line is left
-pub told_at_end : (s : SoFar) (n : ℕ) (ls : List (List ℕ)) (f : TextFault) → f ≡ At (n + 1) Directive → ls ≡ [] → (front rest : List (List ℕ)) (end : SoFar) → ls ≡ front ++ rest → GoOn s front end → Stops end rest
-    → IsTextFaultOr {A = Head × ℕ} (n + length front + 1) Directive (Err f)
-told_at_end s n ls f told none [] rest end all k stops = first_told n _ f told refl
-told_at_end s n ls f told none (x ∷ front) rest end all k stops = absurd (let long : 0 ≡ suc (length (front ++ rest)) = ap (λ (l : List (List ℕ)). length l) (sym none ∙ all) in omega (arith, long))
-
--- where the next line doesn't go on
-pub told_here : (s : SoFar) (n : ℕ) (ls : List (List ℕ)) (line : List ℕ) (behind : List (List ℕ)) (f : TextFault) → f ≡ At (n + 1) Directive → ls ≡ line ∷ behind → ((next : SoFar) → GoesOn s line next → ⊥)
-    → (front rest : List (List ℕ)) (end : SoFar) → ls ≡ front ++ rest → GoOn s front end → Stops end rest → IsTextFaultOr {A = Head × ℕ} (n + length front + 1) Directive (Err f)
-told_here s n ls line behind f told is none [] rest end all k stops = first_told n _ f told refl
-told_here s n ls line behind f told is none (x ∷ front) rest end all k stops =
-    let same : line ≡ x = first_same line x behind (front ++ rest) (sym is ∙ all) in
-    absurd (none k.0 (subst (λ l. GoesOn s l k.0) (sym same) k.1))
-
-counted : (n k : ℕ) → n + 1 + k + 1 ≡ n + suc k + 1
-counted n k = omega arith
-
--- where it goes on
-pub told_on : (s next : SoFar) (line : List ℕ) (ls behind : List (List ℕ)) (n : ℕ) (r : Result (Head × ℕ) TextFault) → ls ≡ line ∷ behind → GoesOn s line next → ((other : SoFar) → GoesOn s line other → other ≡ next)
-    → ((front rest : List (List ℕ)) (end : SoFar) → behind ≡ front ++ rest → GoOn next front end → Stops end rest → IsTextFaultOr (n + 1 + length front + 1) Directive r)
-    → (front rest : List (List ℕ)) (end : SoFar) → ls ≡ front ++ rest → GoOn s front end → Stops end rest → IsTextFaultOr (n + length front + 1) Directive r
-told_on s next line ls behind n r is goes only more [] rest end all k stops =
-    let here : Stops end (line ∷ behind) = subst (Stops end) (sym all ∙ is) stops in
-    absurd (here.1 next (subst (λ t. GoesOn t line next) k goes))
-told_on s next line ls behind n r is goes only more (x ∷ front) rest end all k stops =
-    let same : line ≡ x = first_same line x behind (front ++ rest) (sym is ∙ all) in
-    let further : behind ≡ front ++ rest = rest_same line x behind (front ++ rest) (sym is ∙ all) in
-    let step : k.0 ≡ next = only k.0 (subst (λ l. GoesOn s l k.0) (sym same) k.1) in
-    let told = more front rest end further (subst (λ t. GoOn t front end) step k.2) stops in
-    subst (λ m. IsTextFaultOr m Directive r) (counted n (length front)) told
-
--- ---- the head of a text
-
-pub target_told : (target : Target) (ls : List (List ℕ)) (f : TextFault) → f ≡ At 1 TargetFault → (IsFor target ls → ⊥) → (at : ℕ) (kind : TextKind) → IsHeadFaultAt target ls at kind → IsTextFaultOr {A = Head × ℕ} at kind (Err f)
-target_told target ls f told other at TargetFault h = subst (λ e. IsTextFaultOr {A = Head × ℕ} at TargetFault (Err e)) (sym told) (sym h.0, refl)
-target_told target [] f told other at Directive h = absurd h
-target_told target (l ∷ ls) f told other at Directive h = absurd (other h.0)
-target_told target ls f told other at Instruction h = absurd h
-target_told target ls f told other at LabelFault h = absurd h
-target_told target ls f told other at NoEnd h = absurd h
-
-rest_told : (target : Target) (first : List ℕ) (rest : List (List ℕ)) (r : Result (Head × ℕ) TextFault) → IsLine first (target_line target)
-    → ((front behind : List (List ℕ)) (end : SoFar) → rest ≡ front ++ behind → GoOn nothing front end → Stops end behind → IsTextFaultOr (1 + length front + 1) Directive r)
-    → (at : ℕ) (kind : TextKind) → IsHeadFaultAt target (first ∷ rest) at kind → IsTextFaultOr at kind r
-rest_told target first rest r is told at TargetFault h = absurd (h.1 is)
-rest_told target first rest r is told at Directive (for_target, (n, fault, at_is)) =
-    let place : 1 + length fault.front + 1 ≡ at = omega (arith, at_is, fault.count) in
-    subst (λ m. IsTextFaultOr m Directive r) place (told fault.front fault.rest fault.so_far fault.parts fault.begun fault.stops)
-rest_told target first rest r is told at Instruction h = absurd h
-rest_told target first rest r is told at LabelFault h = absurd h
-rest_told target first rest r is told at NoEnd h = absurd h
-
-pub head_told : (target : Target) (ls : List (List ℕ)) (first : List ℕ) (rest : List (List ℕ)) (r : Result (Head × ℕ) TextFault) → ls ≡ first ∷ rest → IsLine first (target_line target)
-    → ((front behind : List (List ℕ)) (end : SoFar) → rest ≡ front ++ behind → GoOn nothing front end → Stops end behind → IsTextFaultOr (1 + length front + 1) Directive r)
-    → (at : ℕ) (kind : TextKind) → IsHeadFaultAt target ls at kind → IsTextFaultOr at kind r
-head_told target ls first rest r is for_target told at kind h = rest_told target first rest r for_target told at kind (subst (λ l. IsHeadFaultAt target l at kind) is h)
-
--- ---- two ways to part a list
-
-abbrev Longer : {A : Type 0} → List A → A → List A → Type 0
-Longer {A} front x other = (more : List A) × (other ≡ front ++ x ∷ more)
-
-abbrev Fork : {A : Type 0} → List A → List A → A → A → Type 0
-Fork front other x y = ((front ≡ other) × (x ≡ y)) ⊎ (Longer front x other ⊎ Longer other y front)
-
-heads_same : {A : Type 0} (x y : A) (xs ys : List A) → x ∷ xs ≡ y ∷ ys → x ≡ y
-heads_same x y xs ys e = cc
-
-tails_same : {A : Type 0} (x y : A) (xs ys : List A) → x ∷ xs ≡ y ∷ ys → xs ≡ ys
-tails_same x y xs ys e = cc
-
-fork_on : {A : Type 0} (z w : A) (front other : List A) (x y : A) → z ≡ w → Fork front other x y → Fork (z ∷ front) (w ∷ other) x y
-fork_on z w front other x y e (inl h) = inl (ap (λ u. u ∷ front) e ∙ ap (λ l. w ∷ l) h.0, h.1)
-fork_on z w front other x y e (inr (inl h)) = inr (inl (h.0, ap (λ u. u ∷ other) (sym e) ∙ ap (λ l. z ∷ l) h.1))
-fork_on z w front other x y e (inr (inr h)) = inr (inr (h.0, ap (λ u. u ∷ front) e ∙ ap (λ l. w ∷ l) h.1))
-
-fork : {A : Type 0} (front other : List A) (x y : A) (rest behind : List A) → front ++ x ∷ rest ≡ other ++ y ∷ behind → Fork front other x y
-fork [] [] x y rest behind e = inl (refl, heads_same x y rest behind e)
-fork [] (w ∷ other) x y rest behind e = inr (inl (other, ap (λ u. u ∷ other) (sym (heads_same x w rest (other ++ y ∷ behind) e))))
-fork (z ∷ front) [] x y rest behind e = inr (inr (front, ap (λ u. u ∷ front) (heads_same z y (front ++ x ∷ rest) behind e)))
-fork (z ∷ front) (w ∷ other) x y rest behind e =
-    fork_on z w front other x y (heads_same z w (front ++ x ∷ rest) (other ++ y ∷ behind) e) (fork front other x y rest behind (tails_same z w (front ++ x ∷ rest) (other ++ y ∷ behind) e))
 
 -- ---- the lines behind the head
 
@@ -138,31 +39,31 @@ module _ (I O : Type 0) (t : Table O) (is_op : O → Type 0) (laws : IsTable t i
 
   module _ (start : ℕ) (ls : List (List ℕ)) where
     -- a line with a fault isn't among those before another
-    not_before : (m n : ℕ) (k l : TextKind) (h : IsBadLine I t is_op ls m k) (i : IsBadLine I t is_op ls n l) → Longer h.front h.line i.front → ⊥
+    not_before : (m n : ℕ) (k l : TextKind) (h : IsBadLine I t is_op ls m k) (i : IsBadLine I t is_op ls n l) → IsFurther h.front h.line i.front → ⊥
     not_before m n k l h i more =
         no_bad_line t is_op laws i.front i.said i.before.each i.before.distinct m k
         (record { front = h.front; line = h.line; rest = more.0; said = h.said; parts = more.1; count = h.count; before = h.before; fault = h.fault })
 
     one_line : (m n : ℕ) (k l : TextKind) → IsBadLine I t is_op ls m k → IsBadLine I t is_op ls n l → (m ≡ n) × (k ≡ l)
-    one_line m n k l h i = by (fork h.front i.front h.line i.line h.rest i.rest (sym h.parts ∙ i.parts)) where
-      by : Fork h.front i.front h.line i.line → (m ≡ n) × (k ≡ l)
+    one_line m n k l h i = by (fork_at h.front i.front h.line i.line h.rest i.rest (sym h.parts ∙ i.parts)) where
+      by : ((h.front ≡ i.front) × (h.line ≡ i.line)) ⊎ (IsFurther h.front h.line i.front ⊎ IsFurther i.front i.line h.front) → (m ≡ n) × (k ≡ l)
       by (inl same) = (h.count ∙ ap (λ (l : List (List ℕ)). length l) same.0 ∙ sym i.count, one_kind h.said i.said i.line k l (subst (λ x. IsLineFault t is_op h.said x k) same.1 h.fault) i.fault)
       by (inr (inl more)) = absurd (not_before m n k l h i more)
       by (inr (inr more)) = absurd (not_before n m l k i h more)
 
     -- nor does a jump without a label stand before another
-    jump_before : (m n : ℕ) (h : IsBadJump I t is_op ls m) (i : IsBadJump I t is_op ls n) → h.front ++ h.jump ∷ h.rest ≡ i.front ++ i.jump ∷ i.rest → Longer h.front h.jump i.front → ⊥
+    jump_before : (m n : ℕ) (h : IsBadJump I t is_op ls m) (i : IsBadJump I t is_op ls n) → h.front ++ h.jump ∷ h.rest ≡ i.front ++ i.jump ∷ i.rest → IsFurther h.front h.jump i.front → ⊥
     jump_before m n h i all more =
         let names : label_names (i.front ++ i.jump ∷ i.rest) ≡ label_names (h.front ++ h.jump ∷ h.rest) = ap label_names (sym all) in
         let before : All (HasPlace (label_names (i.front ++ i.jump ∷ i.rest))) (h.front ++ h.jump ∷ more.0) = subst (λ s. All (HasPlace (label_names (i.front ++ i.jump ∷ i.rest))) s) more.1 i.before in
         h.missing (subst (λ ns. HasPlace ns h.jump) names (middle (HasPlace (label_names (i.front ++ i.jump ∷ i.rest))) h.front h.jump more.0 before))
 
     one_jump : (m n : ℕ) → IsBadJump I t is_op ls m → IsBadJump I t is_op ls n → m ≡ n
-    one_jump m n h i = by (fork h.front i.front h.jump i.jump h.rest i.rest all) where
+    one_jump m n h i = by (fork_at h.front i.front h.jump i.jump h.rest i.rest all) where
       all : h.front ++ h.jump ∷ h.rest ≡ i.front ++ i.jump ∷ i.rest
       all = all_said t is_op laws ls (h.front ++ h.jump ∷ h.rest) (i.front ++ i.jump ∷ i.rest) h.read.each i.read.each
 
-      by : Fork h.front i.front h.jump i.jump → m ≡ n
+      by : ((h.front ≡ i.front) × (h.jump ≡ i.jump)) ⊎ (IsFurther h.front h.jump i.front ⊎ IsFurther i.front i.jump h.front) → m ≡ n
       by (inl same) = h.count ∙ ap (λ (l : List (Said I O)). length l) same.0 ∙ sym i.count
       by (inr (inl more)) = absurd (jump_before m n h i all more)
       by (inr (inr more)) = absurd (jump_before n m i h (sym all) more)

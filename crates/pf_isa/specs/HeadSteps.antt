@@ -1,5 +1,7 @@
 -- How a head goes on by the words of a line.
-use Rattle.std.specs.Prelude.{◌≡◌, ℕ, ◌+◌, ◌^◌, ◌≤◌, ◌<◌, ◌⊎◌, List, ◌++◌, length, map, codes, Contains, IsTrue}
+use Rattle.std.specs.Prelude.{◌≡◌, ℕ, ◌+◌, ◌^◌, ◌≤◌, ◌<◌, ◌⊎◌, List, ◌∷◌, ◌++◌, length, map, codes, Contains, IsTrue}
+use Rattle.pf_text.specs.FirstFaults.{OnlySteps}
+use Rattle.pf_ints.specs.declared.target.Target.{Target}
 use Rattle.pf_ints.specs.Images.{IsPixelType}
 use Rattle.pf_ints.specs.declared.lane.LaneType.{LaneType}
 use Rattle.pf_terms.specs.declared.kernel.Definition.{Definition}
@@ -15,11 +17,13 @@ use Rattle.pf_isa.specs.declared.program.Head.{Head}
 use Rattle.pf_isa.specs.declared.so_far.Stage.{Stage}
 use Rattle.pf_isa.specs.declared.so_far.Stage.TheVariants.{Declarations, Scratch, Lifted, Cost, Code}
 use Rattle.pf_isa.specs.Heads.{image_name, IsLifted}
+use Rattle.pf_isa.specs.Lines.{IsLine}
+use Rattle.pf_isa.specs.Texts.{target_line}
 use Rattle.pf_isa.specs.HeadWords.{image_words, tap_words, out_words, scratch_words, cost_words}
 use Rattle.pf_isa.specs.declared.fault.TextFault.{TextFault}
-use Rattle.pf_isa.specs.declared.fault.TextFault.TheVariants.{At, Memory}
-use Rattle.pf_isa.specs.declared.fault.TextKind.TheVariants.{Directive}
-use Rattle.pf_isa.specs.TextFaults.{SoFar, nothing, GoOn, Stops, names_in, names_so_far, nodes_so_far, with_image, with_tap, with_lifted, IsNextImage, IsNextTap, stage_behind}
+use Rattle.pf_isa.specs.declared.fault.TextFault.TheVariants.{At}
+use Rattle.pf_isa.specs.declared.fault.TextKind.TheVariants.{Target as TargetFault, Directive}
+use Rattle.pf_isa.specs.TextFaults.{SoFar, nothing, GoesOn, GoOn, Stops, IsFor, names_in, names_so_far, nodes_so_far, with_image, with_tap, with_lifted, IsNextImage, IsNextTap, stage_behind}
 
 abbrev pub ImageGoesOn : Head → ImageDecl → SoFar → Type 0
 ImageGoesOn h d next = IsNextImage h d × (next ≡ record { stage = Declarations; head = with_image h d })
@@ -80,13 +84,20 @@ IsReached s = (before : List (List ℕ)) × GoOn nothing before s
 abbrev pub whole : Head → SoFar
 whole h = record { stage = Code; head = h }
 
--- from here the first lines say the rest of the head, which so many lines have in all
-abbrev pub IsWholeFrom : SoFar → List (List ℕ) → ℕ → Head → ℕ → Type 0
-IsWholeFrom s ls n h m = (front : List (List ℕ)) × (back : List (List ℕ)) × (ls ≡ front ++ back) × (m ≡ n + length front) × GoOn s front (whole h)
+-- from here the first lines say the rest of the head and nothing else, and so many lines say it in all
+abbrev pub IsWholeFrom : SoFar → List (List ℕ) → ℕ → Head × ℕ → Type 0
+IsWholeFrom s ls n r = (front : List (List ℕ)) × (back : List (List ℕ)) × (ls ≡ front ++ back) × (r.1 ≡ n + length front) × OnlySteps GoesOn s front (whole r.0)
 
 -- from here no head is said, and it stops at this line
 abbrev pub IsStopped : SoFar → List (List ℕ) → ℕ → TextFault → Type 0
-IsStopped s ls n (At at Directive) =
-    (front : List (List ℕ)) × (rest : List (List ℕ)) × (end : SoFar) × (ls ≡ front ++ rest) × (at ≡ n + length front + 1) × GoOn s front end × Stops end rest
-IsStopped s ls n (At at _) = ⊥
-IsStopped s ls n Memory = Unit {0}
+IsStopped s ls n f =
+    (front : List (List ℕ)) × (rest : List (List ℕ)) × (end : SoFar) × (ls ≡ front ++ rest) × (f ≡ At (n + length front + 1) Directive) × OnlySteps GoesOn s front end × Stops end rest
+
+-- what is read of a head's lines, and what is wrong with them
+abbrev pub IsHeadWay : Target → List (List ℕ) → Head × ℕ → Type 0
+IsHeadWay target ls r = (first : List ℕ) × (rest : List (List ℕ)) × (ls ≡ first ∷ rest) × IsLine first (target_line target) × IsWholeFrom nothing rest 1 r
+
+abbrev pub IsHeadStop : Target → List (List ℕ) → TextFault → Type 0
+IsHeadStop target ls f =
+    ((f ≡ At 1 TargetFault) × (IsFor target ls → ⊥))
+    ⊎ ((first : List ℕ) × (rest : List (List ℕ)) × (ls ≡ first ∷ rest) × IsLine first (target_line target) × IsStopped nothing rest 1 f)

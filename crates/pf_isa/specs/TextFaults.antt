@@ -4,6 +4,7 @@ use Rattle.std.specs.List.{AllPairs, AllZip, last_or}
 use Rattle.std.specs.Str.{bytes_eq}
 use Rattle.std.specs.Str.Lines.{lines}
 use Rattle.std.specs.Borrow.{Bor}
+use Rattle.pf_text.specs.FirstFaults.{Steps}
 use Rattle.pf_ints.specs.Images.{IsPixelType}
 use Rattle.pf_ints.specs.Words.{is_name}
 use Rattle.pf_ints.specs.declared.lane.LaneType.{LaneType}
@@ -112,8 +113,7 @@ GoesOn s line next = GoesOnAt s.stage s.head line next
 
 -- lines go on one after another
 abbrev pub GoOn : SoFar → List (List ℕ) → SoFar → Type 0
-GoOn s [] end = s ≡ end
-GoOn s (line ∷ ls) end = (next : SoFar) × GoesOn s line next × GoOn next ls end
+GoOn s ls end = Steps GoesOn s ls end
 
 -- the text ends within the head, or its next line doesn't go on
 abbrev pub Stops : SoFar → List (List ℕ) → Type 0

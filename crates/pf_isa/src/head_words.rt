@@ -1,16 +1,15 @@
-ghost use Rattle.std.specs.Prelude.{◌≡◌, ◌≢◌, neg_ℤ, slice_index_or, ℕ, List, [], ◌∷◌, ◌<◌, ◌≤◌, ◌^◌, pos, length, All, MatchOption, IsTrue, ◌↔◌, decimal, true};
+ghost use Rattle.std.specs.Prelude.{◌≡◌, ◌≢◌, neg_ℤ, slice_index_or, ℕ, List, [], ◌∷◌, ◌<◌, ◌≤◌, ◌^◌, pos, length, MatchOption, IsTrue, ◌↔◌, decimal};
 ghost use Rattle.std.specs.List.{list_all, AllPairs};
 ghost use Rattle.std.specs.Fmt.{signed_decimal};
 ghost use Rattle.pf_ints.specs.Images.{IsPixelType};
-ghost use Rattle.pf_ints.specs.Lanes.{greatest, IsIn};
+ghost use Rattle.pf_ints.specs.Lanes.{IsIn};
 ghost use Rattle.pf_ints.specs.Words.{is_name, is_digit};
 ghost use Rattle.pf_terms.specs.TermTexts.{type_word, no_image};
 ghost use Rattle.pf_isa.specs.Heads.{IsDecl, IsTap};
 ghost use Rattle.pf_isa.specs.HeadWords.{IsTheOne, IsOffset, image_words, tap_words, lifted_words, IsLiftedName, out_words, scratch_words, cost_words};
-ghost use Rattle.pf_isa.specs.Scan.{number_on};
 ghost use Rattle.pf_isa.specs.TextFaults.{texts};
 
-use crate::scan::behind;
+use crate::scan::{behind, value_of_digits};
 use itoa::Buffer;
 use pf_ints::{LaneType, Name, is_digit, is_name};
 use pf_terms::{ImageDecl, ImageName, Tap, type_of_word};
@@ -44,18 +43,6 @@ fn is_printed(n: u64, word: &[u8]) -> bool
 {
     let mut buffer = Buffer::new();
     buffer.format(n).as_bytes() == word
-}
-
-fn value_of_digits(digits: &[u8]) -> u128
-    requires few { length digits.now ≤ 20 }
-    requires digits { All (λ c. is_digit c ≡ true) digits.now }
-    ensures { result ≡ number_on 0 digits.now }
-{
-    let mut n: u128 = 0;
-    for digit in digits {
-        n = 10 * n + u128::from(*digit - b'0');
-    }
-    n
 }
 
 /// The offset from -64 to 64 that the word writes.

@@ -1,10 +1,11 @@
 ghost use Rattle.std.specs.Prelude.{◌≡◌, ◌+◌, ◌<◌, ◌≤◌, ◌^◌, ℕ, List, ◌++◌, length, take, IfOk, IfErr};
+ghost use Rattle.pf_text.specs.Answers.{Answers};
 ghost use Rattle.pf_isa.specs.declared.fault.TextKind.{TextKind};
 ghost use Rattle.pf_isa.specs.declared.program.Head.{Head};
 ghost use Rattle.pf_isa.specs.Heads.{IsHead};
-ghost use Rattle.pf_isa.specs.HeadSteps.{IsReached, IsWholeFrom, IsStopped, whole};
+ghost use Rattle.pf_isa.specs.HeadSteps.{IsReached, IsWholeFrom, IsStopped, IsHeadWay, IsHeadStop};
 ghost use Rattle.pf_isa.specs.Texts.{IsHeadText};
-ghost use Rattle.pf_isa.specs.TextFaults.{texts, SoFar, GoOn, Stops, IsHeadFaultAt, IsHeadRefusal, IsHeadOr, IsTextFaultOr};
+ghost use Rattle.pf_isa.specs.TextFaults.{texts, IsHeadFaultAt, IsHeadRefusal, IsHeadOr, IsTextFaultOr};
 
 use crate::fault::{TextFault, TextKind};
 use crate::program::Head;
@@ -21,6 +22,12 @@ pub fn read_head(alloc: Global, target: Target, lines: &[&[u8]]) -> Result<(Head
     ensures only { (h : Head) (front back : List (List ℕ)) → texts lines.now ≡ front ++ back → IsHeadText target front h → IsHead h → IsHeadOr h (length front) result }
     ensures fault { IfErr result (IsHeadRefusal target (texts lines.now)) }
     ensures told { (at : ℕ) (kind : TextKind) → IsHeadFaultAt target (texts lines.now) at kind → IsTextFaultOr at kind result }
+{
+    way_of(alloc, target, lines)
+}
+
+fn way_of(alloc: Global, target: Target, lines: &[&[u8]]) -> Result<(Head, usize), TextFault>
+    ensures { Answers TextFault.Memory (IsHeadWay target (texts lines.now)) (IsHeadStop target (texts lines.now)) result }
 {
     let [first, rest @ ..] = lines else {
         return Err(no_target());
@@ -49,10 +56,7 @@ fn read_rest(
 ) -> Result<(Head, usize), TextFault>
     requires reached { IsReached so_far }
     requires fits { n + length lines.now + 1 < 2 ^ 64 }
-    ensures whole { IfOk result (λ r. IsWholeFrom so_far (texts lines.now) n r.0 r.1) }
-    ensures only { (h : Head) (front back : List (List ℕ)) → texts lines.now ≡ front ++ back → GoOn so_far front (whole h) → IsHeadOr h (n + length front) result }
-    ensures fault { IfErr result (IsStopped so_far (texts lines.now) n) }
-    ensures told { (front rest : List (List ℕ)) (end : SoFar) → texts lines.now ≡ front ++ rest → GoOn so_far front end → Stops end rest → IsTextFaultOr (n + length front + 1) TextKind.Directive result }
+    ensures { Answers TextFault.Memory (IsWholeFrom so_far (texts lines.now) n) (IsStopped so_far (texts lines.now) n) result }
 {
     if so_far.is_whole() {
         return Ok((so_far.into_head(), n));

@@ -1,4 +1,4 @@
-ghost use Rattle.std.specs.Prelude.{◌≡◌, ◌≤◌, length, MatchOption, None, Some, All, true, IsTrue, ◌↔◌, ◌<◌};
+ghost use Rattle.std.specs.Prelude.{◌≡◌, ◌≤◌, length, MatchOption, None, Some, All, true, IsTrue, ◌↔◌, ◌<◌, ◌^◌};
 ghost use Rattle.pf_ints.specs.Words.{is_digit};
 ghost use Rattle.pf_isa.specs.Control.{is_offset, IsControl};
 ghost use Rattle.pf_isa.specs.Scan.{behind, leading_digits, behind_digits, from_digit, number_on, number_at, next_number};
@@ -38,21 +38,23 @@ fn from_digit(text: &[u8]) -> &[u8]
     &text[text.len()..]
 }
 
-/// The number that at most 19 digits write.
-fn number_of(digits: &[u8]) -> u64
-    requires few { length digits.now ≤ 19 }
+/// The number that at most 20 digits write.
+pub fn value_of_digits(digits: &[u8]) -> u128
+    requires few { length digits.now ≤ 20 }
     requires digits { All (λ c. is_digit c ≡ true) digits.now }
-    ensures { result ≡ number_on 0 digits.now }
+    ensures value { result ≡ number_on 0 digits.now }
+    ensures small { result < 10 ^ length digits.now }
 {
-    let mut n: u64 = 0;
+    let mut n: u128 = 0;
     for digit in digits {
-        n = 10 * n + u64::from(*digit - b'0');
+        n = 10 * n + u128::from(*digit - b'0');
     }
     n
 }
 
 /// A decimal number without a leading zero at the front of the text, and what follows it, or None
 /// where there is none of at most 19 digits.
+#[tactic(auto, using(crate::proofs::Fronts::few_digits))]
 pub fn number_at(text: &[u8]) -> Option<(u64, &[u8])>
     ensures { MatchOption result (number_at text.now ≡ None) (λ p. number_at text.now ≡ Some (p.0, p.1.now)) }
 {
@@ -61,7 +63,7 @@ pub fn number_at(text: &[u8]) -> Option<(u64, &[u8])>
     if many < 1 || 19 < many || (digits[0] == b'0' && 1 < many) {
         return None;
     }
-    Some((number_of(digits), rest))
+    Some((value_of_digits(digits) as u64, rest))
 }
 
 /// The number at the first digit of the text, and what follows it, or None where there is none.

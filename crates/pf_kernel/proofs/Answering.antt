@@ -1,19 +1,18 @@
 -- The answer to a line with an expression, by the answer to the expression.
-use Rattle.std.proofs.Common.{◌≡◌, refl, sym, ◌∙◌, ap, subst, ℕ, ◌+◌, Bool, true, false, List, ◌∷◌, length}
-use Rattle.std.specs.Prelude.{Option, Some, Result, Ok, Err}
+use Rattle.std.proofs.Common.{◌≡◌, refl, sym, ◌∙◌, ap, subst, inl, inr, ℕ, ◌+◌, Bool, true, false, List, ◌∷◌, length}
+use Rattle.std.specs.Prelude.{◌⊎◌, Option, Some, Result, Ok, Err}
 use Rattle.std.specs.Option.{option_or}
 use Rattle.pf_ints.specs.declared.lane.LaneType.{LaneType}
 use Rattle.pf_terms.specs.declared.draft.Draft.{Draft}
 use Rattle.pf_terms.specs.declared.meaning.ReadFault.{ReadFault}
-use Rattle.pf_terms.specs.declared.meaning.ReadFault.TheVariants.{Syntax, Name, Types, Amount, Limit, Memory}
+use Rattle.pf_terms.specs.declared.meaning.ReadFault.TheVariants.{Syntax, Name, Memory}
 use Rattle.pf_terms.specs.declared.names.Names.{Names}
 use Rattle.pf_terms.specs.declared.term.Term.{Term}
-use Rattle.pf_terms.specs.Drafts.{IsDraftText}
 use Rattle.pf_terms.specs.Meanings.{first_some}
-use Rattle.pf_kernel.specs.declared.front.Front.TheVariants.{Def as DefFront}
+use Rattle.pf_kernel.specs.declared.front.Front.TheVariants.{Def as DefFront, Out as OutFront}
 use Rattle.pf_kernel.specs.Expressions.{Judges}
-use Rattle.pf_kernel.specs.Lines.{Begun, names_in, nodes_in, taken, is_taken, if_so, expression_faults, Over, faults}
-use Rattle.pf_kernel.specs.Readings.{AnswersText, unless_taken}
+use Rattle.pf_kernel.specs.Lines.{Begun, names_in, nodes_in, taken, is_taken, if_so, expression_faults}
+use Rattle.pf_kernel.specs.Readings.{IsTextFault, unless_taken}
 
 -- nothing is told of a name that is free
 pub free_first : (b : Begun) (n : List ℕ) (rest : List (Option ReadFault)) → is_taken (names_in b) n ≡ false → first_some (taken b n ∷ rest) ≡ first_some rest
@@ -31,29 +30,24 @@ module _ (b : Begun) (n : List ℕ) (ty : LaneType) (text : List ℕ) (now : Nam
   abbrev Judged : Result Term ReadFault → Type 0
   Judged r = Judges (names_in b) (nodes_in b) ty (length b.defs + 1) text r now
 
-  taken_told : (d : Draft) → IsDraftText text d → is_taken (names_in b) n ≡ true → (e : ReadFault) → ◌≡◌ {A = Result Term ReadFault} (Err (Name n)) (Err e) → AnswersText b (DefFront n ty) text (Err e)
-  taken_told d h t e same =
-      subst (λ (f : ReadFault). AnswersText b (DefFront n ty) text (Err f)) (let told : Name n ≡ e = cc in told) (d, h, taken_first b n (its_faults d) t)
-
-  free_told : (d : Draft) (f : ReadFault) → IsDraftText text d → is_taken (names_in b) n ≡ false → first_some (its_faults d) ≡ Some f → first_some (faults b (Over (DefFront n ty) d)) ≡ Some f
-  free_told d f h t e = free_first b n (its_faults d) t ∙ e
+  abbrev Told : ReadFault → Type 0
+  Told e = IsTextFault b (DefFront n ty) text e ⊎ (e ≡ Memory)
 
   same_err : (e f : ReadFault) → ◌≡◌ {A = Result Term ReadFault} (Err f) (Err e) → f ≡ e
   same_err e f h = cc
 
-  pub def_refused : (r : Result Term ReadFault) (v : Bool) (e : ReadFault) → v ≡ is_taken (names_in b) n → Judged r → Err e ≡ unless_taken v n r → AnswersText b (DefFront n ty) text (Err e)
-  def_refused (Err (Syntax column)) v e t h told = subst (λ (f : ReadFault). AnswersText b (DefFront n ty) text (Err f)) (sym (same_err _ _ told)) h
-  def_refused (Err Memory) v e t h told = subst (λ (f : ReadFault). AnswersText b (DefFront n ty) text (Err f)) (sym (same_err _ _ told)) tt
-  def_refused (Ok x) true e t h told = taken_told h.0 h.1 (sym t) e (sym told)
+  -- what is told of an expression, where no name is in its way
+  free_told : (f : ReadFault) → is_taken (names_in b) n ≡ false → Judged (Err f) → Told f
+  free_told (Syntax column) t h = inl h
+  free_told Memory t h = inr refl
+  free_told f t h = inl (h.0, h.1, free_first b n (its_faults h.0) t ∙ h.2)
+
+  pub def_refused : (r : Result Term ReadFault) (v : Bool) (e : ReadFault) → v ≡ is_taken (names_in b) n → Judged r → Err e ≡ unless_taken v n r → Told e
+  def_refused (Err (Syntax column)) v e t h told = subst Told (sym (same_err _ _ told)) (inl h)
+  def_refused (Err Memory) v e t h told = inr (same_err _ _ told)
   def_refused (Ok x) false e t h told = absurd (cc)
-  def_refused (Err (Name s)) true e t h told = taken_told h.0 h.1 (sym t) e (sym told)
-  def_refused (Err (Types want got)) true e t h told = taken_told h.0 h.1 (sym t) e (sym told)
-  def_refused (Err (Amount k)) true e t h told = taken_told h.0 h.1 (sym t) e (sym told)
-  def_refused (Err (Limit what count)) true e t h told = taken_told h.0 h.1 (sym t) e (sym told)
-  def_refused (Err (Name s)) false e t h told = subst (λ (f : ReadFault). AnswersText b (DefFront n ty) text (Err f)) (sym (same_err _ _ told)) (h.0, h.1, free_told h.0 (Name s) h.1 (sym t) h.2)
-  def_refused (Err (Types want got)) false e t h told = subst (λ (f : ReadFault). AnswersText b (DefFront n ty) text (Err f)) (sym (same_err _ _ told)) (h.0, h.1, free_told h.0 (Types want got) h.1 (sym t) h.2)
-  def_refused (Err (Amount k)) false e t h told = subst (λ (f : ReadFault). AnswersText b (DefFront n ty) text (Err f)) (sym (same_err _ _ told)) (h.0, h.1, free_told h.0 (Amount k) h.1 (sym t) h.2)
-  def_refused (Err (Limit what count)) false e t h told = subst (λ (f : ReadFault). AnswersText b (DefFront n ty) text (Err f)) (sym (same_err _ _ told)) (h.0, h.1, free_told h.0 (Limit what count) h.1 (sym t) h.2)
+  def_refused (Err f) false e t h told = subst Told (sym (same_err _ _ told)) (free_told f (sym t) h)
+  def_refused _ true e t h told = subst Told (sym (same_err _ _ told)) (inl (h.0, h.1, taken_first b n (its_faults h.0) (sym t)))
 
   -- what was read, where no name is in its way
   pub taken_apart : (r : Result Term ReadFault) (v : Bool) (x : Term) → Ok x ≡ unless_taken v n r → (v ≡ false) × (r ≡ Ok x)
@@ -61,11 +55,11 @@ module _ (b : Begun) (n : List ℕ) (ty : LaneType) (text : List ℕ) (now : Nam
   taken_apart (Ok y) false x told = (refl, sym told)
   taken_apart (Err (Syntax c)) v x told = absurd (cc)
   taken_apart (Err Memory) v x told = absurd (cc)
-  taken_apart (Err (Name s)) true x told = absurd (cc)
-  taken_apart (Err (Name s)) false x told = absurd (cc)
-  taken_apart (Err (Types w g)) true x told = absurd (cc)
-  taken_apart (Err (Types w g)) false x told = absurd (cc)
-  taken_apart (Err (Amount k)) true x told = absurd (cc)
-  taken_apart (Err (Amount k)) false x told = absurd (cc)
-  taken_apart (Err (Limit w k)) true x told = absurd (cc)
-  taken_apart (Err (Limit w k)) false x told = absurd (cc)
+  taken_apart (Err f) true x told = absurd (cc)
+  taken_apart (Err f) false x told = absurd (cc)
+
+-- what is told of an output
+pub out_refused : (b : Begun) (ty : LaneType) (text : List ℕ) (now : Names) (e : ReadFault) → Judges (names_in b) (nodes_in b) ty (length b.defs) text (Err e) now → IsTextFault b (OutFront ty) text e ⊎ (e ≡ Memory)
+out_refused b ty text now (Syntax column) h = inl h
+out_refused b ty text now Memory h = inr refl
+out_refused b ty text now e h = inl h

@@ -1,12 +1,9 @@
 -- A line up to its first comment.
-use Rattle.std.proofs.Common.{◌≡◌, refl, sym, ◌∙◌, ap, ℕ, ◌≤◌, Bool, true, false, List, length, take, arith, nat_lt}
+use Rattle.std.proofs.Common.{◌≡◌, refl, sym, ◌∙◌, ap, ℕ, Bool, true, false, List, length, take, nat_lt}
 use Rattle.std.specs.Prelude.{Option, Some, None, cond}
 use Rattle.std.specs.List.{position, position_or_len, before_first}
 use Rattle.std.proofs.lemmas.List.{take_all}
-use Rattle.std.proofs.lemmas.Bool.Decides.{nat_tests}
-
-not_below : (n m : ℕ) → nat_lt n m ≡ false → m ≤ n
-not_below n m e = grind (arith, nat_tests)
+use Rattle.std.proofs.lemmas.Bool.{ltb-false}
 
 pub up_to : {X : Type 0} (p : X → Bool) (xs : List X) (n : ℕ) → ◌≡◌ {A = Option ℕ} (Some n) (position p xs) → take n xs ≡ before_first p xs
 up_to {X} p xs n h = by (nat_lt (position_or_len p xs) (length xs)) refl where
@@ -18,4 +15,4 @@ pub all_of_it : {X : Type 0} (p : X → Bool) (xs : List X) → ◌≡◌ {A = O
 all_of_it {X} p xs h = by (nat_lt (position_or_len p xs) (length xs)) refl where
   by : (b : Bool) → nat_lt (position_or_len p xs) (length xs) ≡ b → xs ≡ before_first p xs
   by true e = absurd (let some : ◌≡◌ {A = Option ℕ} None (Some (position_or_len p xs)) = h ∙ ap (λ b. cond b (Some (position_or_len p xs)) None) e in cc)
-  by false e = sym (take_all (position_or_len p xs) xs (not_below (position_or_len p xs) (length xs) e))
+  by false e = sym (take_all (position_or_len p xs) xs (ltb-false (position_or_len p xs) (length xs) e))

@@ -1,8 +1,8 @@
 -- More taps and definitions behind the known ones change no term's text.
-use Rattle.std.proofs.Common.{◌≡◌, refl, sym, ◌∙◌, ap, subst, ℕ, ◌<◌, Bool, true, false, List, [], ◌∷◌, ◌++◌, length, map, arith, length-append}
-use Rattle.std.specs.Prelude.{nat_lt, ◌&&◌}
+use Rattle.std.proofs.Common.{◌≡◌, refl, sym, ◌∙◌, ap, subst, ℕ, ◌<◌, Bool, true, List, [], ◌∷◌, ◌++◌, length, map, arith, length-append}
+use Rattle.std.specs.Prelude.{nat_lt}
 use Rattle.std.proofs.Math.ListN.{get_or-append}
-use Rattle.std.proofs.lemmas.Bool.Decides.{nat_tests}
+use Rattle.std.proofs.lemmas.Bool.{and_from, and_parts, lt-ltb, ltb-true}
 use Rattle.pf_ints.specs.declared.lane.LaneType.{LaneType}
 use Rattle.pf_terms.specs.declared.names.DefName.{DefName}
 use Rattle.pf_terms.specs.declared.names.Names.{Names}
@@ -28,48 +28,30 @@ pub record StaysNamed (a b : Names) (t : Term) : Type 0 where
 abbrev Stays : Names → Names → Term → Type 0
 Stays a b t = is_named a t ≡ true → StaysNamed a b t
 
-and_left : (a b : Bool) → (a && b) ≡ true → a ≡ true
-and_left true b h = refl
-and_left false b h = absurd (cc)
-
-and_right : (a b : Bool) → (a && b) ≡ true → b ≡ true
-and_right true b h = h
-and_right false b h = absurd (cc)
-
-below : (n m : ℕ) → nat_lt n m ≡ true → n < m
-below n m h = grind (arith, nat_tests)
-
-test_below : (n m : ℕ) → n < m → nat_lt n m ≡ true
-test_below n m h = grind (arith, nat_tests)
-
-both : (a b : Bool) → a ≡ true → b ≡ true → (a && b) ≡ true
-both true b h k = k
-both false b h k = absurd (cc)
-
 module _ (a : Names) (taps : List TapOf) (defs : List DefName) where
   leaf_named : (leaf : LeafOf) (ty : LaneType) → is_named_leaf a leaf ty ≡ true → is_named_leaf (more_names a taps defs) leaf ty ≡ true
   leaf_named (Tap n) ty h =
-      let less : n < length a.taps = below n (length a.taps) (and_left _ _ h) in
+      let less : n < length a.taps = ltb-true n (length a.taps) (and_parts _ _ h).0 in
       let more : n < length (a.taps ++ taps) = omega (arith, length-append a.taps taps) in
-      both _ _ (test_below n _ more) (ap (λ t. is_named_tap a.images t ty) (get_or-append a.taps taps no_tap n less) ∙ and_right (nat_lt n (length a.taps)) _ h)
+      and_from _ _ (lt-ltb n _ more) (ap (λ t. is_named_tap a.images t ty) (get_or-append a.taps taps no_tap n less) ∙ (and_parts (nat_lt n (length a.taps)) _ h).1)
   leaf_named (Const n) ty h = refl
   leaf_named (Def n) ty h =
-      let less : n < length a.defs = below n (length a.defs) (and_left _ _ h) in
+      let less : n < length a.defs = ltb-true n (length a.defs) (and_parts _ _ h).0 in
       let more : n < length (a.defs ++ defs) = omega (arith, length-append a.defs defs) in
-      both _ _ (test_below n _ more) (ap (λ t. same_type t.ty ty) (get_or-append a.defs defs no_def n less) ∙ and_right (nat_lt n (length a.defs)) _ h)
+      and_from _ _ (lt-ltb n _ more) (ap (λ t. same_type t.ty ty) (get_or-append a.defs defs no_def n less) ∙ (and_parts (nat_lt n (length a.defs)) _ h).1)
 
   leaf_same : (leaf : LeafOf) (ty : LaneType) → is_named_leaf a leaf ty ≡ true → leaf_text (more_names a taps defs) leaf ty ≡ leaf_text a leaf ty
-  leaf_same (Tap n) ty h = ap (λ t. tap_text a.images t) (get_or-append a.taps taps no_tap n (below n (length a.taps) (and_left _ _ h)))
+  leaf_same (Tap n) ty h = ap (λ t. tap_text a.images t) (get_or-append a.taps taps no_tap n (ltb-true n (length a.taps) (and_parts _ _ h).0))
   leaf_same (Const n) ty h = refl
-  leaf_same (Def n) ty h = ap (λ t. t.name) (get_or-append a.defs defs no_def n (below n (length a.defs) (and_left _ _ h)))
+  leaf_same (Def n) ty h = ap (λ t. t.name) (get_or-append a.defs defs no_def n (ltb-true n (length a.defs) (and_parts _ _ h).0))
 
   each_stays : (fs : List ((t : Term) × Stays a (more_names a taps defs) t)) → all_true (map (is_named a) (map (λ e. e.0) fs)) ≡ true →
       (all_true (map (is_named (more_names a taps defs)) (map (λ e. e.0) fs)) ≡ true) × (map (term_text (more_names a taps defs)) (map (λ e. e.0) fs) ≡ map (term_text a) (map (λ e. e.0) fs))
   each_stays [] h = (refl, refl)
   each_stays (e ∷ fs) h =
-      let here = e.1 (and_left _ _ h) in
-      let rest = each_stays fs (and_right (is_named a e.0) _ h) in
-      (both _ _ here.named rest.0, ap (λ x. x ∷ map (term_text (more_names a taps defs)) (map (λ g. g.0) fs)) here.text ∙ ap (λ xs. term_text a e.0 ∷ xs) rest.1)
+      let here = e.1 (and_parts _ _ h).0 in
+      let rest = each_stays fs (and_parts (is_named a e.0) _ h).1 in
+      (and_from _ _ here.named rest.0, ap (λ x. x ∷ map (term_text (more_names a taps defs)) (map (λ g. g.0) fs)) here.text ∙ ap (λ xs. term_text a e.0 ∷ xs) rest.1)
 
   layer_stays : (y : Term-F ((t : Term) × Stays a (more_names a taps defs) t)) → Stays a (more_names a taps defs) (roll-Term (map-Term _ Term (λ e. e.0) y))
   layer_stays (Leaf leaf ty) h =

@@ -1,10 +1,10 @@
 -- A term's text with the names of the whole kernel means the term behind the lines before it.
-use Rattle.std.proofs.Common.{◌≡◌, refl, sym, ◌∙◌, ap, subst, ℕ, ◌+◌, ◌-◌, ◌≤◌, ◌<◌, ◌||◌, ◌&&◌, Bool, true, false, List, [], ◌∷◌, ◌++◌, length, map, take, drop, append_assoc, append-nil, arith, length-append}
+use Rattle.std.proofs.Common.{◌≡◌, refl, sym, ◌∙◌, ap, subst, ℕ, ◌+◌, ◌-◌, ◌≤◌, ◌<◌, ◌||◌, Bool, true, false, List, [], ◌∷◌, ◌++◌, length, map, take, drop, append_assoc, append-nil, arith, length-append}
 use Rattle.std.specs.Prelude.{None, max, nat_lt}
 use Rattle.std.specs.List.{concat, list_any, position_or_len}
 use Rattle.std.proofs.Math.ListN.{get_or-append}
 use Rattle.std.proofs.lemmas.List.{length-take-le, take-append-drop}
-use Rattle.std.proofs.lemmas.Bool.Decides.{nat_tests}
+use Rattle.std.proofs.lemmas.Bool.{and_from, and_parts, lt-ltb}
 use Rattle.pf_ints.specs.declared.lane.LaneType.{LaneType}
 use Rattle.pf_terms.specs.declared.draft.Draft.{Draft}
 use Rattle.pf_terms.specs.declared.names.DefName.{DefName}
@@ -23,7 +23,6 @@ use Rattle.pf_terms.specs.Terms.{all_true, depth_of, IsWellTyped}
 use Rattle.pf_terms.specs.TermTexts.{is_named, is_named_leaf, is_named_tap, named_step, term_text, no_tap}
 use Rattle.pf_terms.proofs.ReadBackMeanings.{printed_is_read}
 use Rattle.pf_terms.proofs.TapLists.{Each, each_front, each_behind, same_tap_is}
-use Rattle.pf_terms.proofs.Typing.{and_left, and_right}
 use Rattle.pf_kernel.specs.Kernels.{taps_step, taps_in, AreInTurn}
 use Rattle.pf_kernel.proofs.Extending.{more_names, stays_named}
 use Rattle.pf_kernel.proofs.Turns.{there, place_later, adds_by, term_uses}
@@ -68,20 +67,13 @@ taps_split known rest xs ys h =
     }
 
 -- ---- a term whose taps are among the first ones
-both : (a b : Bool) → a ≡ true → b ≡ true → (a && b) ≡ true
-both true b h k = k
-both false b h k = absurd (cc)
-
-test_below : (n m : ℕ) → n < m → nat_lt n m ≡ true
-test_below n m h = grind (arith, nat_tests)
-
 module _ (a : Names) (rest : List TapOf) where
   abbrev Low : Term → Type 0
   Low t = is_named (record a { taps = a.taps ++ rest }) t ≡ true → Each (λ n. n < length a.taps) (taps_in t) → is_named a t ≡ true
 
   leaf_low : (leaf : LeafOf) (ty : LaneType) → is_named_leaf (record a { taps = a.taps ++ rest }) leaf ty ≡ true → Each (λ n. n < length a.taps) (taps_step (Leaf leaf ty)) → is_named_leaf a leaf ty ≡ true
   leaf_low (Tap n) ty h low =
-      both _ _ (test_below n (length a.taps) low.0) (ap (λ t. is_named_tap a.images t ty) (sym (get_or-append a.taps rest no_tap n low.0)) ∙ and_right (nat_lt n (length (a.taps ++ rest))) _ h)
+      and_from _ _ (lt-ltb n (length a.taps) low.0) (ap (λ t. is_named_tap a.images t ty) (sym (get_or-append a.taps rest no_tap n low.0)) ∙ (and_parts (nat_lt n (length (a.taps ++ rest))) _ h).1)
   leaf_low (Const n) ty h low = refl
   leaf_low (Def n) ty h low = h
 
@@ -90,7 +82,7 @@ module _ (a : Names) (rest : List TapOf) where
   each_low [] h low = refl
   each_low (e ∷ fs) h low =
       let others = concat (map taps_in (map (λ g. g.0) fs)) in
-      both _ _ (e.1 (and_left _ _ h) (each_front _ (taps_in e.0) others low)) (each_low fs (and_right (is_named (record a { taps = a.taps ++ rest }) e.0) _ h) (each_behind _ (taps_in e.0) others low))
+      and_from _ _ (e.1 (and_parts _ _ h).0 (each_front _ (taps_in e.0) others low)) (each_low fs (and_parts (is_named (record a { taps = a.taps ++ rest }) e.0) _ h).1 (each_behind _ (taps_in e.0) others low))
 
   layer_low : (y : Term-F ((t : Term) × Low t)) → Low (roll-Term (map-Term _ Term (λ e. e.0) y))
   layer_low (Leaf leaf ty) h low =

@@ -1,26 +1,22 @@
 -- What may be added by a line's front, and what else the line can say.
-use Rattle.std.proofs.Common.{◌≡◌, sym, ◌∙◌, ap, subst, ℕ, ◌+◌, ◌-◌, ◌≤◌, ◌<◌, ◌^◌, true, List, [], ◌∷◌, length, take, drop, arith, length-drop, Bool, false, inl, inr}
+use Rattle.std.proofs.Common.{◌≡◌, sym, ◌∙◌, ap, subst, ℕ, ◌+◌, ◌-◌, ◌≤◌, ◌<◌, ◌^◌, true, List, [], ◌∷◌, length, take, drop, arith, length-drop, inl, inr}
 use Rattle.std.proofs.lemmas.List.{length-take-le}
-use Rattle.std.specs.Prelude.{Option, Some, None, Result, Ok, Err, ℤ, pos, nat_lt}
-use Rattle.pf_kernel.specs.declared.front.Front.TheVariants.{Kernel as KernelFront, Image as ImageFront, Def as DefFront, Out as OutFront}
-use Rattle.pf_terms.specs.declared.limit.LimitKind.{LimitKind}
-use Rattle.pf_terms.specs.declared.limit.LimitKind.TheVariants.{Images}
+use Rattle.std.specs.Prelude.{Option, Some, None, Result, Ok, Err}
 use Rattle.pf_ints.specs.Words.{is_name}
 use Rattle.pf_terms.specs.declared.draft.Draft.{Draft}
 use Rattle.pf_terms.specs.declared.meaning.ReadFault.{ReadFault}
-use Rattle.pf_terms.specs.declared.meaning.ReadFault.TheVariants.{Syntax, Name as NameFault, Types, Amount, Limit, Memory}
+use Rattle.pf_terms.specs.declared.meaning.ReadFault.TheVariants.{Syntax}
 use Rattle.pf_terms.specs.declared.token.Kind.{Kind}
 use Rattle.pf_terms.specs.declared.token.Kind.TheVariants.{Name}
 use Rattle.pf_terms.specs.declared.token.Token.{Token}
 use Rattle.pf_terms.specs.Drafts.{IsDraftText, IsSyntaxFault, IsFaultPlace, behind, first}
-use Rattle.pf_terms.specs.Meanings.{first_some}
 use Rattle.pf_terms.specs.Parsing.{kinds}
 use Rattle.pf_terms.specs.Tokens.{IsLexed, ended, blank, token, IsFront, IsRun}
 use Rattle.pf_kernel.specs.declared.front.Front.{Front}
 use Rattle.pf_kernel.specs.declared.reading.Reading.{Reading}
-use Rattle.pf_kernel.specs.Lines.{Begun, is_taken, if_so, names_in, Said, Nothing, Bare, Over, SaysOf, IsShape, kernel, image, ranged, def, out, may_stand, equals_of, end_of, faults, with_said, IsTokensSyntax, expression}
+use Rattle.pf_kernel.specs.Lines.{Begun, Said, Nothing, Bare, Over, SaysOf, IsShape, kernel, image, ranged, def, out, may_stand, equals_of, end_of, IsTokensFault, expression, meaning}
 use Rattle.pf_kernel.specs.Fronts.{front_of}
-use Rattle.pf_kernel.specs.Readings.{Answers, AnswersText, AnswersTokens, IsBegunOr, IsNearColumn, moved, MayAdd}
+use Rattle.pf_kernel.specs.Readings.{AnswersSaid, IsTextFault, AnswersText, AnswersTokens, IsNearColumn, moved_fault, moved, MayAdd}
 use Rattle.pf_kernel.proofs.LineLaws.{place_fits, end_fits}
 use Rattle.pf_kernel.proofs.Shapes.{found, whole_decl}
 
@@ -62,7 +58,7 @@ pub shape_may : (b : Begun) (text : List ℕ) (ts : List Token) (f : Front) → 
 shape_may b text ts f h shape = may_add b (kinds ts) f shape (lexed_kinds 0 text ts h)
 
 -- ---- a line of this shape says nothing else
-same_front : (b : Begun) (ks : List Kind) (f g : Front) → IsShape b ks f → IsShape b ks g → g ≡ f
+pub same_front : (b : Begun) (ks : List Kind) (f g : Front) → IsShape b ks f → IsShape b ks g → g ≡ f
 same_front b ks f g h k = let same : ◌≡◌ {A = Result Front ℕ} (Ok g) (Ok f) = sym (found b ks g k) ∙ found b ks f h in cc
 
 some_shape : (b : Begun) (ts : List Token) (f : Front) → IsShape b (kinds ts) f → ts ≡ [] → ⊥
@@ -94,79 +90,28 @@ syntax_near text _ _ _ h (behind ts n negative) = place_fits text ts (n - 1) h
 syntax_near text _ _ _ h (first ts n none) = place_fits text ts n h
 
 pub near_column : (b : Begun) (f : Front) (text rest : List ℕ) (ts : List Token) (n : ℕ) (r : Result Reading ReadFault) → IsLexed 0 text ts → length text < 2 ^ 32 → rest ≡ drop (end_of ts n) text → AnswersText b f rest r → IsNearColumn (end_of ts n) r
-near_column b f text rest ts n (Ok x) h short e a = tt
-near_column b f text rest ts n (Err (Syntax column)) h short e a =
+near_column b f text rest ts n (Err (Syntax column)) h short e (inl a) =
     let fits = end_fits text ts n h in
     let near : a.0 ≤ length rest = syntax_near rest a.1.tokens a.1.n a.0 a.1.lexed a.1.stands in
     let long : length rest ≡ length text - end_of ts n = ap length e ∙ length-drop (end_of ts n) text in
     omega (arith, a.2)
-near_column b f text rest ts n (Err Memory) h short e a = tt
-near_column b f text rest ts n (Err (NameFault s)) h short e a = tt
-near_column b f text rest ts n (Err (Types w g)) h short e a = tt
-near_column b f text rest ts n (Err (Amount k)) h short e a = tt
-near_column b f text rest ts n (Err (Limit w k)) h short e a = tt
+near_column b f text rest ts n (Err (Syntax column)) h short e (inr a) = absurd (cc)
+near_column b f text rest ts n _ h short e a = tt
 
-pub moved_found : (b : Begun) (f : Front) (text rest : List ℕ) (ts : List Token) (n : ℕ) (r : Result Reading ReadFault) → IsShape b (kinds ts) f → equals_of f ≡ Some n → rest ≡ drop (end_of ts n) text → AnswersText b f rest r → AnswersTokens b text ts (moved (end_of ts n) r)
-moved_found b f text rest ts n (Ok x) shape some e a = (Over f a.0, (shape, (n, some, subst (λ (y : List ℕ). IsDraftText y a.0) e a.1)), a.2.0, a.2.1)
-moved_found b f text rest ts n (Err (Syntax column)) shape some e a =
-    let place : end_of ts n + a.0 + 1 ≡ column + end_of ts n = omega (arith, a.2) in
-    subst (IsTokensSyntax b text ts) place (expression f n a.0 shape some (subst (λ (y : List ℕ). IsSyntaxFault y a.0) e a.1))
-moved_found b f text rest ts n (Err Memory) shape some e a = tt
-moved_found b f text rest ts n (Err (NameFault s)) shape some e a = (Over f a.0, (shape, (n, some, subst (λ (y : List ℕ). IsDraftText y a.0) e a.1)), a.2)
-moved_found b f text rest ts n (Err (Types w g)) shape some e a = (Over f a.0, (shape, (n, some, subst (λ (y : List ℕ). IsDraftText y a.0) e a.1)), a.2)
-moved_found b f text rest ts n (Err (Amount k)) shape some e a = (Over f a.0, (shape, (n, some, subst (λ (y : List ℕ). IsDraftText y a.0) e a.1)), a.2)
-moved_found b f text rest ts n (Err (Limit w k)) shape some e a = (Over f a.0, (shape, (n, some, subst (λ (y : List ℕ). IsDraftText y a.0) e a.1)), a.2)
+module _ (b : Begun) (f : Front) (text : List ℕ) (ts : List Token) (shape : IsShape b (kinds ts) f) where
+  fault_moved : (rest : List ℕ) (n : ℕ) (fault : ReadFault) → equals_of f ≡ Some n → rest ≡ drop (end_of ts n) text → IsTextFault b f rest fault → IsTokensFault b text ts (moved_fault (end_of ts n) fault)
+  fault_moved rest n (Syntax column) some e a =
+      let place : end_of ts n + a.0 + 1 ≡ column + end_of ts n = omega (arith, a.2) in
+      subst (λ (c : ℕ). IsTokensFault b text ts (Syntax c)) place (expression f n a.0 shape some (subst (λ (y : List ℕ). IsSyntaxFault y a.0) e a.1))
+  fault_moved rest n fault some e a = meaning (Over f a.0) fault (shape, (n, some, subst (λ (y : List ℕ). IsDraftText y a.0) e a.1)) a.2
 
-moved_so : (c : Begun) (n : ℕ) (r : Result Reading ReadFault) → IsBegunOr c r → IsBegunOr c (moved n r)
-moved_so c n (Ok x) h = h
-moved_so c n (Err (Syntax column)) h = absurd h
-moved_so c n (Err Memory) h = tt
-moved_so c n (Err (NameFault s)) h = absurd h
-moved_so c n (Err (Types w g)) h = absurd h
-moved_so c n (Err (Amount k)) h = absurd h
-moved_so c n (Err (Limit w k)) h = absurd h
+  pub moved_answers : (rest : List ℕ) (n : ℕ) (r : Result Reading ReadFault) → equals_of f ≡ Some n → rest ≡ drop (end_of ts n) text → AnswersText b f rest r → AnswersTokens b text ts (moved (end_of ts n) r)
+  moved_answers rest n (Ok x) some e a = (Over f a.0, (shape, (n, some, subst (λ (y : List ℕ). IsDraftText y a.0) e a.1)), a.2)
+  moved_answers rest n (Err fault) some e (inl a) = inl (fault_moved rest n fault some e a)
+  moved_answers rest n (Err fault) some e (inr a) = inr (ap (moved_fault (end_of ts n)) a)
 
-pub moved_only : (b : Begun) (f : Front) (text rest : List ℕ) (ts : List Token) (n : ℕ) (r : Result Reading ReadFault) → IsShape b (kinds ts) f → equals_of f ≡ Some n → rest ≡ drop (end_of ts n) text →
-    ((d : Draft) → IsDraftText rest d → first_some (faults b (Over f d)) ≡ None → IsBegunOr (with_said b (Over f d)) r) →
-    (said : Said) → SaysOf b text ts said → first_some (faults b said) ≡ None → IsBegunOr (with_said b said) (moved (end_of ts n) r)
-moved_only b f text rest ts n r shape some e only said says none =
-    let over = only_over b text ts f n said shape some says in
-    let faultless : first_some (faults b (Over f over.draft)) ≡ None = ap (λ (s : Said). first_some (faults b s)) (sym over.is) ∙ none in
-    subst (λ (s : Said). IsBegunOr (with_said b s) (moved (end_of ts n) r)) (sym over.is)
-    (moved_so _ (end_of ts n) r (only over.draft (subst (λ (y : List ℕ). IsDraftText y over.draft) (sym e) over.spelled) faultless))
-
--- ---- a line without an expression
-image_syntax : (v w : Bool) (s : List ℕ) (k : LimitKind) (l : ℤ) (column : ℕ) → first_some (if_so v (NameFault s) ∷ if_so w (Limit k l) ∷ []) ≡ Some (Syntax column) → ⊥
-image_syntax true w s k l column h = absurd (cc)
-image_syntax false true s k l column h = absurd (cc)
-image_syntax false false s k l column h = absurd (cc)
-
-bare_syntax : (b : Begun) (f : Front) (column : ℕ) → first_some (faults b (Bare f)) ≡ Some (Syntax column) → ⊥
-bare_syntax b (KernelFront n) column h = absurd (cc)
-bare_syntax b (ImageFront i) column h = image_syntax (is_taken (names_in b) i.name) (nat_lt 8 (length b.images + 1)) i.name Images (pos (length b.images + 1)) column h
-bare_syntax b (DefFront n t) column h = absurd (cc)
-bare_syntax b (OutFront t) column h = absurd (cc)
-
-pub bare_found : (b : Begun) (f : Front) (text : List ℕ) (ts : List Token) (r : Result Reading ReadFault) → IsShape b (kinds ts) f → equals_of f ≡ None → Answers b (Bare f) r → AnswersTokens b text ts r
-bare_found b f text ts (Ok x) shape none a = (Bare f, (shape, none), a.0, a.1)
-bare_found b f text ts (Err (Syntax column)) shape none a = absurd (bare_syntax b f column a)
-bare_found b f text ts (Err Memory) shape none a = tt
-bare_found b f text ts (Err (NameFault s)) shape none a = (Bare f, (shape, none), a)
-bare_found b f text ts (Err (Types w g)) shape none a = (Bare f, (shape, none), a)
-bare_found b f text ts (Err (Amount k)) shape none a = (Bare f, (shape, none), a)
-bare_found b f text ts (Err (Limit w k)) shape none a = (Bare f, (shape, none), a)
-
-bare_so : (b : Begun) (said : Said) (r : Result Reading ReadFault) → Answers b said r → first_some (faults b said) ≡ None → IsBegunOr (with_said b said) r
-bare_so b said (Ok x) a none = a.1
-bare_so b said (Err Memory) a none = tt
-bare_so b said (Err (Syntax column)) a none = absurd (cc (a, none))
-bare_so b said (Err (NameFault s)) a none = absurd (cc (a, none))
-bare_so b said (Err (Types w g)) a none = absurd (cc (a, none))
-bare_so b said (Err (Amount k)) a none = absurd (cc (a, none))
-bare_so b said (Err (Limit w k)) a none = absurd (cc (a, none))
-
-pub bare_only : (b : Begun) (f : Front) (text : List ℕ) (ts : List Token) (r : Result Reading ReadFault) → IsShape b (kinds ts) f → equals_of f ≡ None → Answers b (Bare f) r →
-    (said : Said) → SaysOf b text ts said → first_some (faults b said) ≡ None → IsBegunOr (with_said b said) r
-bare_only b f text ts r shape plain a said says none =
-    let is = only_bare b text ts f said shape plain says in
-    bare_so b said r (subst (λ (s : Said). Answers b s r) (sym is) a) none
+  -- a line without an expression
+  pub bare_answers : (r : Result Reading ReadFault) → equals_of f ≡ None → AnswersSaid b (Bare f) r → AnswersTokens b text ts r
+  bare_answers (Ok x) none a = (Bare f, (shape, none), a)
+  bare_answers (Err fault) none (inl a) = inl (meaning (Bare f) fault (shape, none) a)
+  bare_answers (Err fault) none (inr a) = inr a

@@ -1,10 +1,11 @@
 -- What is read stays within the rules with each expression.
-use Rattle.std.proofs.Common.{◌≡◌, refl, sym, ◌∙◌, ap, subst, ℕ, ◌+◌, ◌-◌, ◌≤◌, ◌^◌, min, Bool, true, false, ◌&&◌, not, List, [], ◌∷◌, ◌++◌, length, map, sum, append_assoc, append-nil, arith, length-append}
+use Rattle.std.proofs.Common.{◌≡◌, refl, sym, ◌∙◌, ap, subst, ℕ, ◌+◌, ◌-◌, ◌≤◌, ◌^◌, min, true, false, ◌&&◌, not, List, [], ◌∷◌, ◌++◌, length, map, sum, append_assoc, append-nil, arith, length-append}
 use Rattle.std.specs.Prelude.{Result, Option, Some, None, is_some, MatchOption}
 use Rattle.std.specs.List.{flat_map}
 use Rattle.std.proofs.lemmas.List.{length-map, map-append}
 use Rattle.std.proofs.lemmas.Grind.{flat_map-append}
 use Rattle.std.proofs.lemmas.List.Sums.{sum_by_push}
+use Rattle.std.proofs.lemmas.Bool.{and_parts, not-true}
 use Rattle.pf_ints.specs.declared.lane.LaneType.{LaneType}
 use Rattle.pf_ints.specs.Images.{IsPixelType}
 use Rattle.pf_ints.specs.Words.{is_name}
@@ -30,18 +31,6 @@ use Rattle.pf_kernel.proofs.Extending.{stays_named}
 use Rattle.pf_kernel.proofs.Naming.{named_more}
 use Rattle.pf_kernel.proofs.Turns.{turn_append, term_in_turn, all_add}
 
-and_left : (a b : Bool) → (a && b) ≡ true → a ≡ true
-and_left true b h = refl
-and_left false b h = absurd (cc)
-
-and_right : (a b : Bool) → (a && b) ≡ true → b ≡ true
-and_right true b h = h
-and_right false b h = absurd (cc)
-
-not_true : (a : Bool) → not a ≡ true → a ≡ false
-not_true true h = absurd (cc)
-not_true false h = refl
-
 some_items : {A : Type 0} (xs : List A) → is_empty xs ≡ false → 1 ≤ length xs
 some_items [] h = absurd (cc)
 some_items (x ∷ xs) h = omega arith
@@ -56,7 +45,7 @@ pub record IsBehindImages (b : Begun) : Type 0 where
   pub out : b.out ≡ None
 
 behind_images : (b : Begun) → (not (is_empty b.images) && not (is_some b.out)) ≡ true → IsBehindImages b
-behind_images b h = record { images = some_items b.images (not_true _ (and_left _ _ h)); out = absent b.out (not_true _ (and_right (not (is_empty b.images)) _ h)) }
+behind_images b h = record { images = some_items b.images (not-true _ (and_parts _ _ h).0); out = absent b.out (not-true _ (and_parts (not (is_empty b.images)) _ h).1) }
 
 -- ---- definitions under more taps, and one more
 term_more_taps : (a : Names) (more : List Tap) (ty : LaneType) (t : Term) → IsTermOf a ty t → IsTermOf (record a { taps = a.taps ++ more }) ty t

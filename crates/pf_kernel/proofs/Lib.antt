@@ -5,7 +5,6 @@ pub mod FrontFaults
 pub mod Turns
 pub mod Comments
 pub mod LineLaws
-pub mod Once
 pub mod OneFault
 pub mod Naming
 pub mod Steps

@@ -1,15 +1,16 @@
 -- What a line says goes by its tokens.
-use Rattle.std.proofs.Common.{◌≡◌, refl, sym, ap, subst, ℕ, zero, suc, ◌+◌, ◌-◌, ◌≤◌, ◌<◌, List, [], ◌∷◌, length, drop, arith, length-drop}
+use Rattle.std.proofs.Common.{◌≡◌, sym, subst, ℕ, zero, suc, ◌+◌, ◌-◌, ◌≤◌, List, length, drop, arith, length-drop}
 use Rattle.std.specs.Prelude.{Ok, Err, Some, None, Option, MatchOption, slice_get}
 use Rattle.std.proofs.lemmas.List.{length-map}
+use Rattle.pf_terms.specs.declared.meaning.ReadFault.TheVariants.{Syntax}
 use Rattle.pf_terms.specs.declared.token.Token.{Token}
 use Rattle.pf_terms.specs.Parsing.{kinds, place_of, place_by}
 use Rattle.pf_terms.specs.Tokens.{IsLexed, ended, blank, token}
 use Rattle.pf_terms.proofs.Lexing.{front_within}
 use Rattle.pf_kernel.specs.declared.front.Front.{Front}
 use Rattle.pf_kernel.specs.Fronts.{front_of}
-use Rattle.pf_kernel.specs.Lines.{Begun, Said, Nothing, Bare, Over, SaysOf, IsShape, may_stand, told_at, end_of, end_by, IsTokensSyntax, front, with_said}
-use Rattle.pf_kernel.proofs.Shapes.{found, shaped}
+use Rattle.pf_kernel.specs.Lines.{Begun, IsShape, may_stand, told_at, end_of, end_by, IsTokensFault, front}
+use Rattle.pf_kernel.proofs.Shapes.{shaped}
 use Rattle.pf_kernel.proofs.FrontFaults.{front_fault}
 
 -- ---- tokens stand in their text
@@ -42,23 +43,11 @@ place_fits text ts n h = place_within (length text) _ _ (all_within 0 (length te
 pub end_fits : (text : List ℕ) (ts : List Token) (n : ℕ) → IsLexed 0 text ts → end_of ts n ≤ length text
 end_fits text ts n h = end_within (length text) _ (all_within 0 (length text) text ts h (omega arith) n)
 
--- ---- what may be said
-pub empty_says : (b : Begun) (text : List ℕ) (ts : List Token) (said : Said) → length ts < 1 → SaysOf b text ts said → b ≡ with_said b said
-empty_says b text (t ∷ ts) said none h = absurd (omega arith)
-empty_says b text [] Nothing none h = refl
-empty_says b text [] (Bare f) none h = absurd (cc (found b [] f h.0))
-empty_says b text [] (Over f d) none h = absurd (cc (found b [] f h.0))
-
-pub stuck_says : (b : Begun) (text : List ℕ) (ts : List Token) (said : Said) (n : ℕ) → Err n ≡ front_of (may_stand b) (kinds ts) → 1 ≤ length ts → SaysOf b text ts said → ⊥
-stuck_says b text ts Nothing n e some h = absurd (let none : length ts ≡ 0 = ap length h in omega arith)
-stuck_says b text ts (Bare f) n e some h = absurd (cc (found b (kinds ts) f h.0))
-stuck_says b text ts (Over f d) n e some h = absurd (cc (found b (kinds ts) f h.0))
-
-pub front_syntax : (b : Begun) (text : List ℕ) (ts : List Token) (n column : ℕ) → Err n ≡ front_of (may_stand b) (kinds ts) → 1 ≤ length ts → column ≡ place_of ts (told_at (kinds ts) n) + 1 → IsTokensSyntax b text ts column
-front_syntax b text ts n column e some is =
+-- ---- what is told of the front
+pub front_told : (b : Begun) (text : List ℕ) (ts : List Token) (n column : ℕ) → Err n ≡ front_of (may_stand b) (kinds ts) → 1 ≤ length ts → column ≡ place_of ts (told_at (kinds ts) n) + 1 → IsTokensFault b text ts (Syntax column)
+front_told b text ts n column e some is =
     let long : length (kinds ts) ≡ length ts = length-map ts (λ t. t.kind) in
-    let first = front_fault b (kinds ts) n (omega arith) (sym e) in
-    subst (IsTokensSyntax b text ts) (sym is) (front n first)
+    subst (λ (c : ℕ). IsTokensFault b text ts (Syntax c)) (sym is) (front n (front_fault b (kinds ts) n (omega arith) (sym e)))
 
 pub front_shape : (b : Begun) (ts : List Token) (f : Front) → Ok f ≡ front_of (may_stand b) (kinds ts) → IsShape b (kinds ts) f
 front_shape b ts f e = shaped b (kinds ts) f (sym e)

@@ -1,7 +1,8 @@
 -- The tokens of a line's front are judged as its shape says.
 use Rattle.std.proofs.Common.{◌≡◌, refl, sym, ◌∙◌, ap, subst, ℕ, ◌≤◌, Bool, true, false, List, [], ◌∷◌, arith}
-use Rattle.std.specs.Prelude.{ℤ, pos, negsuc, Ok, Err, Result, int_le, ◌&&◌, if◌then◌else◌, unsigned_abs, ◌≤ℤ◌}
+use Rattle.std.specs.Prelude.{ℤ, pos, negsuc, Ok, Err, Result, int_le, if◌then◌else◌, unsigned_abs, ◌≤ℤ◌}
 use Rattle.std.proofs.lemmas.Int.{ints}
+use Rattle.std.proofs.lemmas.Bool.{and_from, and_parts}
 use Rattle.pf_ints.specs.declared.lane.LaneType.{LaneType}
 use Rattle.pf_ints.specs.declared.lane.Bits.{Bits}
 use Rattle.pf_ints.specs.declared.lane.Bits.TheVariants.{Eight, Sixteen, ThirtyTwo}
@@ -42,18 +43,6 @@ test_by false ThirtyTwo h = absurd (omega (arith, h.narrow))
 pub pixel_test : (t : LaneType) → IsPixelType t → is_pixel t ≡ true
 pixel_test t h = test_by t.signed t.bits h
 
-and_left : (a b : Bool) → (a && b) ≡ true → a ≡ true
-and_left true b h = refl
-and_left false b h = absurd (cc)
-
-and_right : (a b : Bool) → (a && b) ≡ true → b ≡ true
-and_right true b h = h
-and_right false b h = absurd (cc)
-
-both : (a b : Bool) → a ≡ true → b ≡ true → (a && b) ≡ true
-both true b h k = k
-both false b h k = absurd (cc)
-
 le_means : (a b : ℤ) → int_le a b ≡ true → a ≤ℤ b
 le_means a b h = grind (arith, ints)
 
@@ -69,15 +58,15 @@ least_is t h = least_by t.signed t.bits h
 
 no_negative : (t : LaneType) (n : ℕ) → is_pixel t ≡ true → is_in t (negsuc n) ≡ true → ⊥
 no_negative t n p h =
-    let low : least t ≤ℤ negsuc n = le_means (least t) (negsuc n) (and_left _ _ h) in
+    let low : least t ≤ℤ negsuc n = le_means (least t) (negsuc n) (and_parts _ _ h).0 in
     let zero_first : pos 0 ≤ℤ negsuc n = subst (λ (l : ℤ). l ≤ℤ negsuc n) (least_is t p) low in
     absurd (omega (arith, ints, zero_first))
 
 in_means : (t : LaneType) (n : ℤ) → is_in t n ≡ true → IsIn t n
-in_means t n h = record { low = le_means (least t) n (and_left _ _ h); high = le_means n (greatest t) (and_right (int_le (least t) n) _ h) }
+in_means t n h = record { low = le_means (least t) n (and_parts _ _ h).0; high = le_means n (greatest t) (and_parts (int_le (least t) n) _ h).1 }
 
 in_test : (t : LaneType) (n : ℤ) → IsIn t n → is_in t n ≡ true
-in_test t n h = both _ _ (le_test (least t) n h.low) (le_test n (greatest t) h.high)
+in_test t n h = and_from _ _ (le_test (least t) n h.low) (le_test n (greatest t) h.high)
 
 pos_le : (a b : ℕ) → pos a ≤ℤ pos b → a ≤ b
 pos_le a b h = omega (arith, ints, h)
@@ -90,10 +79,10 @@ low_test t lo hi p h k =
     let top : pos hi ≤ℤ greatest t = k.high in
     let low : least t ≤ℤ pos lo = subst (λ (l : ℤ). l ≤ℤ pos lo) (sym (least_is t p)) (le_pos 0 lo (omega arith)) in
     let high : pos lo ≤ℤ greatest t = omega (arith, ints, h, top) in
-    both _ _ (le_test (least t) (pos lo) low) (le_test (pos lo) (greatest t) high)
+    and_from _ _ (le_test (least t) (pos lo) low) (le_test (pos lo) (greatest t) high)
 
 range_test : (t : LaneType) (lo hi : ℕ) → lo ≤ hi → IsIn t (pos hi) → is_range t (pos lo) (pos hi) ≡ true
-range_test t lo hi h k = both _ _ (le_test (pos lo) (pos hi) (le_pos lo hi h)) (in_test t (pos hi) k)
+range_test t lo hi h k = and_from _ _ (le_test (pos lo) (pos hi) (le_pos lo hi h)) (in_test t (pos hi) k)
 
 -- ---- a shape is found
 
@@ -121,9 +110,9 @@ range_shape : (b : Begun) (n : List ℕ) (t : LaneType) (lo hi : ℤ) (ks : List
     IsShape b (Line Image ∷ Name n ∷ TypeWord t ∷ Number lo ∷ Number hi ∷ ks) f
 range_shape b n t (pos lo) (pos hi) [] f may pixel low range h =
     subst (IsShape b (Line Image ∷ Name n ∷ TypeWord t ∷ Number (pos lo) ∷ Number (pos hi) ∷ [])) (ok_same h)
-    (ranged n t lo hi may (pixel_means t pixel) (pos_le lo hi (le_means _ _ (and_left _ _ range))) (in_means t (pos hi) (and_right (int_le (pos lo) (pos hi)) _ range)))
+    (ranged n t lo hi may (pixel_means t pixel) (pos_le lo hi (le_means _ _ (and_parts _ _ range).0)) (in_means t (pos hi) (and_parts (int_le (pos lo) (pos hi)) _ range).1))
 range_shape b n t (negsuc lo) hi [] f may pixel low range h = absurd (no_negative t lo pixel low)
-range_shape b n t (pos lo) (negsuc hi) [] f may pixel low range h = absurd (no_negative t hi pixel (and_right (int_le (pos lo) (negsuc hi)) _ range))
+range_shape b n t (pos lo) (negsuc hi) [] f may pixel low range h = absurd (no_negative t hi pixel (and_parts (int_le (pos lo) (negsuc hi)) _ range).1)
 range_shape b n t lo hi (x ∷ xs) f may pixel low range h = absurd (cc)
 
 high_shape : (b : Begun) (n : List ℕ) (t : LaneType) (lo hi : ℤ) (ks : List Kind) (f : Front) → may_stand b Image ≡ true → is_pixel t ≡ true → is_in t lo ≡ true → (v : Bool) → is_range t lo hi ≡ v → (if v then range_end n t lo hi ks else Err 4) ≡ Ok f →

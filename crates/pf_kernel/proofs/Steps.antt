@@ -1,8 +1,9 @@
 -- What is read stays within the rules with each line.
-use Rattle.std.proofs.Common.{◌≡◌, refl, sym, ◌∙◌, ap, subst, ℕ, ◌+◌, ◌≤◌, ◌<◌, Bool, true, false, ◌&&◌, not, List, [], ◌∷◌, ◌++◌, length, map, append-nil, arith, length-append}
+use Rattle.std.proofs.Common.{◌≡◌, refl, sym, ◌∙◌, ap, subst, ℕ, ◌+◌, ◌≤◌, ◌<◌, true, false, List, [], ◌∷◌, ◌++◌, length, map, append-nil, arith, length-append}
 use Rattle.std.specs.Prelude.{All, OnOk, Result, Ok, Err, Option, Some, None, is_some, MatchOption}
 use Rattle.std.proofs.lemmas.List.{length-map, map-append}
 use Rattle.std.proofs.lemmas.List.Elements.{All-push}
+use Rattle.std.proofs.lemmas.Bool.{and_parts, not-true}
 use Rattle.pf_ints.specs.declared.lane.LaneType.{LaneType}
 use Rattle.pf_ints.specs.Images.{IsPixelType}
 use Rattle.pf_ints.specs.Words.{is_name}
@@ -20,18 +21,6 @@ use Rattle.pf_kernel.specs.declared.reading.Reading.{Reading}
 use Rattle.pf_kernel.specs.Readings.{IsGood, IsReading, begun_of}
 use Rattle.pf_kernel.proofs.Naming.{named_more}
 
-and_left : (a b : Bool) → (a && b) ≡ true → a ≡ true
-and_left true b h = refl
-and_left false b h = absurd (cc)
-
-and_right : (a b : Bool) → (a && b) ≡ true → b ≡ true
-and_right true b h = h
-and_right false b h = absurd (cc)
-
-not_true : (a : Bool) → not a ≡ true → a ≡ false
-not_true true h = absurd (cc)
-not_true false h = refl
-
 empty : {A : Type 0} (xs : List A) → is_empty xs ≡ true → xs ≡ []
 empty [] h = refl
 empty (x ∷ xs) h = absurd (cc)
@@ -47,8 +36,8 @@ pub record IsOpen (b : Begun) : Type 0 where
 
 open_for_images : (b : Begun) → may_stand b Image ≡ true → IsOpen b
 open_for_images b h =
-    let rest = and_right (is_some b.name) _ h in
-    record { defs = empty b.defs (and_left _ _ rest); out = absent b.out (not_true _ (and_right (is_empty b.defs) _ rest)) }
+    let rest = (and_parts (is_some b.name) _ h).1 in
+    record { defs = empty b.defs (and_parts _ _ rest).0; out = absent b.out (not-true _ (and_parts (is_empty b.defs) _ rest).1) }
 
 named_by : (o : Option (List ℕ)) (images : List ImageDecl) → is_some o ≡ true → MatchOption o (images ≡ []) (λ n. is_name n ≡ true) → (more : List ImageDecl) → MatchOption o (more ≡ []) (λ n. is_name n ≡ true)
 named_by (Some n) images some h more = h
@@ -72,7 +61,7 @@ good_image b d h may named pixel range free few =
     let no_defs : map def_name b.defs ≡ [] = ap (map def_name) opened.defs in
     let all : all_names (names_in more) ≡ all_names (names_in b) ++ d.name ∷ [] = ap (λ xs. names_by xs (map def_name b.defs)) images ∙ one_image (map image_name b.images) (image_name d) (map def_name b.defs) no_defs in
     record {
-      called = named_by b.name b.images (and_left _ _ may) h.called (b.images ++ d ∷ []);
+      called = named_by b.name b.images (and_parts _ _ may).0 h.called (b.images ++ d ∷ []);
       names = named_more (names_in b) (names_in more) d.name h.names named free all refl (omega arith) (omega arith) h.names.few_defs (subst (λ (xs : List ImageName). All (λ i. IsPixelType i.ty) xs) (sym images) (All-push (λ i. IsPixelType i.ty) (map image_name b.images) (image_name d) h.names.pixels pixel));
       images = All-push IsDecl b.images d h.images range;
       defs = subst (λ (ds : List Definition). AreDefinitions (names_behind (b.images ++ d ∷ []) b.taps []) ds) (sym opened.defs) tt;

@@ -4,6 +4,7 @@ use Rattle.std.specs.Prelude.{ℤ, max, int_le, if◌then◌else◌, cond, not}
 use Rattle.std.specs.List.{concat, flat_map, list_any, position_or_len}
 use Rattle.std.proofs.lemmas.Int.{ints}
 use Rattle.std.proofs.lemmas.Bool.Decides.{nat_tests}
+use Rattle.std.proofs.lemmas.Bool.{and_from}
 use Rattle.pf_ints.specs.declared.lane.LaneType.{LaneType}
 use Rattle.pf_terms.specs.declared.draft.Draft.{Draft, roll-Draft, map-Draft}
 use Rattle.pf_terms.specs.declared.draft.Draft.TheOpen.{Draft-F}
@@ -58,11 +59,7 @@ behind_all {X} p (x ∷ xs) ys y h k = by (λ e. behind_all p xs ys y (ap (λ v.
   by later false e = place_later p x (xs ++ y ∷ ys) e ∙ ap (λ n. 1 + n) (later e) ∙ omega arith
 
 same_int : (n : ℤ) → int_same n n ≡ true
-same_int n = both _ _ (self n) (self n) where
-  both : (a b : Bool) → a ≡ true → b ≡ true → (a && b) ≡ true
-  both true b h k = k
-  both false b h k = absurd (cc)
-
+same_int n = and_from _ _ (self n) (self n) where
   self : (n : ℤ) → int_le n n ≡ true
   self n = grind (arith, ints)
 

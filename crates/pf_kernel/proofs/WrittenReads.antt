@@ -34,7 +34,7 @@ use Rattle.pf_terms.proofs.TapLists.{Each, each_front, each_behind, each_of_all,
 use Rattle.pf_terms.proofs.Typing.{same_self}
 use Rattle.pf_kernel.specs.declared.front.Front.TheVariants.{Kernel as KernelFront, Image as ImageFront, Def as DefFront, Out as OutFront}
 use Rattle.pf_kernel.specs.Kernels.{Meaning, image_name, def_name, names_behind, names_of, IsDecl, IsTermOf, AreDefinitions, terms_of, taps_in, AreInTurn, IsKernelOf}
-use Rattle.pf_kernel.specs.Lines.{Begun, nothing, is_empty, Said, Bare, Over, if_so, counted, more_than, is_taken, taken, mistyped, names_with, term_with, nodes_in, judged, expression_faults, with_said, IsRead, AreRead}
+use Rattle.pf_kernel.specs.Lines.{Begun, nothing, is_empty, Bare, Over, if_so, counted, more_than, is_taken, taken, mistyped, names_with, term_with, nodes_in, judged, expression_faults, IsStep, AreRead}
 use Rattle.pf_kernel.specs.Texts.{all_of, image_text, def_text}
 use Rattle.pf_kernel.proofs.Extending.{more_names}
 use Rattle.pf_kernel.proofs.Fewer.{taps_split, IsSpoken, means_fewer}
@@ -199,14 +199,8 @@ behind_some [] h = absurd (omega arith)
 behind_some (x ∷ xs) h = refl
 
 -- ---- one line after another
--- the line is read behind the first lines, and with it there is that
-record IsStep (b : Begun) (line : List ℕ) (c : Begun) : Type 0 where
-  said : Said
-  read : IsRead b line said
-  next : with_said b said ≡ c
-
 step_first : (b c e : Begun) (line : List ℕ) (more : List (List ℕ)) → IsStep b line c → AreRead c more e → AreRead b (line ∷ more) e
-step_first b c e line more s rest = (s.said, s.read, subst (λ (x : Begun). AreRead x more e) (sym s.next) rest)
+step_first b c e line more s rest = (c, s, rest)
 
 -- ---- the lines of a kernel
 module _ (k : Meaning) (h : IsKernelOf k) where

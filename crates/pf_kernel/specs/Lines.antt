@@ -2,6 +2,7 @@
 use Rattle.std.specs.Prelude.{◌≡◌, ℕ, ℤ, pos, ◌+◌, ◌-◌, ◌^◌, ◌≤◌, ◌<◌, min, nat_lt, Bool, true, false, not, ◌&&◌, ◌||◌, ◌==◌, if◌then◌else◌, unsigned_abs, is_some, List, [], ◌∷◌, ◌++◌, length, take, drop, map, sum, slice_get, Option, Some, None, Result, Ok, Err}
 use Rattle.std.specs.List.{before_first}
 use Rattle.std.specs.Option.{option_map}
+use Rattle.pf_text.specs.FirstFaults.{Steps}
 use Rattle.pf_ints.specs.declared.lane.LaneType.{LaneType}
 use Rattle.pf_ints.specs.Images.{IsPixelType}
 use Rattle.pf_ints.specs.Lanes.{IsIn, greatest}
@@ -123,14 +124,6 @@ SaysOf b text ts (Over f d) = IsShape b (kinds ts) f × ((n : ℕ) × (equals_of
 abbrev pub Says : Begun → List ℕ → Said → Type 0
 Says b line said = (ts : List Token) × IsLexed 0 (uncommented line) ts × SaysOf b (uncommented line) ts said
 
--- a line of these tokens may not stand there or isn't whole, and this is the column of its first fault
-pub data IsTokensSyntax (b : Begun) (text : List ℕ) (ts : List Token) : ℕ → Type 0 where
-  front : (n : ℕ) → IsFrontFault b (kinds ts) n → IsTokensSyntax b text ts (place_of ts (told_at (kinds ts) n) + 1)
-  expression : (f : Front) (n place : ℕ) → IsShape b (kinds ts) f → equals_of f ≡ Some n → IsSyntaxFault (drop (end_of ts n) text) place → IsTokensSyntax b text ts (end_of ts n + place + 1)
-
-abbrev pub IsLineSyntax : Begun → List ℕ → ℕ → Type 0
-IsLineSyntax b line column = (ts : List Token) × IsLexed 0 (uncommented line) ts × IsTokensSyntax b (uncommented line) ts column
-
 -- ---- the faults of what a line says, in the order in which they are judged
 
 abbrev pub if_so : Bool → ReadFault → Option ReadFault
@@ -205,12 +198,22 @@ pub record IsRead (b : Begun) (line : List ℕ) (said : Said) : Type 0 where
   pub says : Says b line said
   pub faultless : first_some (faults b said) ≡ None
 
+-- a line of these tokens may not stand there, isn't whole, or says what it may not, and this is its first fault
+pub data IsTokensFault (b : Begun) (text : List ℕ) (ts : List Token) : ReadFault → Type 0 where
+  front : (n : ℕ) → IsFrontFault b (kinds ts) n → IsTokensFault b text ts (Syntax (place_of ts (told_at (kinds ts) n) + 1))
+  expression : (f : Front) (n place : ℕ) → IsShape b (kinds ts) f → equals_of f ≡ Some n → IsSyntaxFault (drop (end_of ts n) text) place → IsTokensFault b text ts (Syntax (end_of ts n + place + 1))
+  meaning : (said : Said) (fault : ReadFault) → SaysOf b text ts said → first_some (faults b said) ≡ Some fault → IsTokensFault b text ts fault
+
 -- the line's first fault
 abbrev pub IsLineFault : Begun → List ℕ → ReadFault → Type 0
-IsLineFault b line (Syntax column) = IsLineSyntax b line column
-IsLineFault b line fault = (said : Said) × Says b line said × (first_some (faults b said) ≡ Some fault)
+IsLineFault b line fault = (ts : List Token) × IsLexed 0 (uncommented line) ts × IsTokensFault b (uncommented line) ts fault
+
+-- with the line there is said this
+pub record IsStep (b : Begun) (line : List ℕ) (c : Begun) : Type 0 where
+  pub said : Said
+  pub read : IsRead b line said
+  pub next : with_said b said ≡ c
 
 -- the lines say this, one after the other
 abbrev pub AreRead : Begun → List (List ℕ) → Begun → Type 0
-AreRead b [] c = b ≡ c
-AreRead b (line ∷ lines) c = (said : Said) × IsRead b line said × AreRead (with_said b said) lines c
+AreRead b lines c = Steps IsStep b lines c

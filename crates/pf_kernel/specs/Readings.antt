@@ -1,9 +1,11 @@
 -- What holds of a kernel while it is read.
 use Rattle.std.specs.Prelude.{◌≡◌, ℕ, ◌+◌, ◌^◌, ◌<◌, ◌≤◌, Bool, true, false, List, [], ◌∷◌, ◌++◌, length, map, All, Option, Some, None, MatchOption, Result, Ok, Err}
 use Rattle.std.specs.List.{flat_map}
+use Rattle.pf_text.specs.Answers.{Answers}
 use Rattle.pf_ints.specs.declared.lane.LaneType.{LaneType}
 use Rattle.pf_ints.specs.Images.{IsPixelType}
 use Rattle.pf_ints.specs.Words.{is_name}
+use Rattle.pf_terms.specs.declared.draft.Draft.{Draft}
 use Rattle.pf_terms.specs.declared.meaning.ReadFault.{ReadFault}
 use Rattle.pf_terms.specs.declared.meaning.ReadFault.TheVariants.{Syntax, Name, Memory}
 use Rattle.pf_terms.specs.declared.term.Term.{Term}
@@ -16,7 +18,7 @@ use Rattle.pf_kernel.specs.declared.front.Front.TheVariants.{Kernel as KernelFro
 use Rattle.pf_kernel.specs.declared.reading.Reading.{Reading}
 use Rattle.pf_terms.specs.declared.token.LineWord.TheVariants.{Kernel as KernelWord, Image as ImageWord, Def as DefWord, Out as OutWord}
 use Rattle.pf_kernel.specs.Kernels.{names_behind, IsDecl, IsTermOf, AreDefinitions, AreInTurn, taps_in}
-use Rattle.pf_kernel.specs.Lines.{Begun, names_in, nodes_in, may_stand, Said, Over, SaysOf, IsTokensSyntax, faults, with_said, IsRead, IsLineFault}
+use Rattle.pf_kernel.specs.Lines.{Begun, names_in, nodes_in, may_stand, Said, Over, SaysOf, IsTokensFault, faults, with_said}
 use Rattle.pf_terms.specs.declared.token.Token.{Token}
 
 -- what the fields of a reading say
@@ -46,36 +48,26 @@ pub record IsReading (r : Reading) : Type 0 where
   pub good : IsGood (begun_of r)
   pub same : r.names ≡ names_in (begun_of r)
 
--- the answer to what a line says: what is said with it, or its first fault
-abbrev pub Answers : Begun → Said → Result Reading ReadFault → Type 0
-Answers b said (Ok r) = (first_some (faults b said) ≡ None) × (begun_of r ≡ with_said b said)
-Answers b said (Err Memory) = Unit {0}
-Answers b said (Err fault) = first_some (faults b said) ≡ Some fault
+-- this is said without a fault, and with it there is that
+abbrev pub IsAdded : Begun → Said → Begun → Type 0
+IsAdded b said c = (first_some (faults b said) ≡ None) × (c ≡ with_said b said)
 
--- the answer to an expression behind the front
+-- the answer to what a line says
+abbrev pub AnswersSaid : Begun → Said → Result Reading ReadFault → Type 0
+AnswersSaid b said r = Answers Memory (λ s. IsAdded b said (begun_of s)) (λ fault. first_some (faults b said) ≡ Some fault) r
+
+-- the first fault of an expression behind the front
+abbrev pub IsTextFault : Begun → Front → List ℕ → ReadFault → Type 0
+IsTextFault b f text (Syntax column) = (place : ℕ) × IsSyntaxFault text place × (column ≡ place + 1)
+IsTextFault b f text fault = (d : Draft) × IsDraftText text d × (first_some (faults b (Over f d)) ≡ Some fault)
+
+-- the answer to such an expression
 abbrev pub AnswersText : Begun → Front → List ℕ → Result Reading ReadFault → Type 0
-AnswersText b f text (Err (Syntax column)) = (place : ℕ) × IsSyntaxFault text place × (column ≡ place + 1)
-AnswersText b f text (Err Memory) = Unit {0}
-AnswersText b f text r = (d : _) × IsDraftText text d × Answers b (Over f d) r
-
--- the answer is this, or memory was wanting
-abbrev pub IsBegunOr : Begun → Result Reading ReadFault → Type 0
-IsBegunOr b (Ok r) = begun_of r ≡ b
-IsBegunOr b (Err Memory) = Unit {0}
-IsBegunOr b (Err fault) = ⊥
-
--- the answer to a line
-abbrev pub AnswersLine : Begun → List ℕ → Result Reading ReadFault → Type 0
-AnswersLine b line (Ok r) = (said : Said) × IsRead b line said × (begun_of r ≡ with_said b said)
-AnswersLine b line (Err Memory) = Unit {0}
-AnswersLine b line (Err fault) = IsLineFault b line fault
+AnswersText b f text r = Answers Memory (λ s. (d : Draft) × IsDraftText text d × IsAdded b (Over f d) (begun_of s)) (IsTextFault b f text) r
 
 -- the answer to the tokens of a line
 abbrev pub AnswersTokens : Begun → List ℕ → List Token → Result Reading ReadFault → Type 0
-AnswersTokens b text ts (Ok r) = (said : Said) × SaysOf b text ts said × (first_some (faults b said) ≡ None) × (begun_of r ≡ with_said b said)
-AnswersTokens b text ts (Err (Syntax column)) = IsTokensSyntax b text ts column
-AnswersTokens b text ts (Err Memory) = Unit {0}
-AnswersTokens b text ts (Err fault) = (said : Said) × SaysOf b text ts said × (first_some (faults b said) ≡ Some fault)
+AnswersTokens b text ts r = Answers Memory (λ s. (said : Said) × SaysOf b text ts said × IsAdded b said (begun_of s)) (IsTokensFault b text ts) r
 
 -- what was read, unless its name is taken: syntax and want of memory are told before a name
 abbrev pub unless_taken : Bool → List ℕ → Result Term ReadFault → Result Term ReadFault
@@ -89,10 +81,14 @@ abbrev pub IsNearColumn : ℕ → Result Reading ReadFault → Type 0
 IsNearColumn n (Err (Syntax column)) = n + column < 2 ^ 64
 IsNearColumn n _ = Unit {0}
 
--- the answer, so many bytes further on
+-- the fault and the answer, so many bytes further on
+abbrev pub moved_fault : ℕ → ReadFault → ReadFault
+moved_fault n (Syntax column) = Syntax (column + n)
+moved_fault n fault = fault
+
 abbrev pub moved : ℕ → Result Reading ReadFault → Result Reading ReadFault
-moved n (Err (Syntax column)) = Err (Syntax (column + n))
-moved n r = r
+moved n (Ok r) = Ok r
+moved n (Err fault) = Err (moved_fault n fault)
 
 -- what a line says in front may be added: the names are names, and images are as they must be
 abbrev pub MayAdd : Begun → Front → Type 0

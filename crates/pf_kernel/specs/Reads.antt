@@ -3,27 +3,16 @@ use Rattle.std.specs.Prelude.{◌≡◌, ℕ, ◌+◌, ◌≤◌, List, ◌++◌
 use Rattle.std.specs.Str.Lines.{lines}
 use Rattle.pf_terms.specs.declared.meaning.ReadFault.{ReadFault}
 use Rattle.pf_kernel.specs.declared.fault.KernelFault.{KernelFault}
-use Rattle.pf_kernel.specs.declared.fault.KernelFault.TheVariants.{Memory, Syntax}
+use Rattle.pf_kernel.specs.declared.fault.KernelFault.TheVariants.{Syntax}
 use Rattle.pf_kernel.specs.declared.reading.Reading.{Reading}
 use Rattle.pf_kernel.specs.Kernels.{Meaning}
-use Rattle.pf_kernel.specs.Lines.{Begun, Said, IsRead, IsLineFault, with_said, nothing, AreRead}
+use Rattle.pf_kernel.specs.Lines.{Begun, IsLineFault, nothing, AreRead}
 use Rattle.pf_kernel.specs.Readings.{begun_of, IsReading}
 use Rattle.pf_kernel.specs.Texts.{at_line, all_of}
 
 -- the fault of line n, behind those that were read
-pub data IsTold (b : Begun) (line : List ℕ) (n : ℕ) : KernelFault → Type 0 where
-  fault : (f : ReadFault) → IsLineFault b line f → IsTold b line n (at_line n f)
-  memory : IsTold b line n Memory
-
--- the answer to line n
-abbrev pub AnswersNext : Begun → List ℕ → ℕ → Result Reading KernelFault → Type 0
-AnswersNext b line n (Ok r) = (said : Said) × IsRead b line said × (begun_of r ≡ with_said b said)
-AnswersNext b line n (Err e) = IsTold b line n e
-
-abbrev pub IsNextOr : Begun → Result Reading KernelFault → Type 0
-IsNextOr b (Ok r) = begun_of r ≡ b
-IsNextOr b (Err Memory) = Unit {0}
-IsNextOr b (Err _) = ⊥
+abbrev pub IsFaultAt : Begun → List ℕ → ℕ → KernelFault → Type 0
+IsFaultAt b line n e = (f : ReadFault) × IsLineFault b line f × (e ≡ at_line n f)
 
 -- what was read so far: these lines of the text, and the others are what is left
 pub record IsSoFar (text rest : List ℕ) (count : ℕ) (r : Reading) : Type 0 where
@@ -33,13 +22,12 @@ pub record IsSoFar (text rest : List ℕ) (count : ℕ) (r : Reading) : Type 0 w
   pub count_is : count ≡ length before
   pub room : count + length rest ≤ length text
   pub read : AreRead nothing before (begun_of r)
-  pub onward : (b : Begun) → AreRead nothing (lines text) b → AreRead (begun_of r) (lines rest) b
 
--- the answer to all lines
-abbrev pub IsAllOr : Begun → Result (Reading × ℕ) KernelFault → Type 0
-IsAllOr b (Ok p) = begun_of p.0 ≡ b
-IsAllOr b (Err Memory) = Unit {0}
-IsAllOr b (Err _) = ⊥
+-- all lines of the text were read
+pub record IsWhole (text : List ℕ) (r : Reading) (count : ℕ) : Type 0 where
+  pub good : IsReading r
+  pub count_is : count ≡ length (lines text)
+  pub read : AreRead nothing (lines text) (begun_of r)
 
 -- the kernel of all lines, or else the text ends too early
 abbrev pub Finishes : Begun → ℕ → Result Meaning KernelFault → Type 0

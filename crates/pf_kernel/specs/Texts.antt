@@ -1,7 +1,8 @@
 -- Kernels as texts.
-use Rattle.std.specs.Prelude.{◌≡◌, ℕ, pos, ◌+◌, ◌≤◌, ◌<◌, List, [], ◌∷◌, ◌++◌, length, unsigned_abs, Some, None, Result, Ok, Err, codes, decimal}
+use Rattle.std.specs.Prelude.{◌≡◌, ℕ, pos, ◌+◌, ◌≤◌, ◌<◌, List, [], ◌∷◌, ◌++◌, length, unsigned_abs, Some, None, codes, decimal}
 use Rattle.std.specs.Str.Lines.{lines}
 use Rattle.std.specs.List.{flat_map}
+use Rattle.pf_text.specs.FirstFaults.{IsFirstFault}
 use Rattle.pf_terms.specs.declared.kernel.Definition.{Definition}
 use Rattle.pf_terms.specs.declared.kernel.ImageDecl.{ImageDecl}
 use Rattle.pf_terms.specs.declared.limit.LimitKind.TheVariants.{Bytes, Amount as AmountLimit}
@@ -14,7 +15,7 @@ use Rattle.pf_terms.specs.TermTexts.{type_word, term_text}
 use Rattle.pf_kernel.specs.declared.fault.KernelFault.{KernelFault}
 use Rattle.pf_kernel.specs.declared.fault.KernelFault.TheVariants.{Syntax, Name, Types, Limit, Memory}
 use Rattle.pf_kernel.specs.Kernels.{Meaning, names_of}
-use Rattle.pf_kernel.specs.Lines.{Begun, nothing, counted, IsLineFault, AreRead}
+use Rattle.pf_kernel.specs.Lines.{Begun, nothing, counted, IsLineFault, IsStep, AreRead}
 
 -- how many bytes a text may have
 unfoldable pub byte_limit : ℕ
@@ -41,26 +42,8 @@ at_line n NoMemory = Memory
 -- the bytes are no kernel's, and this is their first fault
 pub data IsKernelFault (bytes : List ℕ) : KernelFault → Type 0 where
   long : byte_limit < length bytes → IsKernelFault bytes (Limit Bytes (pos (length bytes)))
-  line : (before after : List (List ℕ)) (line : List ℕ) (b : Begun) (fault : ReadFault) → length bytes ≤ byte_limit → lines bytes ≡ before ++ line ∷ after → AreRead nothing before b →
-      IsLineFault b line fault → IsKernelFault bytes (at_line (length before + 1) fault)
+  line : (n : ℕ) (fault : ReadFault) → length bytes ≤ byte_limit → IsFirstFault IsStep IsLineFault nothing (lines bytes) n fault → IsKernelFault bytes (at_line (n + 1) fault)
   early : (b : Begun) → length bytes ≤ byte_limit → AreRead nothing (lines bytes) b → b.out ≡ None → IsKernelFault bytes (Syntax (length (lines bytes) + 1) 1)
-
--- the answer is this kernel, or memory was wanting
-abbrev pub IsKernelOr : Meaning → Result Meaning KernelFault → Type 0
-IsKernelOr k (Ok j) = j ≡ k
-IsKernelOr k (Err Memory) = Unit {0}
-IsKernelOr k (Err _) = ⊥
-
--- the answer is this fault, or memory was wanting
-abbrev pub IsKernelFaultOr : KernelFault → Result Meaning KernelFault → Type 0
-IsKernelFaultOr fault (Ok k) = ⊥
-IsKernelFaultOr fault (Err Memory) = Unit {0}
-IsKernelFaultOr fault (Err told) = told ≡ fault
-
--- what a refusal says of the text
-abbrev pub IsRefusal : List ℕ → KernelFault → Type 0
-IsRefusal bytes Memory = Unit {0}
-IsRefusal bytes fault = IsKernelFault bytes fault
 
 -- ---- a kernel's text as it is written
 

@@ -1,19 +1,18 @@
 ghost use Rattle.std.specs.List.{position};
 ghost use Rattle.pf_terms.specs.Terms.{node_count};
-ghost use Rattle.std.specs.Prelude.{◌-◌, min, sum, map, ◌≡◌, ◌<◌, ◌^◌, ◌==◌, IfSome, ◌+◌, ◌≤◌, ◌∷◌, [], ◌++◌, drop, length, true, false, IfOk, MatchResult, Some, None};
+ghost use Rattle.std.specs.Prelude.{◌-◌, min, sum, map, ◌≡◌, ◌<◌, ◌^◌, ◌==◌, IfSome, ◌+◌, ◌≤◌, [], drop, length, true, IfOk, Some, None};
+ghost use Rattle.pf_text.specs.Answers.{Answers};
 ghost use Rattle.pf_ints.specs.Images.{IsPixelType};
 ghost use Rattle.pf_ints.specs.Words.{is_name};
-ghost use Rattle.pf_terms.specs.declared.draft.Draft.{Draft};
+ghost use Rattle.pf_terms.specs.declared.meaning.ReadFault.TheVariants.{Memory};
 ghost use Rattle.pf_terms.specs.declared.token.LineWord.TheVariants.{Kernel, Image, Def, Out};
-ghost use Rattle.pf_terms.specs.Drafts.{IsDraftText};
-ghost use Rattle.pf_terms.specs.Meanings.{first_some};
 ghost use Rattle.pf_terms.specs.Parsing.{kinds, place_of};
 ghost use Rattle.pf_terms.specs.Tokens.{IsLexed};
-ghost use Rattle.pf_kernel.specs.declared.front.Front.TheVariants.{Kernel as KernelFront, Image as ImageFront, Def as DefFront, Out as OutFront};
+ghost use Rattle.pf_kernel.specs.declared.front.Front.TheVariants.{Image as ImageFront, Def as DefFront, Out as OutFront};
 ghost use Rattle.pf_kernel.specs.Fronts.{front_of};
 ghost use Rattle.pf_kernel.specs.Kernels.{IsDecl};
-ghost use Rattle.pf_kernel.specs.Lines.{Said, SaysOf, Bare, Over, IsShape, IsFrontFault, IsRead, may_stand, told_at, end_of, equals_of, uncommented, faults, with_said};
-ghost use Rattle.pf_kernel.specs.Readings.{begun_of, IsReading, Answers, AnswersText, AnswersTokens, AnswersLine, IsBegunOr, IsNearColumn, MayAdd, moved, unless_taken};
+ghost use Rattle.pf_kernel.specs.Lines.{Bare, IsShape, IsStep, IsLineFault, may_stand, told_at, end_of, uncommented};
+ghost use Rattle.pf_kernel.specs.Readings.{begun_of, IsReading, AnswersSaid, AnswersText, AnswersTokens, IsNearColumn, MayAdd, moved, unless_taken};
 
 use crate::expression::{Measure, read_expression};
 use crate::front::{Front, front_by};
@@ -30,8 +29,7 @@ const MOST_IMAGES: usize = 8;
 pub fn read_line(alloc: Global, reading: Reading, line: &[u8]) -> Result<Reading, ReadFault>
     requires good { IsReading reading }
     requires short { length line.now < 2 ^ 32 }
-    ensures found { AnswersLine (begun_of reading) line.now result }
-    ensures only { (said : Said) → IsRead (begun_of reading) line.now said → IsBegunOr (with_said (begun_of reading) said) result }
+    ensures answers { Answers Memory (λ r. IsStep (begun_of reading) line.now (begun_of r)) (IsLineFault (begun_of reading) line.now) result }
     ensures kept { IfOk result IsReading }
 {
     let text = uncommented(line);
@@ -48,8 +46,7 @@ fn read_tokens(
     requires good { IsReading reading }
     requires lexed { IsLexed 0 text.now tokens.now }
     requires short { length text.now < 2 ^ 32 }
-    ensures found { AnswersTokens (begun_of reading) text.now tokens.now result }
-    ensures only { (said : Said) → SaysOf (begun_of reading) text.now tokens.now said → first_some (faults (begun_of reading) said) ≡ None → IsBegunOr (with_said (begun_of reading) said) result }
+    ensures answers { AnswersTokens (begun_of reading) text.now tokens.now result }
     ensures kept { IfOk result IsReading }
 {
     match tokens {
@@ -75,8 +72,7 @@ fn read_front(
     requires short { length text.now < 2 ^ 32 }
     requires shape { IsShape (begun_of reading) (kinds tokens.now) front }
     requires may { MayAdd (begun_of reading) front }
-    ensures found { AnswersTokens (begun_of reading) text.now tokens.now result }
-    ensures only { (said : Said) → SaysOf (begun_of reading) text.now tokens.now said → first_some (faults (begun_of reading) said) ≡ None → IsBegunOr (with_said (begun_of reading) said) result }
+    ensures answers { AnswersTokens (begun_of reading) text.now tokens.now result }
     ensures kept { IfOk result IsReading }
 {
     match front {
@@ -197,7 +193,7 @@ fn read_image(reading: Reading, image: ImageDecl) -> Result<Reading, ReadFault>
     requires named { is_name image.name ≡ true }
     requires pixels { IsPixelType image.ty }
     requires range { IsDecl image }
-    ensures found { Answers (begun_of reading) (Bare (ImageFront image)) result }
+    ensures answers { AnswersSaid (begun_of reading) (Bare (ImageFront image)) result }
     ensures kept { IfOk result IsReading }
 {
     if reading.is_taken(&image.name) {
@@ -224,8 +220,7 @@ fn read_def(
     requires good { IsReading reading }
     requires may { may_stand (begun_of reading) Def ≡ true }
     requires named { is_name name ≡ true }
-    ensures found { AnswersText (begun_of reading) (DefFront name ty) text.now result }
-    ensures only { (d : Draft) → IsDraftText text.now d → first_some (faults (begun_of reading) (Over (DefFront name ty) d)) ≡ None → IsBegunOr (with_said (begun_of reading) (Over (DefFront name ty) d)) result }
+    ensures answers { AnswersText (begun_of reading) (DefFront name ty) text.now result }
     ensures kept { IfOk result IsReading }
 {
     let is_taken = reading.is_taken(&name);
@@ -254,8 +249,7 @@ fn read_out(
     requires good { IsReading reading }
     requires may { may_stand (begun_of reading) Out ≡ true }
     requires pixels { IsPixelType ty }
-    ensures found { AnswersText (begun_of reading) (OutFront ty) text.now result }
-    ensures only { (d : Draft) → IsDraftText text.now d → first_some (faults (begun_of reading) (Over (OutFront ty) d)) ≡ None → IsBegunOr (with_said (begun_of reading) (Over (OutFront ty) d)) result }
+    ensures answers { AnswersText (begun_of reading) (OutFront ty) text.now result }
     ensures kept { IfOk result IsReading }
 {
     let mut reading = reading;

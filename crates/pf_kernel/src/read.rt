@@ -1,13 +1,12 @@
-ghost use Rattle.std.specs.Prelude.{◌≡◌, ◌+◌, ◌∷◌, [], ◌++◌, ◌<◌, ◌≤◌, ◌^◌, length, IfOk, IfErr, MatchOption, IfSome, pos, Some, None, ◌==◌, List, ℕ};
+ghost use Rattle.std.specs.Prelude.{◌≡◌, ◌+◌, ◌<◌, ◌≤◌, ◌^◌, length, IfOk, pos, Some};
 ghost use Rattle.std.specs.Str.Lines.{lines};
+ghost use Rattle.pf_text.specs.Answers.{Answers, Decides};
 ghost use Rattle.pf_terms.specs.declared.limit.LimitKind.TheVariants.{Bytes};
-ghost use Rattle.pf_kernel.specs.declared.fault.KernelFault.{KernelFault};
-ghost use Rattle.pf_kernel.specs.declared.fault.KernelFault.TheVariants.{Limit};
-ghost use Rattle.pf_kernel.specs.Kernels.{Meaning};
-ghost use Rattle.pf_kernel.specs.Lines.{Begun, Said, IsRead, AreRead, nothing, with_said};
+ghost use Rattle.pf_kernel.specs.declared.fault.KernelFault.TheVariants.{Limit, Memory};
+ghost use Rattle.pf_kernel.specs.Lines.{IsStep};
 ghost use Rattle.pf_kernel.specs.Readings.{begun_of, IsReading};
-ghost use Rattle.pf_kernel.specs.Reads.{AnswersNext, IsNextOr, IsSoFar, IsAllOr, Finishes};
-ghost use Rattle.pf_kernel.specs.Texts.{IsKernel, IsKernelOr, IsKernelFault, IsKernelFaultOr, IsRefusal, at_line, all_of, byte_limit};
+ghost use Rattle.pf_kernel.specs.Reads.{IsFaultAt, IsWhole, Finishes};
+ghost use Rattle.pf_kernel.specs.Texts.{IsKernel, IsKernelFault, at_line, byte_limit};
 
 use crate::fault::KernelFault;
 use crate::kernel::Kernel;
@@ -28,14 +27,8 @@ const MOST_BYTES: usize = 65_536;
 /// The first fault is told, in the order of `KernelFault`.
 #[tactic(auto, unfolding(crate::specs::Texts::byte_limit))]
 pub fn read_kernel(alloc: Global, text: &[u8]) -> Result<Kernel, KernelFault>
-    // What is read is the kernel of the text.
-    ensures found { IfOk result (λ k. IsKernel text.now k) }
-    // The kernel of a text is read, unless memory runs out.
-    ensures only { (k : Meaning) → IsKernel text.now k → IsKernelOr k result }
-    // What is told is the text's first fault, or want of memory.
-    ensures fault { IfErr result (IsRefusal text.now) }
-    // The first fault of a text is told, unless memory runs out.
-    ensures told { (fault : KernelFault) → IsKernelFault text.now fault → IsKernelFaultOr fault result }
+    // The kernel of the text is read, or its first fault is told, unless memory runs out.
+    ensures { Decides Memory (IsKernel text.now) (IsKernelFault text.now) result }
 {
     if MOST_BYTES < text.len() {
         return Err(too_long(text.len()));
@@ -59,10 +52,8 @@ fn too_long(count: usize) -> KernelFault
 // What all lines say, and how many they are.
 fn read_lines(alloc: Global, text: &[u8]) -> Result<(Reading, u32), KernelFault>
     requires { length text.now ≤ byte_limit }
-    ensures found { IfOk result (λ p. (AreRead nothing (lines text.now) (begun_of p.0)) × (p.1 ≡ length (lines text.now)) × IsReading p.0) }
+    ensures answers { Answers Memory (λ p. IsWhole text.now p.0 p.1) (IsKernelFault text.now) result }
     ensures few { IfOk result (λ p. p.1 ≤ length text.now) }
-    ensures only { (b : Begun) → AreRead nothing (lines text.now) b → IsAllOr b result }
-    ensures fault { IfErr result (IsRefusal text.now) }
 {
     let mut reading = Reading::new(alloc);
     let mut count: u32 = 0;
@@ -83,8 +74,7 @@ fn read_lines(alloc: Global, text: &[u8]) -> Result<(Reading, u32), KernelFault>
 fn read_next(alloc: Global, reading: Reading, line: &[u8], n: u32) -> Result<Reading, KernelFault>
     requires good { IsReading reading }
     requires short { length line.now < 2 ^ 32 }
-    ensures found { AnswersNext (begun_of reading) line.now n result }
-    ensures only { (said : Said) → IsRead (begun_of reading) line.now said → IsNextOr (with_said (begun_of reading) said) result }
+    ensures answers { Answers Memory (λ r. IsStep (begun_of reading) line.now (begun_of r)) (IsFaultAt (begun_of reading) line.now n) result }
     ensures kept { IfOk result IsReading }
 {
     match read_line(alloc, reading, line) {

@@ -1,23 +1,12 @@
--- The fault of a text that is no kernel, and the types of a kernel's images.
-use Rattle.std.proofs.Common.{◌≡◌, ◌<◌, ℕ, List, [], ◌∷◌, length, map, Err, subst, sym, arith}
+-- The types of a kernel's images.
+use Rattle.std.proofs.Common.{◌<◌, List, [], ◌∷◌, length, map, subst, sym, arith}
 use Rattle.std.specs.Prelude.{All}
 use Rattle.std.proofs.lemmas.List.{get_or-map, length-map}
 use Rattle.std.proofs.lemmas.List.Elements.{All-get_or, All-from_get_or}
 use Rattle.pf_ints.specs.Images.{IsPixelType}
 use Rattle.pf_terms.specs.declared.kernel.ImageDecl.{ImageDecl}
 use Rattle.pf_terms.specs.declared.names.ImageName.{ImageName}
-use Rattle.pf_kernel.specs.declared.fault.KernelFault.{KernelFault}
-use Rattle.pf_kernel.specs.Kernels.{Meaning, image_name}
-use Rattle.pf_kernel.specs.Texts.{IsKernel, IsKernelOr, IsRefusal}
-use Rattle.pf_top.specs.declared.kernel_file.KernelRefusal.{KernelRefusal}
-use Rattle.pf_top.specs.declared.kernel_file.KernelRefusal.TheVariants.{Syntax, Name, Types, Limit}
-use Rattle.pf_top.specs.KernelFiles.{kernel_fault, RefusesKernel}
-
-pub refused : (bytes : List ℕ) (e : KernelRefusal) (fault : KernelFault) → fault ≡ kernel_fault e → ((k : Meaning) → IsKernel bytes k → IsKernelOr k (Err fault)) → IsRefusal bytes fault → RefusesKernel e bytes
-refused bytes (Syntax line column) fault is only why = (λ k text. subst (λ f. IsKernelOr k (Err f)) is (only k text), subst (IsRefusal bytes) is why)
-refused bytes (Name line name) fault is only why = (λ k text. subst (λ f. IsKernelOr k (Err f)) is (only k text), subst (IsRefusal bytes) is why)
-refused bytes (Types line want got) fault is only why = (λ k text. subst (λ f. IsKernelOr k (Err f)) is (only k text), subst (IsRefusal bytes) is why)
-refused bytes (Limit what count) fault is only why = (λ k text. subst (λ f. IsKernelOr k (Err f)) is (only k text), subst (IsRefusal bytes) is why)
+use Rattle.pf_kernel.specs.Kernels.{image_name}
 
 pub pixel_decls : (ds : List ImageDecl) → All (λ (i : ImageName). IsPixelType i.ty) (map image_name ds) → All (λ d. IsPixelType d.ty) ds
 pixel_decls [] all = λ k d low. absurd (omega (arith, low))

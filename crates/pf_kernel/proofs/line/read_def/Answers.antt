@@ -36,8 +36,8 @@ returns-in_ok-add_def-in-Ok-clause-kept c =
     let others = c.in_ok-add_def-in-Ok.ensures.others in
     def_added r c.add_def.new.self now found.0 n ty x c.nodes_in.result c.requires.good c.requires.may c.requires.named free names term known typed (omega (arith, room, c.len.ensures)) counted most others.0 others.1 others.2 c.in_ok-add_def-in-Ok.ensures.names c.in_ok-add_def-in-Ok.ensures.defs
 
-pub returns-in-Err-clause-found : goal.returns-in-Err-clause-found
-returns-in-Err-clause-found c =
+pub returns-in-Err-clause-answers : goal.returns-in-Err-clause-answers
+returns-in-Err-clause-answers c =
     let r = c.args.reading in
     let b = begun_of r in
     let n = c.args.name in

@@ -1,5 +1,5 @@
 use Rattle.std.proofs.Common.{◌+◌, ◌≤◌, length, arith}
-use Rattle.pf_kernel.proofs.ReadLaws.{few_bytes, so_far_more, next_told}
+use Rattle.pf_kernel.proofs.ReadLaws.{few_bytes, so_far_more, next_told, whole}
 use Rattle.pf_kernel.proofs.read.read_lines.Goals as goal
 
 pub overflow_add-count : goal.overflow_add-count
@@ -21,10 +21,13 @@ read_next-requires-clause-short c =
     let line : length c.next_line.result.0.now ≤ length c.lines.rest.now = c.next_line.ensures.within in
     omega arith
 
-pub returns-in-Err-clause-fault : goal.returns-in-Err-clause-fault
-returns-in-Err-clause-fault c =
-    next_told c.args.text.now c.lines.rest.now c.next_line.result.1.now c.next_line.result.0.now c.lines.count c.lines.reading c.in-Err.fault c.lines.invariant c.requires c.next_line.ensures.lines c.in-Err.ensures.found
+pub returns-in-Err-clause-answers : goal.returns-in-Err-clause-answers
+returns-in-Err-clause-answers c =
+    next_told c.args.text.now c.lines.rest.now c.next_line.result.1.now c.next_line.result.0.now c.lines.count c.lines.reading c.lines.invariant c.next_line.ensures.lines c.in-Err.fault c.requires c.in-Err.ensures.answers
 
 pub lines-preserved : goal.lines-preserved
 lines-preserved c =
-    so_far_more c.args.text.now c.lines.rest.now c.next_line.result.1.now c.next_line.result.0.now c.lines.count c.lines.reading c.in-Ok.more c.lines.invariant c.next_line.ensures.lines c.next_line.ensures.less c.in-Ok.ensures.kept c.in-Ok.ensures.found c.in-Ok.ensures.only
+    so_far_more c.args.text.now c.lines.rest.now c.next_line.result.1.now c.next_line.result.0.now c.lines.count c.lines.reading c.lines.invariant c.next_line.ensures.lines c.in-Ok.more c.next_line.ensures.less c.in-Ok.ensures.kept c.in-Ok.ensures.answers
+
+pub returns-clause-answers : goal.returns-clause-answers
+returns-clause-answers c = whole c.args.text.now c.lines.rest.now c.lines.count c.lines.reading c.lines.invariant (omega arith)

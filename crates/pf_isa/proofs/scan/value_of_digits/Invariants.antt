@@ -1,6 +1,6 @@
 use Rattle.std.proofs.Common.{◌≡◌, ◌^◌, ◌<◌, drop}
 use Rattle.pf_isa.specs.Scan.{number_on}
-use Rattle.pf_isa.proofs.scan.number_of.Given as goal
+use Rattle.pf_isa.proofs.scan.value_of_digits.Given as goal
 
 abbrev pub invariant-loop-digit : goal.invariant-loop-digit
 invariant-loop-digit l =

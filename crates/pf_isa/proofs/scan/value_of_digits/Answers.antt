@@ -1,6 +1,6 @@
 use Rattle.std.proofs.Common.{arith, rules, ◌<◌, get_or}
 use Rattle.pf_isa.proofs.Fronts.{more_fits, digit_most}
-use Rattle.pf_isa.proofs.head_words.value_of_digits.Goals as goal
+use Rattle.pf_isa.proofs.scan.value_of_digits.Goals as goal
 
 pub overflow_mul-n : goal.overflow_mul-n
 overflow_mul-n c =

@@ -1,0 +1,2 @@
+//! Texts of lines: what a reader answers, and which fault of a text is told first.
+#![tactic(auto)]
