@@ -32,4 +32,3 @@ pub mod ReadBackNodes
 pub mod ReadBackLeaves
 pub mod ReadBackTerms
 pub mod ReadBackMeanings
-pub mod NoNames

@@ -13,8 +13,6 @@ mod names;
 mod op;
 mod print;
 mod read;
-#[cfg(test)]
-mod read_tests;
 mod reader;
 mod resolve;
 mod row;
@@ -24,12 +22,8 @@ mod stack;
 mod symbol;
 mod table;
 mod term;
-#[cfg(test)]
-mod tests;
 mod token;
 mod types;
-#[cfg(test)]
-mod value_tests;
 mod values;
 mod weights;
 
