@@ -5,8 +5,6 @@ mod fault;
 mod folds;
 mod rows;
 mod steps;
-#[cfg(test)]
-mod tests;
 
 pub use fault::StepFault;
 pub use steps::apply;

@@ -22,6 +22,3 @@ pub use real_files::RealFiles;
 pub use real_sink::RealSink;
 pub use sink::Sink;
 pub use writing::write_pgm;
-
-#[cfg(test)]
-mod tests;

@@ -5,14 +5,10 @@ mod expression;
 mod fault;
 mod front;
 mod kernel;
-#[cfg(test)]
-mod limit_tests;
 mod line;
 mod read;
 mod reading;
 mod size;
-#[cfg(test)]
-mod tests;
 mod write;
 
 pub use fault::KernelFault;

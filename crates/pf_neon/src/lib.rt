@@ -9,8 +9,3 @@ mod reads;
 
 pub use neon::Neon;
 pub use op::{Form, Lanes, Mnemonic, Op};
-
-#[cfg(test)]
-mod tests;
-#[cfg(test)]
-mod text_tests;

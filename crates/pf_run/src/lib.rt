@@ -17,6 +17,3 @@ pub use fault::{EvalFault, RunFault, SetFault};
 pub use program::run_program;
 pub use set::judge_set;
 pub use text::run_images;
-
-#[cfg(test)]
-mod tests;

@@ -32,5 +32,4 @@ pub mod ReadBackNodes
 pub mod ReadBackLeaves
 pub mod ReadBackTerms
 pub mod ReadBackMeanings
-pub mod NoNames
 pub mod Reaching

@@ -14,8 +14,6 @@ mod op;
 mod print;
 mod reach;
 mod read;
-#[cfg(test)]
-mod read_tests;
 mod reader;
 mod resolve;
 mod row;
@@ -25,12 +23,8 @@ mod stack;
 mod symbol;
 mod table;
 mod term;
-#[cfg(test)]
-mod tests;
 mod token;
 mod types;
-#[cfg(test)]
-mod value_tests;
 mod values;
 mod weights;
 

@@ -23,12 +23,3 @@ mod verdict;
 
 pub use report::tell_want;
 pub use top::pitchfork;
-
-#[cfg(test)]
-mod eval_tests;
-#[cfg(test)]
-mod least_tests;
-#[cfg(test)]
-mod run_tests;
-#[cfg(test)]
-mod tests;

@@ -1,11 +1,14 @@
+//! Forms, and the steps of certificates.
+
 ghost use Rattle.std.specs.Prelude.{◌≡◌, ◌<◌, IfOk, length};
 ghost use Rattle.pf_forms.specs.Shapes.{shape};
 ghost use Rattle.pf_forms.specs.Values.{IsFormOver};
 
-use super::*;
+use pf_axioms::{StepFault, apply};
 use pf_forms::{Axiom, Form, at, equal, form_bounds, print_form, put, size};
 use pf_ints::{FURTHEST, Interval, IntervalList, LaneType, Name, NameList, Path};
 use std::alloc::Global;
+use std::process::Abort;
 use std::test::Fail;
 
 /// Reads a form in which each operator stands before its parts.
@@ -178,74 +181,66 @@ fn knows_the_names(rt: HostRuntime) {
     assert_eq!(rt; Axiom::Cancel.name(), "cancel");
 }
 
-#[test]
-fn rewrites_by_each_axiom(rt: HostRuntime) -> Result<(), Fail> {
-    let cases = [
-        ("add_comm", "+xy", "add(y,x)"),
-        ("add_comm", "*xy", "no match"),
-        ("add_assoc", "++xyx", "add(x,add(y,x))"),
-        ("add_assoc", "+x+yx", "no match"),
-        ("add_back", "+x+yx", "add(add(x,y),x)"),
-        ("add_back", "++xyx", "no match"),
-        ("add_zero", "+x0", "x"),
-        ("add_zero", "+x1", "no match"),
-        ("sub_add", "-xy", "add(x,mul(-1,y))"),
-        ("sub_add", "+xy", "no match"),
-        ("cancel", "+x*nx", "0"),
-        ("cancel", "+y*nx", "no match"),
-        ("mul_comm", "*xy", "mul(y,x)"),
-        ("mul_comm", "+xy", "no match"),
-        ("mul_assoc", "**xyx", "mul(x,mul(y,x))"),
-        ("mul_assoc", "*x*yx", "no match"),
-        ("mul_back", "*x*yx", "mul(mul(x,y),x)"),
-        ("mul_back", "**xyx", "no match"),
-        ("mul_one", "*1x", "x"),
-        ("mul_one", "*x1", "no match"),
-        ("distribute", "*x+y1", "add(mul(x,y),mul(x,1))"),
-        ("distribute", "*+xyy", "no match"),
-        ("drop_wrap", "8x", "x"),
-        ("drop_wrap", "8y", "got 0 to 300"),
-        ("drop_wrap", "8+xM", "too wide"),
-        ("drop_wrap", "x", "no match"),
-        ("wrap_wrap", "86y", "wrap_u8(y)"),
-        ("wrap_wrap", "68y", "no match"),
-        ("wrap_add", "8+8xy", "wrap_u8(add(x,y))"),
-        ("wrap_add", "6+8xy", "no match"),
-        ("wrap_mul", "8*6xy", "wrap_u8(mul(x,y))"),
-        ("wrap_mul", "6*8xy", "no match"),
-    ];
-    for (axiom, before, expected) in cases {
-        let text = after(rt.alloc(), axiom, before)?;
-        assert!(rt;
-            text.as_slice() == expected.as_bytes(),
-            "{axiom} at {before}"
-        );
+/// Axioms, forms, and what each axiom makes of its form.
+const STEPS: &[(&str, &str, &str)] = &[
+    ("add_comm", "+xy", "add(y,x)"),
+    ("add_comm", "*xy", "no match"),
+    ("add_assoc", "++xyx", "add(x,add(y,x))"),
+    ("add_assoc", "+x+yx", "no match"),
+    ("add_back", "+x+yx", "add(add(x,y),x)"),
+    ("add_back", "++xyx", "no match"),
+    ("add_zero", "+x0", "x"),
+    ("add_zero", "+x1", "no match"),
+    ("sub_add", "-xy", "add(x,mul(-1,y))"),
+    ("sub_add", "+xy", "no match"),
+    ("cancel", "+x*nx", "0"),
+    ("cancel", "+y*nx", "no match"),
+    ("mul_comm", "*xy", "mul(y,x)"),
+    ("mul_comm", "+xy", "no match"),
+    ("mul_assoc", "**xyx", "mul(x,mul(y,x))"),
+    ("mul_assoc", "*x*yx", "no match"),
+    ("mul_back", "*x*yx", "mul(mul(x,y),x)"),
+    ("mul_back", "**xyx", "no match"),
+    ("mul_one", "*1x", "x"),
+    ("mul_one", "*x1", "no match"),
+    ("distribute", "*x+y1", "add(mul(x,y),mul(x,1))"),
+    ("distribute", "*+xyy", "no match"),
+    ("drop_wrap", "8x", "x"),
+    ("drop_wrap", "8y", "got 0 to 300"),
+    ("drop_wrap", "8+xM", "too wide"),
+    ("drop_wrap", "x", "no match"),
+    ("wrap_wrap", "86y", "wrap_u8(y)"),
+    ("wrap_wrap", "68y", "no match"),
+    ("wrap_add", "8+8xy", "wrap_u8(add(x,y))"),
+    ("wrap_add", "6+8xy", "no match"),
+    ("wrap_mul", "8*6xy", "wrap_u8(mul(x,y))"),
+    ("wrap_mul", "6*8xy", "no match"),
+    ("fold", "+L1", "1329227995784915872903807060280344576"),
+    ("fold", "+M1", "too wide"),
+    ("fold", "-N1", "too wide"),
+    ("fold", "*MM", "too wide"),
+    ("fold", "*nN", "1329227995784915872903807060280344576"),
+    ("fold", "/n", "-1"),
+    ("fold", "<n1", "-1"),
+    ("fold", ">n1", "1"),
+    ("fold", "aN", "1329227995784915872903807060280344576"),
+    ("fold", "8n", "255"),
+    ("fold", "sN", "-32768"),
+    ("fold", "?1n0M", "0"),
+    ("fold", "?nn0M", "1329227995784915872903807060280344576"),
+    ("fold", "+x1", "no match"),
+    ("fold", "1", "no match"),
+];
+
+fn try_steps<R: Abort + AllocGlobal>(rt: &R, rows: &[(&str, &str, &str)]) -> Result<(), Fail> {
+    for &(axiom, form, wanted) in rows {
+        let text = after(rt.alloc(), axiom, form)?;
+        assert!(rt; text.as_slice() == wanted.as_bytes(), "{axiom} at {form}");
     }
     Ok(())
 }
 
 #[test]
-fn folds_numbers(rt: HostRuntime) -> Result<(), Fail> {
-    let cases = [
-        ("+L1", "1329227995784915872903807060280344576"),
-        ("+M1", "too wide"),
-        ("-N1", "too wide"),
-        ("*MM", "too wide"),
-        ("*nN", "1329227995784915872903807060280344576"),
-        ("/n", "-1"),
-        ("<n1", "-1"),
-        (">n1", "1"),
-        ("aN", "1329227995784915872903807060280344576"),
-        ("8n", "255"),
-        ("sN", "-32768"),
-        ("?1n0M", "0"),
-        ("?nn0M", "1329227995784915872903807060280344576"),
-        ("+x1", "no match"),
-        ("1", "no match"),
-    ];
-    for (before, expected) in cases {
-        let text = after(rt.alloc(), "fold", before)?;
-        assert!(rt; text.as_slice() == expected.as_bytes(), "fold at {before}");
-    }
-    Ok(())
+fn axioms_rewrite_forms(rt: HostRuntime) -> Result<(), Fail> {
+    try_steps(&rt, STEPS)
 }

@@ -1,6 +1,8 @@
+//! PGM files that are read and written.
+
 ghost use Rattle.pf_ints.specs.Images.{IsPixelType};
 
-use super::*;
+use pf_images::{ImageFault, read_pgm, write_pgm};
 use pf_ints::LaneType;
 use std::test::Fail;
 
@@ -11,7 +13,7 @@ fn pixel_type(is_wide: bool) -> LaneType
 }
 
 /// Files, whether they are read for u16, and the places and words of their faults.
-const FAULTS: [(&[u8], bool, u64, &[u8]); 26] = [
+const FAULTS: &[(&[u8], bool, u64, &[u8])] = &[
     (b"", false, 0, b"magic"),
     (b"P", false, 0, b"magic"),
     (b"P2\n1 1\n255\n7", false, 0, b"magic"),
@@ -52,9 +54,9 @@ const FAULTS: [(&[u8], bool, u64, &[u8]); 26] = [
 
 #[test]
 fn faults_stand_in_their_places(rt: HostRuntime) {
-    for (bytes, is_wide, place, word) in FAULTS {
-        match read_pgm(rt.alloc(), bytes, pixel_type(is_wide)) {
-            Err(ImageFault::At { at, kind }) => {
+    for &(bytes, is_wide, place, word) in FAULTS {
+        match read_pgm(rt.alloc(), bytes, pixel_type(is_wide)).err() {
+            Some(ImageFault::At { at, kind }) => {
                 assert_eq!(rt; at, place);
                 assert!(rt; kind.word() == word);
             }
@@ -64,7 +66,7 @@ fn faults_stand_in_their_places(rt: HostRuntime) {
 }
 
 /// Files, whether they are read for u16, their widths, their pixels, and what is written of them.
-const IMAGES: [(&[u8], bool, u32, &[u16], &[u8]); 7] = [
+const IMAGES: &[(&[u8], bool, u32, &[u16], &[u8])] = &[
     (
         b"P5\n# c\n2 1\n65535\n\x01\x02\x03\x04",
         true,
@@ -102,34 +104,38 @@ const IMAGES: [(&[u8], bool, u32, &[u16], &[u8]); 7] = [
         &[2570, 65534],
         b"P5\n1 2\n65535\n\n\n\xff\xfe",
     ),
+    // As GIMP, ImageMagick (with the image's comment of two lines) and netpbm write them.
+    (
+        b"P5\n# Created by GIMP version 2.10.34 PNM plug-in\n2 1\n255\n\x0a\x23",
+        false,
+        2,
+        &[10, 35],
+        b"P5\n2 1\n255\n\x0a\x23",
+    ),
+    (
+        b"P5\n#a scan\n#of 2019\n2 1\n65535\n\x00\x01\xff\x00",
+        true,
+        2,
+        &[1, 65280],
+        b"P5\n2 1\n65535\n\x00\x01\xff\x00",
+    ),
+    (
+        b"P5\n1 2\n255\n\x20\x30",
+        false,
+        1,
+        &[32, 48],
+        b"P5\n1 2\n255\n\x20\x30",
+    ),
 ];
 
 #[test]
 fn images_are_read_and_written(rt: HostRuntime) -> Result<(), Fail> {
-    for (bytes, is_wide, width, pixels, text) in IMAGES {
-        let image = read_pgm(rt.alloc(), bytes, pixel_type(is_wide))
-            .ok()
-            .ok_or("an image")?;
+    for &(bytes, is_wide, width, pixels, text) in IMAGES {
+        let image = read_pgm(rt.alloc(), bytes, pixel_type(is_wide))?;
         assert_eq!(rt; image.width(), width);
         assert_eq!(rt; image.pixels(), pixels);
         let written = write_pgm(rt.alloc(), &image)?;
         assert_eq!(rt; written.as_slice(), text);
     }
-    Ok(())
-}
-
-#[test]
-fn real_files_hold_what_was_written(rt: HostRuntime) -> Result<(), Fail> {
-    let alloc = rt.alloc();
-    let mut files = RealFiles::new(&rt);
-    files.write(alloc, "a", b"twelve bytes")?;
-    assert_eq!(rt; files.read(alloc, "a", 6)?.as_slice(), b"twelve".as_slice());
-    assert_eq!(rt;
-        files.read(alloc, "a", 99)?.as_slice(),
-        b"twelve bytes".as_slice()
-    );
-    assert!(rt; files.read(alloc, "b", 99).is_err());
-    let mut out = RealSink::new(&rt);
-    out.put(alloc, b"a line\n")?;
     Ok(())
 }

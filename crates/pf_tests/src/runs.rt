@@ -1,12 +1,14 @@
+//! Sets of images that are judged, and kernels that are evaluated on images.
+
 ghost use Rattle.pf_ints.specs.Images.{IsPixelType};
 
-use super::*;
 use pf_images::read_pgm;
 use pf_ints::{ImageSet, LaneType, Name, Sequence};
-use pf_isa::TextKind;
 use pf_kernel::read_kernel;
+use pf_run::{SetFault, eval_images, judge_set};
 use pf_terms::{ImageDecl, Tap};
 use std::alloc::Global;
+use std::process::Abort;
 use std::test::Fail;
 
 fn pixel_type(is_wide: bool) -> LaneType
@@ -18,10 +20,9 @@ fn pixel_type(is_wide: bool) -> LaneType
 /// A u8 image of this name with this range.
 fn decl(name: &[u8], hi: u32) -> Result<ImageDecl, Fail> {
     let name = Name::new(name).ok_or("a name")?;
-    let ty = pixel_type(false);
     Ok(ImageDecl {
         name,
-        ty,
+        ty: LaneType::U8,
         lo: 0,
         hi,
     })
@@ -31,15 +32,14 @@ fn decl(name: &[u8], hi: u32) -> Result<ImageDecl, Fail> {
 fn set_of(alloc: Global, files: &[(&[u8], bool)]) -> Result<ImageSet, Fail> {
     let mut set = Sequence::new(alloc);
     for (bytes, is_wide) in files {
-        let image = read_pgm(alloc, bytes, pixel_type(*is_wide));
-        set.push(image.ok().ok_or("an image")?)?;
+        set.push(read_pgm(alloc, bytes, pixel_type(*is_wide))?)?;
     }
     Ok(set)
 }
 
 /// Sets of images for two images of u8 of which the first has pixels up to 100, and what is wrong
 /// with them.
-const SETS: [(&[(&[u8], bool)], Option<SetFault>); 6] = [
+const SETS: &[(&[(&[u8], bool)], Option<SetFault>)] = &[
     (
         &[(b"P5 2 1 255 \x01\x02", false)],
         Some(SetFault::Count { want: 2, got: 1 }),
@@ -87,26 +87,25 @@ const SETS: [(&[(&[u8], bool)], Option<SetFault>); 6] = [
     ),
 ];
 
-#[test]
-fn sets_are_judged(rt: HostRuntime) -> Result<(), Fail> {
+fn try_sets<R: Abort + AllocGlobal>(
+    rt: &R,
+    rows: &[(&[(&[u8], bool)], Option<SetFault>)],
+) -> Result<(), Fail> {
     let images = [decl(b"a", 100)?, decl(b"b", 255)?];
-    let taps = [
-        Tap {
-            image: 0,
-            dx: -1,
-            dy: 0,
-        },
-        Tap {
-            image: 1,
-            dx: 1,
-            dy: 0,
-        },
-    ];
-    for (files, fault) in SETS {
+    let (image, dx, dy) = (0, -1, 0);
+    let left = Tap { image, dx, dy };
+    let (image, dx) = (1, 1);
+    let taps = [left, Tap { image, dx, dy }];
+    for &(files, fault) in rows {
         let set = set_of(rt.alloc(), files)?;
         assert!(rt; judge_set(&images, &taps, &set) == fault);
     }
     Ok(())
+}
+
+#[test]
+fn sets_are_judged(rt: HostRuntime) -> Result<(), Fail> {
+    try_sets(&rt, SETS)
 }
 
 const SUM: &[u8] = b"kernel sum\nimage a u8\nout u8 = a[0,0] + 10u8\n";
@@ -123,7 +122,7 @@ out u8 = saturating_cast(u8, absd(l, r) + absd(t, b))
 ";
 
 /// Kernels, an image for each, and the width and the pixels of the output.
-const KERNELS: [(&[u8], &[u8], u32, &[u16]); 4] = [
+const KERNELS: &[(&[u8], &[u8], u32, &[u16])] = &[
     (
         b"kernel k\nimage a u8\nout u8 = a[1,0]",
         b"P5 3 1 255 \x01\x02\x03",
@@ -140,74 +139,21 @@ const KERNELS: [(&[u8], &[u8], u32, &[u16]); 4] = [
     ),
 ];
 
-#[test]
-fn kernels_are_evaluated(rt: HostRuntime) -> Result<(), Fail> {
-    for (text, file, width, pixels) in KERNELS {
-        let kernel = read_kernel(rt.alloc(), text).ok().ok_or("a kernel")?;
+fn try_kernels<R: Abort + AllocGlobal>(
+    rt: &R,
+    rows: &[(&[u8], &[u8], u32, &[u16])],
+) -> Result<(), Fail> {
+    for &(text, file, width, pixels) in rows {
+        let kernel = read_kernel(rt.alloc(), text)?;
         let set = set_of(rt.alloc(), &[(file, false)])?;
-        let image = eval_images(rt.alloc(), &kernel, &set)
-            .ok()
-            .ok_or("an output")?;
+        let image = eval_images(rt.alloc(), &kernel, &set)?;
         assert_eq!(rt; image.width(), width);
         assert_eq!(rt; image.pixels(), pixels);
     }
     Ok(())
 }
 
-/// A text that copies its image, in whole vectors.
-const COPY: &[u8] = b".target neon
-.image a u8 0 255
-.tap a 0 0
-.out u8
-.scratch 192
-.lifted out u8 = a[0,0]
-.cost 0
-ldr x5, [x0, #0]
-ldr q0, [x5, #0]
-ldr x5, [x0, #8]
-str q0, [x5, #0]
-ret
-";
-
-/// A text that goes round and round.
-const ROUND: &[u8] = b".target neon
-.image a u8 0 255
-.tap a 0 0
-.out u8
-.scratch 192
-.lifted out u8 = a[0,0]
-.cost 0
-top:
-b top
-";
-
-const SIXTEEN: &[u8] =
-    b"P5 16 1 255 \x00\x01\x02\x03\x04\x05\x06\x07\x08\x09\x0a\x0b\x0c\x0d\x0e\x0f";
-
-const FIFTEEN: &[u8] = b"P5 15 1 255 \x00\x01\x02\x03\x04\x05\x06\x07\x08\x09\x0a\x0b\x0c\x0d\x0e";
-
 #[test]
-fn texts_are_run(rt: HostRuntime) -> Result<(), Fail> {
-    let alloc = rt.alloc();
-    let set = set_of(alloc, &[(SIXTEEN, false)])?;
-    let image = run_images(alloc, COPY, &set).ok().ok_or("an output")?;
-    let numbers: [u16; 16] = [0, 1, 2, 3, 4, 5, 6, 7, 8, 9, 10, 11, 12, 13, 14, 15];
-    assert_eq!(rt; image.pixels(), numbers.as_slice());
-    let spent = run_images(alloc, ROUND, &set).err().ok_or("a fault")?;
-    assert!(rt; spent == RunFault::Spent { steps: 12336 });
-    let narrow = set_of(alloc, &[(FIFTEEN, false)])?;
-    let outside = run_images(alloc, COPY, &narrow).err().ok_or("a fault")?;
-    let (at, address, length) = (2, 81920, 16);
-    assert!(rt;
-        outside
-            == RunFault::Outside {
-                at,
-                address,
-                length
-            }
-    );
-    let empty = run_images(alloc, b"", &set).err().ok_or("a fault")?;
-    let (line, kind) = (1, TextKind::Target);
-    assert!(rt; empty == RunFault::Text { line, kind });
-    Ok(())
+fn kernels_are_evaluated(rt: HostRuntime) -> Result<(), Fail> {
+    try_kernels(&rt, KERNELS)
 }

@@ -1,0 +1,4 @@
+pub mod NoNames
+pub mod Formed
+pub mod Memories
+pub mod RowBlocks

@@ -1,0 +1,377 @@
+//! Texts of kernels and the first faults in them, with places that are worked out by hand, texts at
+//! each limit and past it, and texts that are written.
+
+use crate::faults::kernel_fault;
+use pf_kernel::{out_size, read_kernel, write_kernel};
+use std::alloc::{AllocError, Global};
+use std::process::Abort;
+use std::test::Fail;
+
+/// What is told of a text, and the text, with `/` for each of its line feeds.
+const TEXTS: &str = "\
+1 syntax 7 | kernel
+1 syntax 8 | kernel 3
+1 syntax 8 | kernel min
+1 syntax 8 | kernel u8
+1 syntax 8 | kernel K
+1 syntax 8 | kernel abcdefghijklmnopqrstuvwxyz0123456
+1 syntax 10 | kernel k k
+1 syntax 12 |  \tkernel\tk $
+2 syntax 6 | kernel k/image
+2 syntax 7 | kernel k/image u8
+2 syntax 8 | kernel k/image a
+2 syntax 9 | kernel k/image a i8
+2 syntax 9 | kernel k/image a u32
+2 syntax 12 | kernel k/image a u8 x
+2 syntax 12 | kernel k/image a u8 -5 6
+2 syntax 14 | kernel k/image a u8 5 x
+2 syntax 16 | kernel k/image a u8 5 6 7
+2 syntax 12 | kernel k/image a u8 256
+2 syntax 12 | kernel k/image a u8 12345678901 5
+2 syntax 13 | kernel k/image a u8 5
+2 syntax 12 | kernel k/image a u8 5 4
+2 syntax 12 | kernel k/image a u8 5 256
+2 syntax 13 | kernel k/image a u16 5 65536
+2 syntax 14 | kernel k/image a u8 5 12345678901
+2 syntax 1 | # none
+1 syntax 1 | image a u8
+2 syntax 1 | kernel k/
+2 syntax 1 | kernel k/kernel k
+2 syntax 1 | kernel k/def d u8 = 1u8
+2 syntax 1 | kernel k/out u8 = 1u8
+3 syntax 1 | kernel k/image a u8/
+4 syntax 1 | kernel k/image a u8/def d u8 = 1u8/image b u8
+4 syntax 1 | kernel k/image a u8/def d u8 = 1u8/
+4 syntax 1 | kernel k/image a u8/out u8 = 1u8/image b u8
+4 syntax 1 | kernel k/image a u8/out u8 = 1u8/def d u8 = 1u8
+4 syntax 1 | kernel k/image a u8/out u8 = 1u8/out u8 = 1u8
+";
+
+const FRONT: &[u8] = b"kernel k\nimage a u8\n";
+
+/// The same of lines behind this front. Some of these texts are a kernel.
+const LINES: &str = "\
+3 syntax 1 | kernel k
+3 syntax 1 | d u8 = 1u8
+3 syntax 4 | def
+3 syntax 5 | def 1 u8 = 1u8
+3 syntax 5 | def max u8 = 1u8
+3 syntax 7 | def d = 1u8
+3 syntax 7 | def d u9 = 1u8
+3 syntax 9 | def d u8
+3 syntax 10 | def d u8 1u8
+3 syntax 10 | def d u8 == 1u8
+3 syntax 11 | def d u8 =
+3 syntax 12 | def d u8 = )
+3 syntax 4 | out
+3 syntax 5 | out i8 = 1i8
+3 syntax 5 | out u32 = 1u32
+3 syntax 5 | out a = 1u8
+3 syntax 7 | out u8
+3 syntax 8 | out u8 1u8
+3 syntax 9 | out u8 =  # c
+3 syntax 10 | out\tu8\t=\t)
+3 syntax 16 | out u8 = 1u8 >>
+3 syntax 17 | out u8 = 1u8 >> x
+3 syntax 17 | out u8 = 1u8 << 1u8
+3 syntax 17 | out u8 = 1u8 << -1
+3 syntax 17 | out u8 = 1u8 >> 12345678901
+3 syntax 19 | out u8 = 1u8 >> 1 + 1u8
+3 syntax 14 | out u8 = 1u8 > 2u8
+3 syntax 15 | out u8 = 1u8 +
+3 syntax 16 | out u8 = 1u8 + >> 1
+3 syntax 16 | out u8 = 1u8 - )
+3 syntax 15 | out u8 = 1u8 *
+3 syntax 15 | out u8 = 1u8 ** 2u8
+3 syntax 10 | out u8 = * 2u8
+3 syntax 14 | out u8 = 1u8 2u8
+3 syntax 10 | out u8 = 1
+3 syntax 10 | out u8 = 1 u8
+3 syntax 10 | out u8 = 1u9
+3 syntax 10 | out u8 = 256u8
+3 syntax 10 | out u8 = -1u8
+3 syntax 13 | out u8 = u8(128i8)
+3 syntax 13 | out u8 = u8(-129i8)
+3 syntax 10 | out u8 = 00000000001u8
+3 syntax 12 | out u8 = - a[0,0]
+3 syntax 11 | out u8 = -
+3 syntax 10 | out u8 = A[0,0]
+3 syntax 10 | out u8 = abcdefghijklmnopqrstuvwxyz0123456
+3 syntax 12 | out u8 = a[
+3 syntax 12 | out u8 = a[x,0]
+3 syntax 13 | out u8 = a[--1,0]
+3 syntax 12 | out u8 = a[-12345678901,0]
+3 syntax 13 | out u8 = a[0
+3 syntax 14 | out u8 = a [0;0]
+3 syntax 14 | out u8 = a[0,
+3 syntax 14 | out u8 = a[0,0u8]
+3 syntax 15 | out u8 = a[0,0
+3 syntax 15 | out u8 = a[0,0)
+3 syntax 17 | out u8 = a[0,0] x
+3 syntax 13 | out u8 = 1u8[0,0]
+3 syntax 11 | out u8 = ()
+3 syntax 14 | out u8 = (1u8
+3 syntax 14 | out u8 = (1u8]
+3 syntax 15 | out u8 = (1u8))
+3 syntax 12 | out u8 = u8
+3 syntax 13 | out u8 = u8 1u8
+3 syntax 13 | out u8 = u8()
+3 syntax 16 | out u8 = u8(1u8
+3 syntax 16 | out u8 = u8(1u8, 2u8)
+3 syntax 13 | out u8 = min
+3 syntax 14 | out u8 = min 1u8
+3 syntax 14 | out u8 = min()
+3 syntax 18 | out u8 = min(1u8 2u8)
+3 syntax 18 | out u8 = min(1u8,)
+3 syntax 22 | out u8 = min(1u8, 2u8
+3 syntax 22 | out u8 = min(1u8, 2u8, 3u8)
+3 syntax 14 | out u8 = abs()
+3 syntax 17 | out u8 = abs(1i8, 2i8)
+3 syntax 26 | out u8 = rounding_shr(1u8)
+3 syntax 28 | out u8 = rounding_shr(1u8, 2u8)
+3 syntax 29 | out u8 = rounding_shr(1u8, 2, 3)
+3 syntax 23 | out u8 = mul_shr(1u8, 2)
+3 syntax 26 | out u8 = mul_shr(1u8, 2u8)
+3 syntax 28 | out u8 = mul_shr(1u8, 2u8, 3u8)
+3 syntax 30 | out u8 = rounding_mul_shr(1u8)
+3 syntax 37 | out u8 = rounding_mul_shr(1u8, 2u8, x)
+3 syntax 26 | out u8 = saturating_cast(1u8, u8)
+3 syntax 28 | out u8 = saturating_cast(u8)
+3 syntax 32 | out u8 = saturating_cast(u8, u8)
+3 syntax 20 | out u8 = select(1u8, 2u8, 3u8)
+3 syntax 21 | out u8 = select(1u8 = 2u8, 3u8, 4u8)
+3 syntax 24 | out u8 = select(1u8 == , 3u8, 4u8)
+3 syntax 26 | out u8 = select(1u8 < 2u8)
+3 syntax 27 | out u8 = select(1u8 > 2u8 > 3u8, 4u8, 5u8)
+3 syntax 31 | out u8 = select(1u8 > 2u8, 3u8)
+3 syntax 36 | out u8 = select(1u8 > 2u8, 3u8, 4u8, 5u8)
+3 name b | out u8 = b[0,0]
+3 name d | out u8 = d
+3 name a | out u8 = a
+4 name d | def d u8 = 1u8/out u8 = d[0,0]
+3 name d | def d u8 = d
+3 name e | def d u8 = e/def e u8 = 1u8
+3 name a | image a u8
+3 name a | def a u8 = 1u8
+4 name d | def d u8 = 1u8/def d u8 = 1u8
+3 name a | def a u8 = b[0,0]
+3 name b | out u16 = a[0,0] + b[0,0]
+3 name x | out u8 = select(x < y, a[0,0], a[0,0])
+4 types u8 u16 | image b u16/out u16 = a[0,0] + b[0,0]
+3 types u16 u8 | out u16 = a[0,0]
+3 types i16 u16 | def d i16 = 1u16
+3 types u16 u32 | out u16 = widening_add(1u32, 1u32)
+3 types u8 u32 | out u16 = widening_mul(1u8, 1u32)
+3 types u16 u8 | out u16 = extending_add(1u8, 1u8)
+3 types u8 u16 | out u16 = extending_add(1u16, 1u16)
+3 types i8 u8 | out u8 = abs(1u8)
+3 types u16 u8 | out u16 = a[65,0]
+3 types u8 i8 | out u8 = select(1u8 > 2i8, 3u8, 4u8)
+3 types u16 u8 | out u8 = select(1u8 < 2u16, 3u8, 4u8)
+3 types u8 u16 | out u16 = select(1u8 > 2u8, 3u16, 4u16)
+3 types i8 i16 | out u8 = select(1u8 == 2u8, 3i16, 4i16)
+3 types u8 i8 | out u8 = select(1u8 == 2u8, 3u8, 4i8)
+limit amount 8 | out u8 = a[0,0] << 8
+limit amount 9999999999 | out u8 = a[0,0] >> 9999999999
+limit amount 16 | out u16 = u16(a[0,0]) >> 16
+limit amount 0 | out u8 = rounding_shr(a[0,0], 0)
+limit amount 8 | out u8 = rounding_shr(a[0,0], 8)
+limit amount 16 | out u8 = mul_shr(a[0,0], 1u8, 16)
+limit amount 0 | out u8 = rounding_mul_shr(a[0,0], 1u8, 0)
+limit amount 16 | out u8 = rounding_mul_shr(a[0,0], 1u8, 16)
+limit offset 65 | out u8 = a[65,0]
+limit offset 65 | out u8 = a[0,65]
+limit offset -65 | out u8 = a[-65,0]
+limit offset -9999999999 | out u8 = a[0,-9999999999]
+limit offset 66 | out u8 = select(a[0,66] < a[65,0], 1u8, 2u8)
+limit amount 8 | out u8 = a[65,0] << 8
+3 syntax 17 | out u8 = min(1u8)
+3 syntax 17 | out u8 = max(1u8)
+3 syntax 26 | out u8 = widening_add(1u8)
+3 syntax 26 | out u8 = widening_sub(1u8)
+3 syntax 26 | out u8 = widening_mul(1u8)
+3 syntax 27 | out u8 = extending_add(1u8)
+3 syntax 25 | out u8 = halving_add(1u8)
+3 syntax 34 | out u8 = rounding_halving_add(1u8)
+3 syntax 25 | out u8 = halving_sub(1u8)
+3 syntax 28 | out u8 = saturating_add(1u8)
+3 syntax 28 | out u8 = saturating_sub(1u8)
+3 syntax 18 | out u8 = absd(1u8)
+kernel | out u8 = a[0,0] << 0 << 7 >> 0 >> 7
+kernel | out u16 = u16(a[0,0]) << 15
+kernel | out u8 = rounding_shr(rounding_shr(a[0,0], 1), 7)
+kernel | out u8 = mul_shr(mul_shr(a[0,0], 1u8, 0), 1u8, 15)
+kernel | out u8 = rounding_mul_shr(rounding_mul_shr(a[0,0], 1u8, 1), 1u8, 15)
+kernel | out u8 = a[64,-64] + a[-64,64]
+kernel | image k u8/out u8 = k[0,0]
+kernel | image abcdefghijklmnopqrstuvwxyz_12345 u8/out u8 = a[0,0]
+kernel | def d u8 = (a[0,0])/out u8 = ((d))
+";
+
+/// These lines behind a kernel's name and an image `a`.
+fn behind(alloc: Global, lines: &[u8]) -> Result<Vec<u8>, AllocError> {
+    let mut text = Vec::from_slice(alloc, FRONT)?;
+    text.extend_from_slice(lines)?;
+    Ok(text)
+}
+
+fn told(alloc: Global, text: &[u8]) -> Result<String, Fail> {
+    match read_kernel(alloc, text).err() {
+        Some(fault) => kernel_fault(alloc, &fault),
+        None => Ok(String::from_str(alloc, "kernel")?),
+    }
+}
+
+fn try_text<R: Abort + AllocGlobal>(rt: &R, text: &[u8], wanted: &str) -> Result<(), Fail> {
+    let told = told(rt.alloc(), text)?;
+    assert_eq!(rt; told.as_str(), wanted, "at {text:?}");
+    Ok(())
+}
+
+/// Tries a row's text behind a front.
+fn try_row<R: Abort + AllocGlobal>(rt: &R, front: &[u8], row: &str) -> Result<(), Fail> {
+    let (wanted, lines) = row.split_once(" | ").ok_or("no row")?;
+    let mut text = Vec::from_slice(rt.alloc(), front)?;
+    for byte in lines.as_bytes() {
+        text.push(if *byte == b'/' { b'\n' } else { *byte })?;
+    }
+    try_text(rt, text.as_slice(), wanted)
+}
+
+fn try_rows<R: Abort + AllocGlobal>(rt: &R, front: &[u8], rows: &str) -> Result<(), Fail> {
+    for row in rows.lines() {
+        try_row(rt, front, row)?;
+    }
+    Ok(())
+}
+
+#[test]
+fn first_faults_are_told(rt: HostRuntime) -> Result<(), Fail> {
+    try_rows(&rt, b"", TEXTS)?;
+    try_rows(&rt, FRONT, LINES)?;
+    try_text(&rt, b"", "1 syntax 1")?;
+    // A CR is a part of a line's end before LF alone.
+    try_text(&rt, b"kernel k\rimage a u8", "1 syntax 9")?;
+    try_text(&rt, b"kernel k # c\r\n\r\nimage a u8\r\n$", "4 syntax 1")?;
+    try_text(&rt, b"kernel k\nimage a u8\r\nout u8 = 1u8\r", "3 syntax 13")
+}
+
+/// A part, so many times another one, and a third.
+fn repeated(
+    alloc: Global,
+    first: &[u8],
+    part: &[u8],
+    count: u16,
+    last: &[u8],
+) -> Result<Vec<u8>, AllocError> {
+    let mut text = Vec::from_slice(alloc, first)?;
+    for _ in 0..count {
+        text.extend_from_slice(part)?;
+    }
+    text.extend_from_slice(last)?;
+    Ok(text)
+}
+
+/// Appends these three parts 64 times, with a digit between each two.
+fn push_64(
+    text: &mut Vec<u8>,
+    first: &[u8],
+    second: &[u8],
+    third: &[u8],
+) -> Result<(), AllocError> {
+    for tens in b'0'..=b'7' {
+        for units in b'0'..=b'7' {
+            text.extend_from_slice(first)?;
+            text.push(tens)?;
+            text.extend_from_slice(second)?;
+            text.push(units)?;
+            text.extend_from_slice(third)?;
+        }
+    }
+    Ok(())
+}
+
+/// Tries a text up to a limit, with an end that keeps it and one that passes it.
+fn try_limit<R: Abort + AllocGlobal>(
+    rt: &R,
+    text: &[u8],
+    within: &[u8],
+    past: &[u8],
+    wanted: &str,
+) -> Result<(), Fail> {
+    let mut whole = behind(rt.alloc(), text)?;
+    let mut more = whole.clone()?;
+    whole.extend_from_slice(within)?;
+    try_text(rt, whole.as_slice(), "kernel")?;
+    more.extend_from_slice(past)?;
+    try_text(rt, more.as_slice(), wanted)
+}
+
+#[test]
+fn limits_of_lists(rt: HostRuntime) -> Result<(), Fail> {
+    let images = b"image b u8\nimage c u8\nimage d u8\nimage e u8\nimage f u8\nimage g u8\nimage h u8\n";
+    try_limit(&rt, images, b"out u8 = h[0,0]", b"image i u8", "limit images 9")?;
+    let mut taps = Vec::from_slice(rt.alloc(), b"out u8 = 1u8")?;
+    push_64(&mut taps, b" + a[", b",", b"]")?;
+    // One that stands already isn't counted again.
+    try_limit(&rt, taps.as_slice(), b" + a[0,0]", b" + a[8,0]", "limit taps 65")?;
+    let mut definitions = Vec::new(rt.alloc());
+    push_64(&mut definitions, b"def d", b"", b" u8 = 1u8\n")?;
+    let (last, more) = (b"out u8 = d77", b"def e u8 = 1u8");
+    try_limit(&rt, definitions.as_slice(), last, more, "limit definitions 65")
+}
+
+#[test]
+fn limits_of_sizes(rt: HostRuntime) -> Result<(), Fail> {
+    let alloc = rt.alloc();
+    let shifts = repeated(alloc, b"out u8 = 1u8", b" >> 1", 127, b"")?;
+    try_limit(&rt, shifts.as_slice(), b"", b" >> 1", "limit depth 129")?;
+    // Two terms of 255 nodes each.
+    let first = repeated(alloc, b"def d u8 = 1u8", b" + 1u8", 127, b"\ndef e u8 = 1u8")?;
+    let both = repeated(alloc, first.as_slice(), b" + 1u8", 127, b"\n")?;
+    let (last, more) = (b"out u8 = d >> 1", b"out u8 = d + e");
+    try_limit(&rt, both.as_slice(), last, more, "limit nodes 513")?;
+    let brackets = repeated(alloc, b"out u8 = ", b"(", 1_024, b"")?;
+    let closed = repeated(alloc, b"1u8", b")", 1_024, b"")?;
+    try_limit(&rt, brackets.as_slice(), closed.as_slice(), b"(", "3 syntax 1034")?;
+    let comment = repeated(alloc, b"out u8 = a[0,0]\n#", b"$", 65_499, b"")?;
+    try_limit(&rt, comment.as_slice(), b"", b"$", "limit bytes 65537")
+}
+
+/// Texts, and what is written of their kernels.
+const WRITTEN: &[(&[u8], &[u8])] = &[
+    (
+        b"kernel half\nimage a u8\nimage b u8\nout u8 = u8((u16(a[0,0]) + u16(b[0,0])) >> 1)\n",
+        b"kernel half\nimage a u8 0 255\nimage b u8 0 255\nout u8 = u8(((u16(a[0,0]) + u16(b[0,0])) >> 1))\n",
+    ),
+    (
+        b"kernel k # c\r\n\n\timage k u16 7 09\ndef d i8=-3i8*-0i8\ndef e u16 = k [ -1 , 0 ]\nout u16=select(e<2u16,e,k[0,64])",
+        b"kernel k\nimage k u16 7 9\ndef d i8 = (-3i8 * 0i8)\ndef e u16 = k[-1,0]\nout u16 = select(2u16 > e, e, k[0,64])\n",
+    ),
+];
+
+fn try_written<R: Abort + AllocGlobal>(rt: &R, text: &[u8], wanted: &[u8]) -> Result<(), Fail> {
+    let kernel = read_kernel(rt.alloc(), text)?;
+    let written = write_kernel(rt.alloc(), &kernel)?;
+    assert_eq!(rt; written.as_slice(), wanted);
+    Ok(())
+}
+
+#[test]
+fn kernels_are_written(rt: HostRuntime) -> Result<(), Fail> {
+    for &(text, wanted) in WRITTEN {
+        try_written(&rt, text, wanted)?;
+        try_written(&rt, wanted, wanted)?;
+    }
+    Ok(())
+}
+
+#[test]
+fn outputs_have_sizes(rt: HostRuntime) -> Result<(), Fail> {
+    let text = behind(rt.alloc(), b"out u8 = min(a[1,-1], a[3,-2])")?;
+    let kernel = read_kernel(rt.alloc(), text.as_slice())?;
+    assert_eq!(rt; out_size(&kernel, 5, 3), Some((2, 1)));
+    assert_eq!(rt; out_size(&kernel, 3, 3), None);
+    assert_eq!(rt; out_size(&kernel, 5, 2), None);
+    Ok(())
+}

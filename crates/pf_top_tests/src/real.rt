@@ -1,0 +1,31 @@
+//! The files and the output of the machine.
+
+use pf_images::{Files, FilesFault, RealFiles, RealSink, Sink};
+use std::test::Fail;
+
+#[test]
+fn files_hold_what_was_written(rt: HostRuntime) -> Result<(), Fail> {
+    let alloc = rt.alloc();
+    let mut files = RealFiles::new(&rt);
+    let mut long = Vec::new(alloc);
+    for n in 0..10_000u32 {
+        long.push((n % 251) as u8)?;
+    }
+    files.write(alloc, "a", long.as_slice())?;
+    assert!(rt; files.read(alloc, "a", 20_000)? == long);
+    assert!(rt; files.read(alloc, "a", 9_999)?.as_slice() == &long.as_slice()[..9_999]);
+    assert_eq!(rt; files.read(alloc, "a", 0)?.len(), 0);
+    // A shorter text leaves nothing of the one before.
+    files.write(alloc, "a", b"twelve bytes")?;
+    assert_eq!(rt; files.read(alloc, "a", 99)?.as_slice(), b"twelve bytes".as_slice());
+    assert!(rt; files.read(alloc, "b", 99).err() == Some(FilesFault::Missing));
+    assert!(rt; files.write(alloc, "b/c", b"").err() == Some(FilesFault::Failed));
+    Ok(())
+}
+
+#[test]
+fn outputs_take_lines(rt: HostRuntime) -> Result<(), Fail> {
+    let mut out = RealSink::new(&rt);
+    out.put(rt.alloc(), b"a line\n")?;
+    Ok(())
+}
