@@ -27,18 +27,18 @@ pub below_last : (limit : ℕ) (free : Bool) (n : ℕ) → n < limit → limit �
 below_last limit free n h small = rw (next_tight_last free n (omega arith), lt-ltb n limit h) refl
 
 -- an operand of a load or a store is read
-place_back : (n j : ℕ) → n < 32 → j ≤ 7 → place_read (tight_on false (decimal n ++ (codes ", " ++ place_text 5 (16 * j)))) ≡ Some (n, j)
-place_back n j h k =
+place_back : (n base j : ℕ) → n < 32 → base < 8 → j ≤ 7 → place_read (tight_on false (decimal n ++ (codes ", " ++ place_text base (16 * j)))) ≡ Some (n, base, j)
+place_back n base j h b k =
     let back : (16 * j) / 16 ≡ j = omega arith in
-    rw (below_tight 32 false n (codes ", " ++ place_text 5 (16 * j)) h (omega arith) refl, below_tight 8 false 5 (codes ", #" ++ (decimal (16 * j) ++ codes "]")) (omega arith) (omega arith) refl, below_tight 128 false (16 * j) (codes "]") (omega arith) (omega arith) refl, back) refl
+    rw (below_tight 32 false n (codes ", " ++ place_text base (16 * j)) h (omega arith) refl, below_tight 8 false base (codes ", #" ++ (decimal (16 * j) ++ codes "]")) b (omega arith) refl, below_tight 128 false (16 * j) (codes "]") (omega arith) (omega arith) refl, back) refl
 
-load_back : (to j : ℕ) → to < 32 → j ≤ 7 → form_read (tight (text (Load to j))) ≡ Some (Load to j)
+load_back : (to base j : ℕ) → to < 32 → base < 8 → j ≤ 7 → form_read (tight (text (Load to base j))) ≡ Some (Load to base j)
 unfolding tight
-load_back to j h k = rw (place_back to j h k) refl
+load_back to base j h b k = rw (place_back to base j h b k) refl
 
-store_back : (from j : ℕ) → from < 32 → j ≤ 7 → form_read (tight (text (Store from j))) ≡ Some (Store from j)
+store_back : (from base j : ℕ) → from < 32 → base < 8 → j ≤ 7 → form_read (tight (text (Store from base j))) ≡ Some (Store from base j)
 unfolding tight
-store_back from j h k = rw (place_back from j h k) refl
+store_back from base j h b k = rw (place_back from base j h b k) refl
 
 no_digit : (lanes : Lanes) (t : List ℕ) → NoDigit (tight_on false (suffix lanes ++ t))
 no_digit Bytes t = refl
@@ -72,8 +72,8 @@ umin_back Words to left right h k l =
 
 -- a printed instruction over the machine's vectors is read back
 pub form_back : (op : Form) → IsForm op → IsOver table op → form_read (tight (text op)) ≡ Some op
-form_back (Load to j) is over = load_back to j (over.defs 0 (V to) (omega arith)) is
-form_back (Store from j) is over = store_back from j (over.uses 0 (V from) (omega arith)) is
+form_back (Load to base j) is over = load_back to base j (over.defs 0 (V to) (omega arith)) is.0 is.1
+form_back (Store from base j) is over = store_back from base j (over.uses 0 (V from) (omega arith)) is.0 is.1
 form_back (Copy to from) is over = copy_back to from (over.defs 0 (V to) (omega arith)) (over.uses 0 (V from) (omega arith))
 form_back (Lanewise Umin lanes to left right) is over = umin_back lanes to left right (over.defs 0 (V to) (omega arith)) (over.uses 0 (V left) (omega arith)) (over.uses 1 (V right) (omega arith))
 
@@ -90,12 +90,12 @@ length-vector_text lanes n h = rw (length-append (decimal n) (suffix lanes)) (om
 
 -- a printed instruction over the machine's vectors is short
 pub length-text : (op : Form) → IsForm op → IsOver table op → length (text op) ≤ 80
-length-text (Load to j) is over =
+length-text (Load to base j) is over =
     let vector : to < 32 = over.defs 0 (V to) (omega arith) in
-    simp length-append (omega (arith, few_digits to (omega arith), few_digits 5 (omega arith), few_digits (16 * j) (omega arith)))
-length-text (Store from j) is over =
+    simp length-append (omega (arith, few_digits to (omega arith), few_digits base (omega arith), few_digits (16 * j) (omega arith)))
+length-text (Store from base j) is over =
     let vector : from < 32 = over.uses 0 (V from) (omega arith) in
-    simp length-append (omega (arith, few_digits from (omega arith), few_digits 5 (omega arith), few_digits (16 * j) (omega arith)))
+    simp length-append (omega (arith, few_digits from (omega arith), few_digits base (omega arith), few_digits (16 * j) (omega arith)))
 length-text (Copy to from) is over =
     let first : to < 32 = over.defs 0 (V to) (omega arith) in
     let second : from < 32 = over.uses 0 (V from) (omega arith) in

@@ -20,8 +20,8 @@ table = record {
   cost = cost;
   renamed = renamed;
   fixed = λ n. false;
-  load = λ to j. Load to j;
-  store = λ from j. Store from j;
+  load = λ to j. Load to 5 j;
+  store = λ from j. Store from 5 j;
   text = text;
   control_text = control_text;
 }

@@ -30,8 +30,8 @@ use Rattle.pf_neon.specs.FormLaws.{form_back, form_is}
 use Rattle.pf_neon.specs.ControlLaws.{control_back, control_is, offset_most}
 
 sized : (op : Form) (f : RegFile) → IsForm op → CanRun table op f → IsFile table (length f.vectors) (after table op f)
-sized (Load to j) f is c = absurd (let e = c.computes in cc)
-sized (Store from j) f is c = absurd (let e = c.computes in cc)
+sized (Load to base j) f is c = absurd (let e = c.computes in cc)
+sized (Store from base j) f is c = absurd (let e = c.computes in cc)
 sized (Copy to from) f is c =
     record {
       count = length-set f.vectors to _;
@@ -46,38 +46,38 @@ sized (Lanewise name lanes to left right) f is c =
     }
 
 rename_uses : (op : Form) (from to : ℕ) → uses (renamed op from to) ≡ map (λ r. renamed_register from to r) (uses op)
-rename_uses (Load r j) from to = refl
-rename_uses (Store r j) from to = refl
+rename_uses (Load r base j) from to = refl
+rename_uses (Store r base j) from to = refl
 rename_uses (Copy r s) from to = refl
 rename_uses (Lanewise name lanes r s t) from to = refl
 
 rename_defs : (op : Form) (from to : ℕ) → defs (renamed op from to) ≡ map (λ r. renamed_register from to r) (defs op)
-rename_defs (Load r j) from to = refl
-rename_defs (Store r j) from to = refl
+rename_defs (Load r base j) from to = refl
+rename_defs (Store r base j) from to = refl
 rename_defs (Copy r s) from to = refl
 rename_defs (Lanewise name lanes r s t) from to = refl
 
 rename_outcome : (op : Form) (from to : ℕ) (held : List (List ℕ)) → outcome (renamed op from to) held ≡ outcome op held
-rename_outcome (Load r j) from to held = refl
-rename_outcome (Store r j) from to held = refl
+rename_outcome (Load r base j) from to held = refl
+rename_outcome (Store r base j) from to held = refl
 rename_outcome (Copy r s) from to held = refl
 rename_outcome (Lanewise name lanes r s t) from to held = refl
 
 rename_access : (op : Form) (from to : ℕ) → access (renamed op from to) ≡ option_map (λ a. renamed_access from to a) (access op)
-rename_access (Load r j) from to = refl
-rename_access (Store r j) from to = refl
+rename_access (Load r base j) from to = refl
+rename_access (Store r base j) from to = refl
 rename_access (Copy r s) from to = refl
 rename_access (Lanewise name lanes r s t) from to = refl
 
 rename_cost : (op : Form) (from to : ℕ) → cost (renamed op from to) ≡ cost op
-rename_cost (Load r j) from to = refl
-rename_cost (Store r j) from to = refl
+rename_cost (Load r base j) from to = refl
+rename_cost (Store r base j) from to = refl
 rename_cost (Copy r s) from to = refl
 rename_cost (Lanewise name lanes r s t) from to = refl
 
 accesses : (op : Form) → IsForm op → MatchOption (access op) (Unit {0}) (λ a. Accesses (uses op) (defs op) a)
-accesses (Load to j) is = (omega arith, λ l. (0, omega arith, refl), λ l. cc)
-accesses (Store from j) is = (omega arith, λ l. cc, λ l. (0, omega arith, refl))
+accesses (Load to base j) is = (is.0, λ l. (0, omega arith, refl), λ l. cc)
+accesses (Store from base j) is = (is.0, λ l. cc, λ l. (0, omega arith, refl))
 accesses (Copy to from) is = tt
 accesses (Lanewise name lanes to left right) is = tt
 
@@ -127,16 +127,16 @@ quiet_place : (base offset : ℕ) → base < 2 ^ 32 → offset < 2 ^ 32 → are_
 quiet_place base offset h k = quiet_before base _ (omega arith) (quiet_before offset (codes "]") (omega arith) refl)
 
 quiet_text : (op : Form) → IsForm op → IsOver table op → are_quiet (text op) ≡ true
-quiet_text (Load to j) is over = quiet_before to _ (let h : to < 32 = over.defs 0 (V to) (omega arith) in omega arith) (quiet_place 5 (16 * j) (omega arith) (omega arith))
-quiet_text (Store from j) is over = quiet_before from _ (let h : from < 32 = over.uses 0 (V from) (omega arith) in omega arith) (quiet_place 5 (16 * j) (omega arith) (omega arith))
+quiet_text (Load to base j) is over = quiet_before to _ (let h : to < 32 = over.defs 0 (V to) (omega arith) in omega arith) (quiet_place base (16 * j) (omega arith) (omega arith))
+quiet_text (Store from base j) is over = quiet_before from _ (let h : from < 32 = over.uses 0 (V from) (omega arith) in omega arith) (quiet_place base (16 * j) (omega arith) (omega arith))
 quiet_text (Copy to from) is over = quiet_vector_before Bytes to _ (over.defs 0 (V to) (omega arith)) (quiet_vector Bytes from (over.uses 0 (V from) (omega arith)))
 quiet_text (Lanewise Umin lanes to left right) is over =
     quiet_vector_before lanes to _ (over.defs 0 (V to) (omega arith)) (quiet_vector_before lanes left _ (over.uses 0 (V left) (omega arith)) (quiet_vector lanes right (over.uses 1 (V right) (omega arith))))
 
 some_text : (op : Form) → tight (text op) ≢ []
 unfolding tight
-some_text (Load to j) = λ e. cc
-some_text (Store from j) = λ e. cc
+some_text (Load to base j) = λ e. cc
+some_text (Store from base j) = λ e. cc
 some_text (Copy to from) = λ e. cc
 some_text (Lanewise Umin lanes to left right) = λ e. cc
 
@@ -193,8 +193,8 @@ control_instruction : (c : Control) → IsControl c → IsInstruction (control_t
 control_instruction c is = instruction (control_text c) (quiet_control c is) (some_control c)
 
 few : (op : Form) → IsForm op → vector_count (uses op) + vector_count (defs op) ≤ 4
-few (Load to j) is = omega arith
-few (Store from j) is = omega arith
+few (Load to base j) is = omega arith
+few (Store from base j) is = omega arith
 few (Copy to from) is = omega arith
 few (Lanewise name lanes to left right) is = omega arith
 

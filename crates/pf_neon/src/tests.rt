@@ -61,6 +61,8 @@ fn prints_and_reads_vectors(rt: HostRuntime) -> Result<(), Fail> {
         (Neon::load(0, 1), b"ldr q0, [x5, #16]".as_slice()),
         (Neon::load(31, 7), b"ldr q31, [x5, #112]".as_slice()),
         (Neon::store(7, 0), b"str q7, [x5, #0]".as_slice()),
+        (Op::load_at(0, 7, 0), b"ldr q0, [x7, #0]".as_slice()),
+        (Op::store_at(9, 0, 2), b"str q9, [x0, #32]".as_slice()),
         (Op::copy(3, 10), b"mov v3.16b, v10.16b".as_slice()),
         (
             Op::umin(Lanes::Bytes, 0, 1, 2),
@@ -104,7 +106,7 @@ fn refuses_other_vectors(rt: HostRuntime) {
         b"ldr q32, [x5, #16]".as_slice(),
         b"ldr q0, [x5, #17]".as_slice(),
         b"ldr q0, [x5, #128]".as_slice(),
-        b"ldr q0, [x4, #16]".as_slice(),
+        b"ldr q0, [x8, #16]".as_slice(),
         b"ldr q0, [x5]".as_slice(),
         b"mov v0.8h, v1.8h".as_slice(),
         b"umin v0.16b, v1.8h, v2.16b".as_slice(),
