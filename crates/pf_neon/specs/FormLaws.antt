@@ -1,12 +1,12 @@
 -- A printed vector instruction is read back, and is short.
-use Rattle.std.proofs.Common.{◌≡◌, ℕ, ◌*◌, ◌/◌, ◌^◌, ◌<◌, ◌≤◌, List, [], ◌++◌, Bool, false, length, Some, None, refl, arith, ap, append_assoc, length-append}
-use Rattle.std.specs.Prelude.{codes}
+use Rattle.std.proofs.Common.{◌≡◌, ℕ, ◌*◌, ◌/◌, ◌^◌, ◌<◌, ◌≤◌, List, [], ◌++◌, Bool, false, length, Some, None, refl, sym, ◌∙◌, arith, ap, append_assoc, length-append, ⊎_elim}
+use Rattle.std.specs.Prelude.{codes, Contains}
 use Rattle.std.specs.Fmt.{decimal}
 use Rattle.std.proofs.lemmas.Bool.{lt-ltb}
 use Rattle.std.proofs.lemmas.Fmt.{length-decimal-le}
 use Rattle.pf_isa.specs.declared.registers.Reg.TheVariants.{V}
 use Rattle.pf_isa.specs.Lines.{tight, tight_on}
-use Rattle.pf_isa.specs.Tables.{IsOver, MeansOp}
+use Rattle.pf_isa.specs.Tables.{IsOver, Spells, MeansOp}
 use Rattle.pf_isa.proofs.ScanLaws.{NoDigit}
 use Rattle.pf_isa.proofs.TightLaws.{next_tight, next_tight_last, length-tight}
 use Rattle.pf_neon.specs.declared.op.Form.{Form}
@@ -106,28 +106,39 @@ length-text (Lanewise Umin lanes to left right) is over =
     let third : right < 32 = over.uses 1 (V right) (omega arith) in
     omega (arith, length-append (vector_text lanes to) (codes ", " ++ (vector_text lanes left ++ (codes ", " ++ vector_text lanes right))), length-append (vector_text lanes left) (codes ", " ++ vector_text lanes right), length-vector_text lanes to (omega arith), length-vector_text lanes left (omega arith), length-vector_text lanes right (omega arith))
 
+-- an instruction has one spelling
+pub spelled : (op : Form) (s : List ℕ) → Spells table op s → s ≡ text op
+spelled op s is =
+    ⊎_elim
+    (λ (same : s ≡ text op). same)
+    (λ (other : Contains [] s). absurd (omega (arith, other.1)))
+    is
+
+pub line_is : (line : List ℕ) (op : Form) → MeansOp table line op → tight line ≡ tight (text op)
+line_is line op means = means.2 ∙ ap tight (spelled op means.0 means.1)
+
 -- no instruction is too long a line
 pub no_long_form : (line : List ℕ) (op : Form) → IsForm op → IsOver table op → MeansOp table line op → 80 < length (tight line) → ⊥
 no_long_form line op is over means long =
     let short = length-text op is over in
     let tighter = length-tight (text op) in
-    let same : length (tight line) ≡ length (tight (text op)) = ap length means in
+    let same : length (tight line) ≡ length (tight (text op)) = ap length (line_is line op means) in
     absurd (omega arith)
 
 -- what is read is what the line means
 pub form_is : (line : List ℕ) (op other : Form) → IsForm op → IsOver table op → MeansOp table line op → form_read (tight line) ≡ Some other → op ≡ other
 form_is line op other is over means e =
     let back = form_back op is over in
-    let here : form_read (tight (text op)) ≡ Some other = rw (← means) e in
+    let here : form_read (tight (text op)) ≡ Some other = rw (← line_is line op means) e in
     cc
 
 pub no_form : (line : List ℕ) (op : Form) → IsForm op → IsOver table op → MeansOp table line op → form_read (tight line) ≡ None → ⊥
 no_form line op is over means e =
     let back = form_back op is over in
-    let here : form_read (tight (text op)) ≡ None = rw (← means) e in
+    let here : form_read (tight (text op)) ≡ None = rw (← line_is line op means) e in
     cc
 
 pub no_other_form : (line : List ℕ) (op other : Form) → IsForm op → IsOver table op → MeansOp table line op → form_read (tight line) ≡ Some other → (tight (text other) ≡ tight line → ⊥) → ⊥
 no_other_form line op other is over means e differs =
     let same : op ≡ other = form_is line op other is over means e in
-    differs (rw (← same, means) refl)
+    differs (rw (← same) (sym (line_is line op means)))

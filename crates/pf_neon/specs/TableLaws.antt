@@ -14,7 +14,7 @@ use Rattle.pf_isa.specs.declared.control.Control.TheVariants.{LoadPtr, StorePtr,
 use Rattle.pf_isa.specs.Control.{IsControl}
 use Rattle.pf_isa.specs.Files.{IsIn, renamed_register}
 use Rattle.pf_isa.specs.Lines.{tight, IsInstruction}
-use Rattle.pf_isa.specs.Tables.{IsTable, IsOver, IsFile, CanRun, MeansOp, MeansControl, Accesses, renamed_access, vector_count, after}
+use Rattle.pf_isa.specs.Tables.{IsTable, IsOver, IsFile, CanRun, Spells, MeansOp, MeansControl, Accesses, renamed_access, vector_count, after}
 use Rattle.pf_isa.proofs.QuietLaws.{is_quiet, are_quiet, quiet_number, quiet_before, quiet_label, instruction}
 use Rattle.pf_neon.specs.declared.op.Form.{Form}
 use Rattle.pf_neon.specs.declared.op.Form.TheVariants.{Load, Store, Copy, Lanewise}
@@ -26,7 +26,7 @@ use Rattle.pf_neon.specs.Lines.{suffix, vector_text, place_text, offset_text, te
 use Rattle.pf_neon.specs.Neon.{table}
 use Rattle.pf_neon.specs.Reads.{form_read}
 use Rattle.pf_neon.specs.LaneLengths.{length-lanewise}
-use Rattle.pf_neon.specs.FormLaws.{form_back, form_is}
+use Rattle.pf_neon.specs.FormLaws.{form_back, form_is, spelled}
 use Rattle.pf_neon.specs.ControlLaws.{control_back, control_is, offset_most}
 
 sized : (op : Form) (f : RegFile) → IsForm op → CanRun table op f → IsFile table (length f.vectors) (after table op f)
@@ -81,8 +81,12 @@ accesses (Store from base j) is = (is.0, λ l. cc, λ l. (0, omega arith, refl))
 accesses (Copy to from) is = tt
 accesses (Lanewise name lanes to left right) is = tt
 
-one_op : (op other : Form) → IsForm op → IsForm other → IsOver table op → IsOver table other → MeansOp table (text op) other → op ≡ other
-one_op op other is other_is over other_over means = sym (form_is (text op) other op other_is other_over means (form_back op is over))
+-- a spelling is read
+spelling_back : (op : Form) (s : List ℕ) → IsForm op → IsOver table op → Spells table op s → form_read (tight s) ≡ Some op
+spelling_back op s is over spells = rw (spelled op s spells) (form_back op is over)
+
+one_op : (op other : Form) (s : List ℕ) → IsForm op → IsForm other → IsOver table op → IsOver table other → Spells table op s → MeansOp table s other → op ≡ other
+one_op op other s is other_is over other_over spells means = sym (form_is s other op other_is other_over means (spelling_back op s is over spells))
 
 one_control : (c d : Control) → IsControl c → IsControl d → MeansControl table (control_text c) d → c ≡ d
 one_control c d is other_is means = sym (control_is (control_text c) d c other_is means (control_back c is))
@@ -105,9 +109,9 @@ no_form_read (Below label) = refl
 no_form_read (Jump label) = refl
 no_form_read Return = refl
 
-apart : (op : Form) (c : Control) → IsForm op → IsOver table op → IsControl c → MeansControl table (text op) c → ⊥
-apart op c is over control means =
-    let back = form_back op is over in
+apart : (op : Form) (c : Control) (s : List ℕ) → IsForm op → IsOver table op → IsControl c → Spells table op s → MeansControl table s c → ⊥
+apart op c s is over control spells means =
+    let back = spelling_back op s is over spells in
     let here : form_read (tight (control_text c)) ≡ Some op = rw (← means) back in
     let none = no_form_read c in
     cc
@@ -140,8 +144,8 @@ some_text (Store from base j) = λ e. cc
 some_text (Copy to from) = λ e. cc
 some_text (Lanewise Umin lanes to left right) = λ e. cc
 
-op_instruction : (op : Form) → IsForm op → IsOver table op → IsInstruction (text op)
-op_instruction op is over = instruction (text op) (quiet_text op is over) (some_text op)
+op_instruction : (op : Form) (s : List ℕ) → IsForm op → IsOver table op → Spells table op s → IsInstruction s
+op_instruction op s is over spells = rw (spelled op s spells) (instruction (text op) (quiet_text op is over) (some_text op))
 
 quiet_register : (n : ℕ) (t : List ℕ) → n < 8 → are_quiet t ≡ true → are_quiet (decimal n ++ t) ≡ true
 quiet_register n t h q = quiet_before n t (omega arith) q
@@ -192,6 +196,13 @@ some_control Return = λ e. cc
 control_instruction : (c : Control) → IsControl c → IsInstruction (control_text c)
 control_instruction c is = instruction (control_text c) (quiet_control c is) (some_control c)
 
+-- there is one result where there is one def
+whole : (op : Form) (held : List (List ℕ)) → IsForm op → access op ≡ None → length held ≡ length (uses op) → length (outcome op held) ≡ length (defs op)
+whole (Load to base j) held is computes many = absurd (cc)
+whole (Store from base j) held is computes many = absurd (cc)
+whole (Copy to from) held is computes many = refl
+whole (Lanewise name lanes to left right) held is computes many = refl
+
 few : (op : Form) → IsForm op → vector_count (uses op) + vector_count (defs op) ≤ 4
 few (Load to base j) is = omega arith
 few (Store from base j) is = omega arith
@@ -207,6 +218,7 @@ none_in = All-from_recursion (λ r. IsIn 32 r) [] tt
 pub is_table : IsTable table IsForm
 is_table = record {
   sized = sized;
+  whole = whole;
   few = few;
   some_bytes = omega arith;
   few_bytes = omega arith;
