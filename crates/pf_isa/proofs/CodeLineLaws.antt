@@ -7,10 +7,11 @@ use Rattle.std.proofs.lemmas.Bool.{and_parts, cases_Bool}
 use Rattle.std.proofs.lemmas.Bool.Decides.{nat_tests}
 use Rattle.std.proofs.lemmas.List.{take_more, append-nil}
 use Rattle.pf_ints.specs.Words.{is_letter, is_name_byte, is_spelled, is_reserved, is_name}
-use Rattle.pf_isa.specs.Lines.{is_blank, tight_on, tight_pending, tight, IsLine}
+use Rattle.pf_isa.specs.Lines.{is_blank, tight_on, tight_pending, tight}
 use Rattle.pf_isa.specs.declared.code.Line.{Line}
+use Rattle.pf_isa.specs.declared.code.Line.TheVariants.{Vector, Control as Controls}
 use Rattle.pf_isa.specs.Tables.{Table}
-use Rattle.pf_isa.specs.Texts.{Said, Nothing, Named, Does, uncommented, label_text, line_text}
+use Rattle.pf_isa.specs.Texts.{Said, Nothing, Named, Does, uncommented, label_text, MeansLine}
 use Rattle.pf_isa.specs.TextFaults.{IsKnown, SaysKnown}
 use Rattle.pf_isa.specs.CodeReading.{BeginsPlain, EndsPlain}
 use Rattle.pf_isa.proofs.TightLaws.{IsSolid, tight_on-solid, solid_name}
@@ -224,13 +225,18 @@ some_line (c ∷ cs) plain some is =
     let kept : c ∷ tight_on (c == 44) cs ≡ [] = rw blank at is in
     cc
 
+-- lines that are the same up to blanks mean the same
+pub means_same : {I O : Type 0} (t : Table O) (l : Line I O) (line other : List ℕ) → tight line ≡ tight other → MeansLine t other l → MeansLine t line l
+means_same t (Vector op) line other same m = (m.0, m.1, same ∙ m.2)
+means_same t (Controls c) line other same m = same ∙ m
+
 -- a line that isn't blank, is no label and is no instruction says nothing
 pub nothing_said : {I O : Type 0} (t : Table O) (is_op : O → Type 0) (line bare : List ℕ) → tight bare ≡ tight (uncommented line) → BeginsPlain bare → EndsPlain bare → 1 ≤ length bare
-    → ((name : List ℕ) → IsTrue (is_name name) → bare ≡ label_text name → ⊥) → ((l : Line I O) → IsKnown t is_op (Does l) → IsLine bare (line_text t l) → ⊥)
+    → ((name : List ℕ) → IsTrue (is_name name) → bare ≡ label_text name → ⊥) → ((l : Line I O) → IsKnown t is_op (Does l) → MeansLine t bare l → ⊥)
     → (said : Said I O) → SaysKnown t is_op line said → ⊥
 nothing_said t is_op line bare same begins ends some no_label no_instruction Nothing says = some_line bare begins some (same ∙ says.0.1)
 nothing_said t is_op line bare same begins ends some no_label no_instruction (Named name) says = no_label name says.0.1.0 (label_back bare name begins ends says.0.1.0 (same ∙ says.0.1.1))
-nothing_said t is_op line bare same begins ends some no_label no_instruction (Does l) says = no_instruction l says.1 (same ∙ says.0.1)
+nothing_said t is_op line bare same begins ends some no_label no_instruction (Does l) says = no_instruction l says.1 (means_same t l bare (uncommented line) same says.0.1)
 
 -- a name has 1 to 32 bytes
 pub name_size : (name : List ℕ) → is_name name ≡ true → (1 ≤ length name) × (length name ≤ 32)

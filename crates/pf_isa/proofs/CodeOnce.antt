@@ -15,9 +15,9 @@ use Rattle.pf_isa.specs.declared.fault.TextFault.TheVariants.{At, Memory}
 use Rattle.pf_isa.specs.declared.fault.TextKind.{TextKind}
 use Rattle.pf_isa.specs.declared.fault.TextKind.TheVariants.{Target, Directive, Instruction, Label as LabelFault, NoEnd}
 use Rattle.pf_isa.specs.Programs.{jumps_to, IsThere, IsInstructionOf, IsLast}
-use Rattle.pf_isa.specs.Lines.{tight, IsInstruction}
+use Rattle.pf_isa.specs.Lines.{tight, IsLine, IsInstruction}
 use Rattle.pf_isa.specs.Tables.{Table, IsTable}
-use Rattle.pf_isa.specs.Texts.{Said, Nothing, Named, Does, Says, code_of, labels_of, label_text, line_text, IsOpOf, IsCodeText}
+use Rattle.pf_isa.specs.Texts.{Said, Nothing, Named, Does, Says, code_of, labels_of, label_text, MeansLine, IsOpOf, IsCodeText}
 use Rattle.pf_isa.specs.TextFaults.{IsKnown, SaysKnown, label_names, IsNamed, HasPlace, IsLineFault, IsBadLine, IsBadJump, IsCodeFaultAt, IsCodeRefusal, IsCodeOr}
 use Rattle.pf_isa.proofs.CodeTexts.{names_of_labels}
 
@@ -31,30 +31,36 @@ no_empty_label : (name : List ℕ) → [] ≡ label_text name → ⊥
 no_empty_label [] e = cc
 no_empty_label (c ∷ cs) e = cc
 
--- the line of an instruction is neither blank nor a label
-instruction_line : {I O : Type 0} (t : Table O) (is_op : O → Type 0) → IsTable t is_op → (l : Line I O) → IsKnown t is_op (Does l) → IsInstruction (line_text t l)
-instruction_line t is_op laws (Vector op) k = laws.instruction op k.0 k.1
-instruction_line t is_op laws (Controls c) k = laws.control_instruction c k
+-- a line that means an instruction is an instruction's, up to blanks, and so neither blank nor a label
+instruction_line : {I O : Type 0} (t : Table O) (is_op : O → Type 0) → IsTable t is_op → (l : Line I O) (bare : List ℕ) → IsKnown t is_op (Does l) → MeansLine t bare l → (s : List ℕ) × IsInstruction s × IsLine bare s
+instruction_line t is_op laws (Vector op) bare k m = (m.0, laws.instruction op m.0 k.0 k.1 m.1, m.2)
+instruction_line t is_op laws (Controls c) bare k m = (t.control_text c, laws.control_instruction c k, m)
 
-no_label : {I O : Type 0} (t : Table O) (is_op : O → Type 0) → IsTable t is_op → (l : Line I O) (name : List ℕ) → IsKnown t is_op (Does l) → tight (line_text t l) ≡ label_text name → ⊥
-no_label t is_op laws l name k is = (instruction_line t is_op laws l k).no_label (rw is (last_pushed name 58 None))
+no_blank : {I O : Type 0} (t : Table O) (is_op : O → Type 0) → IsTable t is_op → (l : Line I O) (bare : List ℕ) → IsKnown t is_op (Does l) → MeansLine t bare l → tight bare ≡ [] → ⊥
+no_blank t is_op laws l bare k m is = let i = instruction_line t is_op laws l bare k m in i.1.some (sym i.2 ∙ is)
 
-one_line : {I O : Type 0} (t : Table O) (is_op : O → Type 0) → IsTable t is_op → (l m : Line I O) → IsKnown t is_op (Does l) → IsKnown t is_op (Does m) → tight (line_text t l) ≡ tight (line_text t m) → l ≡ m
-one_line t is_op laws (Vector op) (Vector other) k n same = ap (λ o. Vector o) (laws.one_op op other k.0 n.0 k.1 n.1 same)
-one_line t is_op laws (Vector op) (Controls c) k n same = absurd (laws.apart op c k.0 k.1 n same)
-one_line t is_op laws (Controls c) (Vector op) k n same = absurd (laws.apart op c n.0 n.1 k (sym same))
-one_line t is_op laws (Controls c) (Controls d) k n same = ap (λ o. Controls o) (laws.one_control c d k n same)
+no_label : {I O : Type 0} (t : Table O) (is_op : O → Type 0) → IsTable t is_op → (l : Line I O) (name bare : List ℕ) → IsKnown t is_op (Does l) → MeansLine t bare l → tight bare ≡ label_text name → ⊥
+no_label t is_op laws l name bare k m is =
+    let i = instruction_line t is_op laws l bare k m in
+    let same : tight i.0 ≡ label_text name = sym i.2 ∙ is in
+    i.1.no_label (rw same (last_pushed name 58 None))
+
+one_line : {I O : Type 0} (t : Table O) (is_op : O → Type 0) → IsTable t is_op → (l m : Line I O) (bare : List ℕ) → IsKnown t is_op (Does l) → IsKnown t is_op (Does m) → MeansLine t bare l → MeansLine t bare m → l ≡ m
+one_line t is_op laws (Vector op) (Vector other) bare k n a b = ap (λ o. Vector o) (laws.one_op op other a.0 k.0 n.0 k.1 n.1 a.1 (b.0, b.1, sym a.2 ∙ b.2))
+one_line t is_op laws (Vector op) (Controls c) bare k n a b = absurd (laws.apart op c a.0 k.0 k.1 n a.1 (sym a.2 ∙ b))
+one_line t is_op laws (Controls c) (Vector op) bare k n a b = absurd (laws.apart op c b.0 n.0 n.1 k b.1 (sym b.2 ∙ a))
+one_line t is_op laws (Controls c) (Controls d) bare k n a b = ap (λ o. Controls o) (laws.one_control c d k n (sym a ∙ b))
 
 one_said : {I O : Type 0} (t : Table O) (is_op : O → Type 0) → IsTable t is_op → (line : List ℕ) (s u : Said I O) → SaysKnown t is_op line s → SaysKnown t is_op line u → s ≡ u
 one_said t is_op laws line Nothing Nothing a b = refl
 one_said t is_op laws line Nothing (Named name) a b = absurd (no_empty_label name (sym a.0.1 ∙ b.0.1.1))
-one_said t is_op laws line Nothing (Does l) a b = absurd ((instruction_line t is_op laws l b.1).some (sym b.0.1 ∙ a.0.1))
+one_said t is_op laws line Nothing (Does l) a b = absurd (no_blank t is_op laws l _ b.1 b.0.1 a.0.1)
 one_said t is_op laws line (Named name) Nothing a b = absurd (no_empty_label name (sym b.0.1 ∙ a.0.1.1))
 one_said t is_op laws line (Named name) (Named other) a b = ap (λ n. Named n) (append_cancel_right name other (58 ∷ []) (sym a.0.1.1 ∙ b.0.1.1))
-one_said t is_op laws line (Named name) (Does l) a b = absurd (no_label t is_op laws l name b.1 (sym b.0.1 ∙ a.0.1.1))
-one_said t is_op laws line (Does l) Nothing a b = absurd ((instruction_line t is_op laws l a.1).some (sym a.0.1 ∙ b.0.1))
-one_said t is_op laws line (Does l) (Named name) a b = absurd (no_label t is_op laws l name a.1 (sym a.0.1 ∙ b.0.1.1))
-one_said t is_op laws line (Does l) (Does m) a b = ap (λ l. Does l) (one_line t is_op laws l m a.1 b.1 (sym a.0.1 ∙ b.0.1))
+one_said t is_op laws line (Named name) (Does l) a b = absurd (no_label t is_op laws l name _ b.1 b.0.1 a.0.1.1)
+one_said t is_op laws line (Does l) Nothing a b = absurd (no_blank t is_op laws l _ a.1 a.0.1 b.0.1)
+one_said t is_op laws line (Does l) (Named name) a b = absurd (no_label t is_op laws l name _ a.1 a.0.1 b.0.1.1)
+one_said t is_op laws line (Does l) (Does m) a b = ap (λ l. Does l) (one_line t is_op laws l m _ a.1 b.1 a.0.1 b.0.1)
 
 -- ---- all lines
 

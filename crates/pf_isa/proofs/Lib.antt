@@ -3,6 +3,7 @@ pub mod ScanLaws
 pub mod TightLaws
 pub mod QuietLaws
 pub mod ByteLaws
+pub mod EffectLaws
 pub mod MemoryLaws
 pub mod StepLaws
 pub mod RowLaws

@@ -1,5 +1,5 @@
 -- What is written of a program is a text of it.
-use Rattle.std.proofs.Common.{◌≡◌, ◌≢◌, refl, sym, ap, ◌∙◌, subst, ℕ, zero, suc, ◌+◌, ◌<◌, ◌≤◌, true, false, not, List, [], ◌∷◌, ◌++◌, length, map, get_or, arith, All, ◌==◌, rules}
+use Rattle.std.proofs.Common.{◌≡◌, ◌≢◌, inl, refl, sym, ap, ◌∙◌, subst, ℕ, zero, suc, ◌+◌, ◌<◌, ◌≤◌, true, false, not, List, [], ◌∷◌, ◌++◌, length, map, get_or, arith, All, ◌==◌, rules}
 use Rattle.std.specs.Prelude.{codes, IsTrue, nat_le, if◌then◌else◌}
 use Rattle.std.specs.List.{list_all, AllByRecursion, AllPairs, AllZip}
 use Rattle.std.specs.Str.Lines.{lines}
@@ -24,7 +24,7 @@ use Rattle.pf_isa.specs.Lines.{tight, IsPlain, IsInstruction}
 use Rattle.pf_isa.specs.Tables.{Table, IsTable}
 use Rattle.pf_isa.specs.Heads.{IsHead, IsDecl, AreLiftedNames, image_name, def_name, names_of, with_def}
 use Rattle.pf_isa.specs.Programs.{Text, IsProgram, IsInstructionOf, IsLabel}
-use Rattle.pf_isa.specs.Texts.{Named, Does, printed, line_text, label_text, label_lines, labels_at, labels_behind, named, code_lines, labels_of, said_from, uncommented, Says, IsOpOf, IsText, head_lines, target_line, image_line, range_text, tap_line, offsets_text, typed_term_text, lifted_lines, cost_line}
+use Rattle.pf_isa.specs.Texts.{Named, Does, printed, line_text, label_text, label_lines, labels_at, labels_behind, named, code_lines, labels_of, said_from, uncommented, MeansLine, Says, IsOpOf, IsText, head_lines, target_line, image_line, range_text, tap_line, offsets_text, typed_term_text, lifted_lines, cost_line}
 use Rattle.pf_isa.proofs.TextLaws.{inner, is_inner, solid, all-append, all-weaker, inner_name, lines-printed, code_of-said_from, Ascend, ascend_at, labels_of-named, is_solid_name, tight-solid, uncommented-no_slash, solid_no_slash, no_slash}
 use Rattle.pf_isa.proofs.WrittenHeads.{head_is_read}
 use Rattle.pf_isa.proofs.TermLaws.{IsInner, Inner, literal, inner_append, decimal_inner, signed_inner, inner_type, inner_term, InnerNames}
@@ -130,10 +130,15 @@ plain_no_slash (c ∷ cs) h = rw (ne_eqb c 47 h.0.2) (plain_no_slash cs h.1)
 no_return : (cs : List ℕ) → is_inner cs ≡ true → list_all (λ c. not (c == 13)) cs ≡ true
 no_return cs h = all-weaker inner (λ c. not (c == 13)) (λ c k. (and_parts (not (c == 10)) (not (c == 13)) k).1) cs h
 
+-- what is printed means the instruction
+printed_means : {I O : Type 0} (t : Table O) (line : Line I O) (bare : List ℕ) → tight bare ≡ tight (line_text t line) → MeansLine t bare line
+printed_means t (Vector op) bare same = (t.text op, inl refl, same)
+printed_means t (Controls c) bare same = same
+
 line_says : {I O : Type 0} (t : Table O) (line : Line I O) → IsInstruction (line_text t line) → Says t (line_text t line) (Does line)
 line_says t line h =
     let plain = recursion_from_All IsPlain (line_text t line) h.plain in
-    (no_return (line_text t line) (plain_inner (line_text t line) plain), ap tight (uncommented-no_slash (line_text t line) (plain_no_slash (line_text t line) plain)))
+    (no_return (line_text t line) (plain_inner (line_text t line) plain), printed_means t line _ (ap tight (uncommented-no_slash (line_text t line) (plain_no_slash (line_text t line) plain))))
 
 label_solid : (name : List ℕ) → is_name name ≡ true → list_all solid (label_text name) ≡ true
 label_solid name h = all-append solid name (codes ":") (is_solid_name name h) refl
@@ -198,7 +203,7 @@ ascend_from low high (l ∷ ls) within order = (
 
 instructions_of : {I O : Type 0} (t : Table O) (is_op : O → Type 0) (laws : IsTable t is_op) (labels : List Label) (code : List (Line I O)) → AllByRecursion (IsOpOf is_op) code → AllByRecursion (λ line. IsInstructionOf t labels line) code → AreInstructions t code
 instructions_of t is_op laws labels [] h k = tt
-instructions_of t is_op laws labels (Vector op ∷ more) h k = (laws.instruction op h.0 k.0, instructions_of t is_op laws labels more h.1 k.1)
+instructions_of t is_op laws labels (Vector op ∷ more) h k = (laws.instruction op (t.text op) h.0 k.0 (inl refl), instructions_of t is_op laws labels more h.1 k.1)
 instructions_of t is_op laws labels (Controls c ∷ more) h k = (laws.control_instruction c k.0.0, instructions_of t is_op laws labels more h.1 k.1)
 
 label_names : (count : ℕ) (ls : List Label) → AllByRecursion (IsLabel count) ls → AreNames ls

@@ -4,6 +4,7 @@ pub mod Lines
 pub mod Scan
 pub mod Control
 pub mod Tables
+pub mod Effects
 pub mod Memory
 pub mod Steps
 pub mod Heads

@@ -1,5 +1,5 @@
 -- A set of vector instructions as one table, and the laws that every such set meets.
-use Rattle.std.specs.Prelude.{◌≡◌, ℕ, ◌+◌, ◌*◌, ◌<◌, ◌≤◌, List, [], ◌∷◌, length, map, Bool, true, false, IsTrue, Option, Some, None, MatchOption, All, Contains}
+use Rattle.std.specs.Prelude.{◌≡◌, ℕ, ◌+◌, ◌*◌, ◌<◌, ◌≤◌, List, [], ◌∷◌, length, map, Bool, true, false, IsTrue, Option, Some, None, MatchOption, All, Contains, ◌⊎◌}
 use Rattle.std.specs.Option.{option_map}
 use Rattle.pf_ints.specs.declared.target.Target.{Target}
 use Rattle.pf_isa.specs.declared.registers.Reg.{Reg}
@@ -32,8 +32,9 @@ pub record Table (O : Type 0) : Type 0 where
   -- a load and a store through the pointer register, at a number of vectors behind it
   pub load : ℕ → ℕ → O
   pub store : ℕ → ℕ → O
-  -- how instructions are printed
+  -- how instructions are printed, and the other spellings of a vector instruction that are read as it
   pub text : O → List ℕ
+  pub also : O → List (List ℕ)
   pub control_text : Control → List ℕ
 
 -- the file after an operation that is no load or store
@@ -58,9 +59,13 @@ pub record CanRun {O : Type 0} (t : Table O) (op : O) (f : RegFile) : Type 0 whe
   pub defs : All (λ r. IsIn (length f.vectors) r) (t.defs op)
   pub file : IsFile t (length f.vectors) f
 
--- a line is read as this operation, or as this control instruction: it is the printed one, up to blanks
+-- the operation is spelled so: as it is printed, or otherwise
+abbrev pub Spells : {O : Type 0} → Table O → O → List ℕ → Type 0
+Spells t op s = (s ≡ t.text op) ⊎ Contains (t.also op) s
+
+-- a line is read as this operation, or as this control instruction: it is a spelling of it, up to blanks
 abbrev pub MeansOp : {O : Type 0} → Table O → List ℕ → O → Type 0
-MeansOp t line op = IsLine line (t.text op)
+MeansOp t line op = (s : List ℕ) × Spells t op s × IsLine line s
 
 abbrev pub MeansControl : {O : Type 0} → Table O → List ℕ → Control → Type 0
 MeansControl t line c = IsLine line (t.control_text c)
@@ -93,6 +98,8 @@ vector_count (Q ∷ rs) = vector_count rs
 pub record IsTable {O : Type 0} (t : Table O) (is_op : O → Type 0) : Type 0 where
   -- an operation that runs keeps the sizes of the file
   pub sized : (op : O) (f : RegFile) → is_op op → CanRun t op f → IsFile t (length f.vectors) (after t op f)
+  -- there is a result for each of its defs
+  pub whole : (op : O) (held : List (List ℕ)) → is_op op → t.access op ≡ None → length held ≡ length (t.uses op) → length (t.outcome op held) ≡ length (t.defs op)
   -- it names at most four vectors
   pub few : (op : O) → is_op op → vector_count (t.uses op) + vector_count (t.defs op) ≤ 4
   -- a new name stands in place of the old one in uses, defs and access; results, cost and the rest of the access stay
@@ -117,8 +124,8 @@ pub record IsTable {O : Type 0} (t : Table O) (is_op : O → Type 0) : Type 0 wh
   pub load_cost : (to j : ℕ) → t.cost (t.load to j) ≡ 0
   pub store_cost : (from j : ℕ) → t.cost (t.store from j) ≡ 0
   -- a line means one operation, or one control instruction, or neither, and no label, comment or blank line
-  pub one_op : (op other : O) → is_op op → is_op other → IsOver t op → IsOver t other → MeansOp t (t.text op) other → op ≡ other
+  pub one_op : (op other : O) (s : List ℕ) → is_op op → is_op other → IsOver t op → IsOver t other → Spells t op s → MeansOp t s other → op ≡ other
   pub one_control : (c d : Control) → IsControl c → IsControl d → MeansControl t (t.control_text c) d → c ≡ d
-  pub apart : (op : O) (c : Control) → is_op op → IsOver t op → IsControl c → MeansControl t (t.text op) c → ⊥
-  pub instruction : (op : O) → is_op op → IsOver t op → IsInstruction (t.text op)
+  pub apart : (op : O) (c : Control) (s : List ℕ) → is_op op → IsOver t op → IsControl c → Spells t op s → MeansControl t s c → ⊥
+  pub instruction : (op : O) (s : List ℕ) → is_op op → IsOver t op → Spells t op s → IsInstruction s
   pub control_instruction : (c : Control) → IsControl c → IsInstruction (t.control_text c)

@@ -20,7 +20,7 @@ use Rattle.pf_isa.specs.declared.code.Line.{Line}
 use Rattle.pf_isa.specs.declared.code.Line.TheVariants.{Vector, Control as Controls}
 use Rattle.pf_isa.specs.declared.code.Label.{Label}
 use Rattle.pf_isa.specs.Lines.{tight, IsLine}
-use Rattle.pf_isa.specs.Tables.{Table}
+use Rattle.pf_isa.specs.Tables.{Table, MeansOp, MeansControl}
 use Rattle.pf_isa.specs.Heads.{image_name, names_of, with_def}
 use Rattle.pf_isa.specs.Programs.{Text, IsProgram, IsInstructionOf, IsLast, IsLabel}
 
@@ -118,13 +118,18 @@ abbrev pub line_text : {I O : Type 0} → Table O → Line I O → List ℕ
 line_text t (Vector op) = t.text op
 line_text t (Controls c) = t.control_text c
 
+-- a line is read as this instruction
+abbrev pub MeansLine : {I O : Type 0} → Table O → List ℕ → Line I O → Type 0
+MeansLine t line (Vector op) = MeansOp t line op
+MeansLine t line (Controls c) = MeansControl t line c
+
 abbrev pub label_text : List ℕ → List ℕ
 label_text name = name ++ codes ":"
 
 abbrev pub SaysBare : {I O : Type 0} → Table O → List ℕ → Said I O → Type 0
 SaysBare t bare Nothing = tight bare ≡ []
 SaysBare t bare (Named name) = IsTrue (is_name name) × (tight bare ≡ label_text name)
-SaysBare t bare (Does l) = IsLine bare (line_text t l)
+SaysBare t bare (Does l) = MeansLine t bare l
 
 -- a line without a carriage return, also in its comment, says this
 abbrev pub Says : {I O : Type 0} → Table O → List ℕ → Said I O → Type 0

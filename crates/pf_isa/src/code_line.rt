@@ -1,7 +1,7 @@
 ghost use Rattle.std.specs.Prelude.{◌≡◌, List, ℕ, ◌++◌, IsTrue, MatchOption, length, take, true, false, not};
 ghost use Rattle.pf_ints.specs.Words.{is_name};
-ghost use Rattle.pf_isa.specs.Lines.{tight, IsLine};
-ghost use Rattle.pf_isa.specs.Texts.{Said, Does, uncommented, label_text, line_text};
+ghost use Rattle.pf_isa.specs.Lines.{tight};
+ghost use Rattle.pf_isa.specs.Texts.{Said, Does, uncommented, label_text, MeansLine};
 ghost use Rattle.pf_isa.specs.TextFaults.{IsKnown, SaysKnown};
 ghost use Rattle.pf_isa.specs.declared.code.Line.{Line};
 ghost use Rattle.pf_isa.specs.CodeReading.{said_by, BeginsPlain, EndsPlain};
@@ -43,7 +43,7 @@ pub fn code_line<I: Isa>(line: &[u8]) -> Option<CodeLine<'_, I>>
 
 /// The instruction that the line is, up to blanks, or None where it is none.
 fn instruction_of<I: Isa>(line: &[u8]) -> Option<Line<I>>
-    ensures { MatchOption result ((l : Line I I.Op) → IsKnown I.table I.is_op (Does l) → IsLine line.now (line_text I.table l) → ⊥) (λ l. IsKnown I.table I.is_op (Does l) × IsLine line.now (line_text I.table l)) }
+    ensures { MatchOption result ((l : Line I I.Op) → IsKnown I.table I.is_op (Does l) → MeansLine I.table line.now l → ⊥) (λ l. IsKnown I.table I.is_op (Does l) × MeansLine I.table line.now l) }
 {
     if let Some(op) = I::parse(line) {
         I::known(&op);

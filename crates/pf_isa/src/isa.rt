@@ -1,5 +1,6 @@
 ghost use Rattle.std.specs.Prelude.{◌≡◌, ℕ, ◌≤◌, IfOk};
 ghost use Rattle.pf_ints.specs.declared.target.Target.{Target};
+ghost use Rattle.pf_isa.specs.Effects.{ReadsUses, ChangesDefs, RenamingCommutes};
 ghost use Rattle.pf_isa.specs.Tables.{Table, CanRun, IsTable, ReadsOp, ReadsControl, after};
 
 use crate::access::Access;
@@ -86,8 +87,8 @@ pub trait Isa {
     fn print(alloc: Global, op: &Self::Op) -> Result<Vec<u8>, Memory>
         ensures { IfOk result (λ line. line.items ≡ table.text op.now) };
 
-    /// The operation over the machine's vectors that the line is, up to blanks, or None where it
-    /// is none. It takes no memory.
+    /// The operation over the machine's vectors that the line spells, up to blanks, or None where
+    /// it spells none. It takes no memory.
     fn parse(line: &[u8]) -> Option<Self::Op>
         ensures { ReadsOp table is_op line.now result };
 
@@ -109,4 +110,13 @@ pub trait Isa {
     ghost vectors_are: { table.vectors ≡ VECTORS };
 
     ghost laws: { IsTable table is_op };
+}
+
+/// Does nothing. It tells a proof what follows for the effect of each operation of a set: it reads
+/// its uses alone, it changes its defs alone, and with another name for a vector it does the same.
+pub fn laws_of<I: Isa>()
+    ensures reads { ReadsUses I.table I.is_op }
+    ensures changes { ChangesDefs I.table }
+    ensures renames { RenamingCommutes I.table }
+{
 }

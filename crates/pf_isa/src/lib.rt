@@ -33,7 +33,7 @@ pub use block::{Block, Item, ItemList};
 pub use code::{Code, Label, LabelList, Line};
 pub use control::{Control, Ctl, role};
 pub use fault::{TextFault, TextKind};
-pub use isa::Isa;
+pub use isa::{Isa, laws_of};
 pub use machine::Machine;
 pub use memory::{Region, RegionList};
 pub use program::{Head, Program};

@@ -1,12 +1,12 @@
 -- A printed vector instruction is read back, and is short.
-use Rattle.std.proofs.Common.{◌≡◌, ℕ, ◌*◌, ◌/◌, ◌^◌, ◌<◌, ◌≤◌, List, [], ◌++◌, Bool, false, length, Some, None, refl, arith, ap, append_assoc, length-append}
-use Rattle.std.specs.Prelude.{codes}
+use Rattle.std.proofs.Common.{◌≡◌, ℕ, ◌*◌, ◌/◌, ◌^◌, ◌<◌, ◌≤◌, List, [], ◌++◌, Bool, false, length, Some, None, refl, sym, ◌∙◌, arith, ap, append_assoc, length-append, ⊎_elim}
+use Rattle.std.specs.Prelude.{codes, Contains}
 use Rattle.std.specs.Fmt.{decimal}
 use Rattle.std.proofs.lemmas.Bool.{lt-ltb}
 use Rattle.std.proofs.lemmas.Fmt.{length-decimal-le}
 use Rattle.pf_isa.specs.declared.registers.Reg.TheVariants.{V}
 use Rattle.pf_isa.specs.Lines.{tight, tight_on}
-use Rattle.pf_isa.specs.Tables.{IsOver, MeansOp}
+use Rattle.pf_isa.specs.Tables.{IsOver, Spells, MeansOp}
 use Rattle.pf_isa.proofs.ScanLaws.{NoDigit}
 use Rattle.pf_isa.proofs.TightLaws.{next_tight, next_tight_last, length-tight}
 use Rattle.pf_neon.specs.declared.op.Form.{Form}
@@ -27,18 +27,18 @@ pub below_last : (limit : ℕ) (free : Bool) (n : ℕ) → n < limit → limit �
 below_last limit free n h small = rw (next_tight_last free n (omega arith), lt-ltb n limit h) refl
 
 -- an operand of a load or a store is read
-place_back : (n j : ℕ) → n < 32 → j ≤ 7 → place_read (tight_on false (decimal n ++ (codes ", " ++ place_text 5 (16 * j)))) ≡ Some (n, j)
-place_back n j h k =
+place_back : (n base j : ℕ) → n < 32 → base < 8 → j ≤ 7 → place_read (tight_on false (decimal n ++ (codes ", " ++ place_text base (16 * j)))) ≡ Some (n, base, j)
+place_back n base j h b k =
     let back : (16 * j) / 16 ≡ j = omega arith in
-    rw (below_tight 32 false n (codes ", " ++ place_text 5 (16 * j)) h (omega arith) refl, below_tight 8 false 5 (codes ", #" ++ (decimal (16 * j) ++ codes "]")) (omega arith) (omega arith) refl, below_tight 128 false (16 * j) (codes "]") (omega arith) (omega arith) refl, back) refl
+    rw (below_tight 32 false n (codes ", " ++ place_text base (16 * j)) h (omega arith) refl, below_tight 8 false base (codes ", #" ++ (decimal (16 * j) ++ codes "]")) b (omega arith) refl, below_tight 128 false (16 * j) (codes "]") (omega arith) (omega arith) refl, back) refl
 
-load_back : (to j : ℕ) → to < 32 → j ≤ 7 → form_read (tight (text (Load to j))) ≡ Some (Load to j)
+load_back : (to base j : ℕ) → to < 32 → base < 8 → j ≤ 7 → form_read (tight (text (Load to base j))) ≡ Some (Load to base j)
 unfolding tight
-load_back to j h k = rw (place_back to j h k) refl
+load_back to base j h b k = rw (place_back to base j h b k) refl
 
-store_back : (from j : ℕ) → from < 32 → j ≤ 7 → form_read (tight (text (Store from j))) ≡ Some (Store from j)
+store_back : (from base j : ℕ) → from < 32 → base < 8 → j ≤ 7 → form_read (tight (text (Store from base j))) ≡ Some (Store from base j)
 unfolding tight
-store_back from j h k = rw (place_back from j h k) refl
+store_back from base j h b k = rw (place_back from base j h b k) refl
 
 no_digit : (lanes : Lanes) (t : List ℕ) → NoDigit (tight_on false (suffix lanes ++ t))
 no_digit Bytes t = refl
@@ -72,8 +72,8 @@ umin_back Words to left right h k l =
 
 -- a printed instruction over the machine's vectors is read back
 pub form_back : (op : Form) → IsForm op → IsOver table op → form_read (tight (text op)) ≡ Some op
-form_back (Load to j) is over = load_back to j (over.defs 0 (V to) (omega arith)) is
-form_back (Store from j) is over = store_back from j (over.uses 0 (V from) (omega arith)) is
+form_back (Load to base j) is over = load_back to base j (over.defs 0 (V to) (omega arith)) is.0 is.1
+form_back (Store from base j) is over = store_back from base j (over.uses 0 (V from) (omega arith)) is.0 is.1
 form_back (Copy to from) is over = copy_back to from (over.defs 0 (V to) (omega arith)) (over.uses 0 (V from) (omega arith))
 form_back (Lanewise Umin lanes to left right) is over = umin_back lanes to left right (over.defs 0 (V to) (omega arith)) (over.uses 0 (V left) (omega arith)) (over.uses 1 (V right) (omega arith))
 
@@ -90,12 +90,12 @@ length-vector_text lanes n h = rw (length-append (decimal n) (suffix lanes)) (om
 
 -- a printed instruction over the machine's vectors is short
 pub length-text : (op : Form) → IsForm op → IsOver table op → length (text op) ≤ 80
-length-text (Load to j) is over =
+length-text (Load to base j) is over =
     let vector : to < 32 = over.defs 0 (V to) (omega arith) in
-    simp length-append (omega (arith, few_digits to (omega arith), few_digits 5 (omega arith), few_digits (16 * j) (omega arith)))
-length-text (Store from j) is over =
+    simp length-append (omega (arith, few_digits to (omega arith), few_digits base (omega arith), few_digits (16 * j) (omega arith)))
+length-text (Store from base j) is over =
     let vector : from < 32 = over.uses 0 (V from) (omega arith) in
-    simp length-append (omega (arith, few_digits from (omega arith), few_digits 5 (omega arith), few_digits (16 * j) (omega arith)))
+    simp length-append (omega (arith, few_digits from (omega arith), few_digits base (omega arith), few_digits (16 * j) (omega arith)))
 length-text (Copy to from) is over =
     let first : to < 32 = over.defs 0 (V to) (omega arith) in
     let second : from < 32 = over.uses 0 (V from) (omega arith) in
@@ -106,28 +106,39 @@ length-text (Lanewise Umin lanes to left right) is over =
     let third : right < 32 = over.uses 1 (V right) (omega arith) in
     omega (arith, length-append (vector_text lanes to) (codes ", " ++ (vector_text lanes left ++ (codes ", " ++ vector_text lanes right))), length-append (vector_text lanes left) (codes ", " ++ vector_text lanes right), length-vector_text lanes to (omega arith), length-vector_text lanes left (omega arith), length-vector_text lanes right (omega arith))
 
+-- an instruction has one spelling
+pub spelled : (op : Form) (s : List ℕ) → Spells table op s → s ≡ text op
+spelled op s is =
+    ⊎_elim
+    (λ (same : s ≡ text op). same)
+    (λ (other : Contains [] s). absurd (omega (arith, other.1)))
+    is
+
+pub line_is : (line : List ℕ) (op : Form) → MeansOp table line op → tight line ≡ tight (text op)
+line_is line op means = means.2 ∙ ap tight (spelled op means.0 means.1)
+
 -- no instruction is too long a line
 pub no_long_form : (line : List ℕ) (op : Form) → IsForm op → IsOver table op → MeansOp table line op → 80 < length (tight line) → ⊥
 no_long_form line op is over means long =
     let short = length-text op is over in
     let tighter = length-tight (text op) in
-    let same : length (tight line) ≡ length (tight (text op)) = ap length means in
+    let same : length (tight line) ≡ length (tight (text op)) = ap length (line_is line op means) in
     absurd (omega arith)
 
 -- what is read is what the line means
 pub form_is : (line : List ℕ) (op other : Form) → IsForm op → IsOver table op → MeansOp table line op → form_read (tight line) ≡ Some other → op ≡ other
 form_is line op other is over means e =
     let back = form_back op is over in
-    let here : form_read (tight (text op)) ≡ Some other = rw (← means) e in
+    let here : form_read (tight (text op)) ≡ Some other = rw (← line_is line op means) e in
     cc
 
 pub no_form : (line : List ℕ) (op : Form) → IsForm op → IsOver table op → MeansOp table line op → form_read (tight line) ≡ None → ⊥
 no_form line op is over means e =
     let back = form_back op is over in
-    let here : form_read (tight (text op)) ≡ None = rw (← means) e in
+    let here : form_read (tight (text op)) ≡ None = rw (← line_is line op means) e in
     cc
 
 pub no_other_form : (line : List ℕ) (op other : Form) → IsForm op → IsOver table op → MeansOp table line op → form_read (tight line) ≡ Some other → (tight (text other) ≡ tight line → ⊥) → ⊥
 no_other_form line op other is over means e differs =
     let same : op ≡ other = form_is line op other is over means e in
-    differs (rw (← same, means) refl)
+    differs (rw (← same) (sym (line_is line op means)))

@@ -1,5 +1,5 @@
 -- The vector instructions of A64 Advanced SIMD: their operands, and what they do to lanes.
-use Rattle.std.specs.Prelude.{ℕ, ◌*◌, ◌≤◌, List, [], ◌∷◌, Bool, true, false, IsTrue, Option, Some, None, min, slice_index_or}
+use Rattle.std.specs.Prelude.{ℕ, ◌*◌, ◌<◌, ◌≤◌, List, [], ◌∷◌, Bool, true, false, IsTrue, Option, Some, None, min, slice_index_or}
 use Rattle.pf_isa.specs.declared.registers.Reg.{Reg}
 use Rattle.pf_isa.specs.declared.registers.Reg.TheVariants.{V}
 use Rattle.pf_isa.specs.declared.access.Access.{Access}
@@ -37,20 +37,20 @@ name_cost Umin = 1
 
 -- the forms that are instructions
 abbrev pub IsForm : Form → Type 0
-IsForm (Load to j) = j ≤ 7
-IsForm (Store from j) = j ≤ 7
+IsForm (Load to base j) = (base < 8) × (j ≤ 7)
+IsForm (Store from base j) = (base < 8) × (j ≤ 7)
 IsForm (Copy to from) = Unit {0}
 IsForm (Lanewise name lanes to left right) = IsTrue (is_row name lanes)
 
 abbrev pub uses : Form → List Reg
-uses (Load to j) = []
-uses (Store from j) = V from ∷ []
+uses (Load to base j) = []
+uses (Store from base j) = V from ∷ []
 uses (Copy to from) = V from ∷ []
 uses (Lanewise name lanes to left right) = V left ∷ V right ∷ []
 
 abbrev pub defs : Form → List Reg
-defs (Load to j) = V to ∷ []
-defs (Store from j) = []
+defs (Load to base j) = V to ∷ []
+defs (Store from base j) = []
 defs (Copy to from) = V to ∷ []
 defs (Lanewise name lanes to left right) = V to ∷ []
 
@@ -59,25 +59,25 @@ abbrev pub lanewise : Lanes → (ℕ → ℕ → ℕ) → List ℕ → List ℕ 
 lanewise lanes f a b = packed (width lanes) (map2 f (lanes_of (width lanes) (count lanes) a) (lanes_of (width lanes) (count lanes) b))
 
 abbrev pub outcome : Form → List (List ℕ) → List (List ℕ)
-outcome (Load to j) held = []
-outcome (Store from j) held = []
+outcome (Load to base j) held = []
+outcome (Store from base j) held = []
 outcome (Copy to from) held = slice_index_or held 0 [] ∷ []
 outcome (Lanewise name lanes to left right) held = lanewise lanes (lane_function name (width lanes)) (slice_index_or held 0 []) (slice_index_or held 1 []) ∷ []
 
 abbrev pub access : Form → Option Access
-access (Load to j) = Some (record { load = true; vector = to; base = 5; offset = j * 16 })
-access (Store from j) = Some (record { load = false; vector = from; base = 5; offset = j * 16 })
+access (Load to base j) = Some (record { load = true; vector = to; base = base; offset = j * 16 })
+access (Store from base j) = Some (record { load = false; vector = from; base = base; offset = j * 16 })
 access (Copy to from) = None
 access (Lanewise name lanes to left right) = None
 
 abbrev pub cost : Form → ℕ
-cost (Load to j) = 0
-cost (Store from j) = 0
+cost (Load to base j) = 0
+cost (Store from base j) = 0
 cost (Copy to from) = 0
 cost (Lanewise name lanes to left right) = name_cost name
 
 abbrev pub renamed : Form → ℕ → ℕ → Form
-renamed (Load r j) from to = Load (renamed_vector from to r) j
-renamed (Store r j) from to = Store (renamed_vector from to r) j
+renamed (Load r base j) from to = Load (renamed_vector from to r) base j
+renamed (Store r base j) from to = Store (renamed_vector from to r) base j
 renamed (Copy r s) from to = Copy (renamed_vector from to r) (renamed_vector from to s)
 renamed (Lanewise name lanes r s t) from to = Lanewise name lanes (renamed_vector from to r) (renamed_vector from to s) (renamed_vector from to t)

@@ -40,8 +40,8 @@ abbrev pub comma : List ℕ
 comma = codes ", "
 
 abbrev pub text : Form → List ℕ
-text (Load to j) = codes "ldr q" ++ (decimal to ++ (comma ++ place_text 5 (16 * j)))
-text (Store from j) = codes "str q" ++ (decimal from ++ (comma ++ place_text 5 (16 * j)))
+text (Load to base j) = codes "ldr q" ++ (decimal to ++ (comma ++ place_text base (16 * j)))
+text (Store from base j) = codes "str q" ++ (decimal from ++ (comma ++ place_text base (16 * j)))
 text (Copy to from) = codes "mov " ++ (vector_text Bytes to ++ (comma ++ vector_text Bytes from))
 text (Lanewise name lanes to left right) = word name ++ (codes " " ++ (vector_text lanes to ++ (comma ++ (vector_text lanes left ++ (comma ++ vector_text lanes right)))))
 

@@ -1,5 +1,5 @@
 -- The instructions of A64 Advanced SIMD as one table.
-use Rattle.std.specs.Prelude.{false}
+use Rattle.std.specs.Prelude.{[], false}
 use Rattle.pf_ints.specs.declared.target.Target.TheVariants.{Neon}
 use Rattle.pf_isa.specs.Tables.{Table}
 use Rattle.pf_neon.specs.declared.op.Form.{Form}
@@ -20,8 +20,9 @@ table = record {
   cost = cost;
   renamed = renamed;
   fixed = λ n. false;
-  load = λ to j. Load to j;
-  store = λ from j. Store from j;
+  load = λ to j. Load to 5 j;
+  store = λ from j. Store from 5 j;
   text = text;
+  also = λ op. [];
   control_text = control_text;
 }

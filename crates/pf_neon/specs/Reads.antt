@@ -19,15 +19,15 @@ below limit t = then_with (next_number t) (λ n t. if nat_lt n limit then Some (
 abbrev pub lanes_of : ℕ → Option Lanes
 lanes_of n = if n == 16 then Some Bytes else (if n == 8 then Some Halves else (if n == 4 then Some Words else None))
 
--- a vector, the pointer register, an offset
-abbrev pub place_read : List ℕ → Option (ℕ × ℕ)
-place_read t = then_with (below 32 t) (λ n t. then_with (below 8 t) (λ base t. then_with (below 128 t) (λ offset t. Some (n, offset / 16))))
+-- a vector, a general register, an offset
+abbrev pub place_read : List ℕ → Option (ℕ × ℕ × ℕ)
+place_read t = then_with (below 32 t) (λ n t. then_with (below 8 t) (λ base t. then_with (below 128 t) (λ offset t. Some (n, base, offset / 16))))
 
 abbrev pub load_read : List ℕ → Option Form
-load_read t = option_and_then (λ p. Some (Load p.0 p.1)) (place_read t)
+load_read t = option_and_then (λ p. Some (Load p.0 p.1 p.2)) (place_read t)
 
 abbrev pub store_read : List ℕ → Option Form
-store_read t = option_and_then (λ p. Some (Store p.0 p.1)) (place_read t)
+store_read t = option_and_then (λ p. Some (Store p.0 p.1 p.2)) (place_read t)
 
 abbrev pub copy_read : List ℕ → Option Form
 copy_read t = then_with (below 32 t) (λ to t. then_with (next_number t) (λ n t. then_with (below 32 t) (λ from t. Some (Copy to from))))

@@ -14,7 +14,7 @@ use Rattle.pf_isa.specs.declared.control.Control.TheVariants.{LoadPtr, StorePtr,
 use Rattle.pf_isa.specs.Control.{IsControl}
 use Rattle.pf_isa.specs.Files.{IsIn, renamed_register}
 use Rattle.pf_isa.specs.Lines.{tight, IsInstruction}
-use Rattle.pf_isa.specs.Tables.{IsTable, IsOver, IsFile, CanRun, MeansOp, MeansControl, Accesses, renamed_access, vector_count, after}
+use Rattle.pf_isa.specs.Tables.{IsTable, IsOver, IsFile, CanRun, Spells, MeansOp, MeansControl, Accesses, renamed_access, vector_count, after}
 use Rattle.pf_isa.proofs.QuietLaws.{is_quiet, are_quiet, quiet_number, quiet_before, quiet_label, instruction}
 use Rattle.pf_neon.specs.declared.op.Form.{Form}
 use Rattle.pf_neon.specs.declared.op.Form.TheVariants.{Load, Store, Copy, Lanewise}
@@ -26,12 +26,12 @@ use Rattle.pf_neon.specs.Lines.{suffix, vector_text, place_text, offset_text, te
 use Rattle.pf_neon.specs.Neon.{table}
 use Rattle.pf_neon.specs.Reads.{form_read}
 use Rattle.pf_neon.specs.LaneLengths.{length-lanewise}
-use Rattle.pf_neon.specs.FormLaws.{form_back, form_is}
+use Rattle.pf_neon.specs.FormLaws.{form_back, form_is, spelled}
 use Rattle.pf_neon.specs.ControlLaws.{control_back, control_is, offset_most}
 
 sized : (op : Form) (f : RegFile) → IsForm op → CanRun table op f → IsFile table (length f.vectors) (after table op f)
-sized (Load to j) f is c = absurd (let e = c.computes in cc)
-sized (Store from j) f is c = absurd (let e = c.computes in cc)
+sized (Load to base j) f is c = absurd (let e = c.computes in cc)
+sized (Store from base j) f is c = absurd (let e = c.computes in cc)
 sized (Copy to from) f is c =
     record {
       count = length-set f.vectors to _;
@@ -46,43 +46,47 @@ sized (Lanewise name lanes to left right) f is c =
     }
 
 rename_uses : (op : Form) (from to : ℕ) → uses (renamed op from to) ≡ map (λ r. renamed_register from to r) (uses op)
-rename_uses (Load r j) from to = refl
-rename_uses (Store r j) from to = refl
+rename_uses (Load r base j) from to = refl
+rename_uses (Store r base j) from to = refl
 rename_uses (Copy r s) from to = refl
 rename_uses (Lanewise name lanes r s t) from to = refl
 
 rename_defs : (op : Form) (from to : ℕ) → defs (renamed op from to) ≡ map (λ r. renamed_register from to r) (defs op)
-rename_defs (Load r j) from to = refl
-rename_defs (Store r j) from to = refl
+rename_defs (Load r base j) from to = refl
+rename_defs (Store r base j) from to = refl
 rename_defs (Copy r s) from to = refl
 rename_defs (Lanewise name lanes r s t) from to = refl
 
 rename_outcome : (op : Form) (from to : ℕ) (held : List (List ℕ)) → outcome (renamed op from to) held ≡ outcome op held
-rename_outcome (Load r j) from to held = refl
-rename_outcome (Store r j) from to held = refl
+rename_outcome (Load r base j) from to held = refl
+rename_outcome (Store r base j) from to held = refl
 rename_outcome (Copy r s) from to held = refl
 rename_outcome (Lanewise name lanes r s t) from to held = refl
 
 rename_access : (op : Form) (from to : ℕ) → access (renamed op from to) ≡ option_map (λ a. renamed_access from to a) (access op)
-rename_access (Load r j) from to = refl
-rename_access (Store r j) from to = refl
+rename_access (Load r base j) from to = refl
+rename_access (Store r base j) from to = refl
 rename_access (Copy r s) from to = refl
 rename_access (Lanewise name lanes r s t) from to = refl
 
 rename_cost : (op : Form) (from to : ℕ) → cost (renamed op from to) ≡ cost op
-rename_cost (Load r j) from to = refl
-rename_cost (Store r j) from to = refl
+rename_cost (Load r base j) from to = refl
+rename_cost (Store r base j) from to = refl
 rename_cost (Copy r s) from to = refl
 rename_cost (Lanewise name lanes r s t) from to = refl
 
 accesses : (op : Form) → IsForm op → MatchOption (access op) (Unit {0}) (λ a. Accesses (uses op) (defs op) a)
-accesses (Load to j) is = (omega arith, λ l. (0, omega arith, refl), λ l. cc)
-accesses (Store from j) is = (omega arith, λ l. cc, λ l. (0, omega arith, refl))
+accesses (Load to base j) is = (is.0, λ l. (0, omega arith, refl), λ l. cc)
+accesses (Store from base j) is = (is.0, λ l. cc, λ l. (0, omega arith, refl))
 accesses (Copy to from) is = tt
 accesses (Lanewise name lanes to left right) is = tt
 
-one_op : (op other : Form) → IsForm op → IsForm other → IsOver table op → IsOver table other → MeansOp table (text op) other → op ≡ other
-one_op op other is other_is over other_over means = sym (form_is (text op) other op other_is other_over means (form_back op is over))
+-- a spelling is read
+spelling_back : (op : Form) (s : List ℕ) → IsForm op → IsOver table op → Spells table op s → form_read (tight s) ≡ Some op
+spelling_back op s is over spells = rw (spelled op s spells) (form_back op is over)
+
+one_op : (op other : Form) (s : List ℕ) → IsForm op → IsForm other → IsOver table op → IsOver table other → Spells table op s → MeansOp table s other → op ≡ other
+one_op op other s is other_is over other_over spells means = sym (form_is s other op other_is other_over means (spelling_back op s is over spells))
 
 one_control : (c d : Control) → IsControl c → IsControl d → MeansControl table (control_text c) d → c ≡ d
 one_control c d is other_is means = sym (control_is (control_text c) d c other_is means (control_back c is))
@@ -105,9 +109,9 @@ no_form_read (Below label) = refl
 no_form_read (Jump label) = refl
 no_form_read Return = refl
 
-apart : (op : Form) (c : Control) → IsForm op → IsOver table op → IsControl c → MeansControl table (text op) c → ⊥
-apart op c is over control means =
-    let back = form_back op is over in
+apart : (op : Form) (c : Control) (s : List ℕ) → IsForm op → IsOver table op → IsControl c → Spells table op s → MeansControl table s c → ⊥
+apart op c s is over control spells means =
+    let back = spelling_back op s is over spells in
     let here : form_read (tight (control_text c)) ≡ Some op = rw (← means) back in
     let none = no_form_read c in
     cc
@@ -127,21 +131,21 @@ quiet_place : (base offset : ℕ) → base < 2 ^ 32 → offset < 2 ^ 32 → are_
 quiet_place base offset h k = quiet_before base _ (omega arith) (quiet_before offset (codes "]") (omega arith) refl)
 
 quiet_text : (op : Form) → IsForm op → IsOver table op → are_quiet (text op) ≡ true
-quiet_text (Load to j) is over = quiet_before to _ (let h : to < 32 = over.defs 0 (V to) (omega arith) in omega arith) (quiet_place 5 (16 * j) (omega arith) (omega arith))
-quiet_text (Store from j) is over = quiet_before from _ (let h : from < 32 = over.uses 0 (V from) (omega arith) in omega arith) (quiet_place 5 (16 * j) (omega arith) (omega arith))
+quiet_text (Load to base j) is over = quiet_before to _ (let h : to < 32 = over.defs 0 (V to) (omega arith) in omega arith) (quiet_place base (16 * j) (omega arith) (omega arith))
+quiet_text (Store from base j) is over = quiet_before from _ (let h : from < 32 = over.uses 0 (V from) (omega arith) in omega arith) (quiet_place base (16 * j) (omega arith) (omega arith))
 quiet_text (Copy to from) is over = quiet_vector_before Bytes to _ (over.defs 0 (V to) (omega arith)) (quiet_vector Bytes from (over.uses 0 (V from) (omega arith)))
 quiet_text (Lanewise Umin lanes to left right) is over =
     quiet_vector_before lanes to _ (over.defs 0 (V to) (omega arith)) (quiet_vector_before lanes left _ (over.uses 0 (V left) (omega arith)) (quiet_vector lanes right (over.uses 1 (V right) (omega arith))))
 
 some_text : (op : Form) → tight (text op) ≢ []
 unfolding tight
-some_text (Load to j) = λ e. cc
-some_text (Store from j) = λ e. cc
+some_text (Load to base j) = λ e. cc
+some_text (Store from base j) = λ e. cc
 some_text (Copy to from) = λ e. cc
 some_text (Lanewise Umin lanes to left right) = λ e. cc
 
-op_instruction : (op : Form) → IsForm op → IsOver table op → IsInstruction (text op)
-op_instruction op is over = instruction (text op) (quiet_text op is over) (some_text op)
+op_instruction : (op : Form) (s : List ℕ) → IsForm op → IsOver table op → Spells table op s → IsInstruction s
+op_instruction op s is over spells = rw (spelled op s spells) (instruction (text op) (quiet_text op is over) (some_text op))
 
 quiet_register : (n : ℕ) (t : List ℕ) → n < 8 → are_quiet t ≡ true → are_quiet (decimal n ++ t) ≡ true
 quiet_register n t h q = quiet_before n t (omega arith) q
@@ -192,9 +196,16 @@ some_control Return = λ e. cc
 control_instruction : (c : Control) → IsControl c → IsInstruction (control_text c)
 control_instruction c is = instruction (control_text c) (quiet_control c is) (some_control c)
 
+-- there is one result where there is one def
+whole : (op : Form) (held : List (List ℕ)) → IsForm op → access op ≡ None → length held ≡ length (uses op) → length (outcome op held) ≡ length (defs op)
+whole (Load to base j) held is computes many = absurd (cc)
+whole (Store from base j) held is computes many = absurd (cc)
+whole (Copy to from) held is computes many = refl
+whole (Lanewise name lanes to left right) held is computes many = refl
+
 few : (op : Form) → IsForm op → vector_count (uses op) + vector_count (defs op) ≤ 4
-few (Load to j) is = omega arith
-few (Store from j) is = omega arith
+few (Load to base j) is = omega arith
+few (Store from base j) is = omega arith
 few (Copy to from) is = omega arith
 few (Lanewise name lanes to left right) is = omega arith
 
@@ -207,6 +218,7 @@ none_in = All-from_recursion (λ r. IsIn 32 r) [] tt
 pub is_table : IsTable table IsForm
 is_table = record {
   sized = sized;
+  whole = whole;
   few = few;
   some_bytes = omega arith;
   few_bytes = omega arith;

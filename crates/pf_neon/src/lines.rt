@@ -2,7 +2,7 @@ ghost use Rattle.std.specs.Prelude.{◌≡◌, ◌+◌, ◌*◌, ◌≤◌, ◌+
 ghost use Rattle.pf_neon.specs.Lines.{word, suffix, vector_text, general_text, value_text, at_text, place_text, comma, text, offset_text, sum_word, control_text};
 
 use crate::op::{Form, Lanes, Mnemonic};
-use pf_isa::{Control, ShortLine, role};
+use pf_isa::{Control, ShortLine};
 
 fn word(name: Mnemonic) -> &'static [u8]
     ensures value { result.now ≡ word name }
@@ -81,13 +81,13 @@ pub fn form_line(form: Form) -> ShortLine
 {
     let line = ShortLine::new();
     match form {
-        Form::Load { to, j } => {
+        Form::Load { to, base, j } => {
             let line = comma(line.word(b"ldr q").number(to));
-            place(line, role::POINTER, 16 * u32::from(j))
+            place(line, base, 16 * u32::from(j))
         }
-        Form::Store { from, j } => {
+        Form::Store { from, base, j } => {
             let line = comma(line.word(b"str q").number(from));
-            place(line, role::POINTER, 16 * u32::from(j))
+            place(line, base, 16 * u32::from(j))
         }
         Form::Copy { to, from } => {
             let line = comma(vector(line.word(b"mov "), Lanes::Bytes, to));

@@ -10,7 +10,7 @@ use crate::lines::{control_line, form_line};
 use crate::op::{Form, Op};
 use crate::reads;
 use pf_ints::{Memory, Target};
-use pf_isa::{Access, Ctl, Isa, Reg, RegFile, RegList, role};
+use pf_isa::{Access, Ctl, Isa, Reg, RegFile, RegList};
 use std::alloc::Global;
 
 /// The instructions of A64 Advanced SIMD.
@@ -26,12 +26,14 @@ fn renamed_form(form: Form, from: u32, to: u32) -> Form
     ensures { result ≡ renamed form from to }
 {
     match form {
-        Form::Load { to: r, j } => Form::Load {
+        Form::Load { to: r, base, j } => Form::Load {
             to: renamed(from, to, r),
+            base,
             j,
         },
-        Form::Store { from: r, j } => Form::Store {
+        Form::Store { from: r, base, j } => Form::Store {
             from: renamed(from, to, r),
+            base,
             j,
         },
         Form::Copy { to: r, from: s } => Form::Copy {
@@ -140,16 +142,16 @@ impl Isa for Neon {
 
     fn access(op: &Op) -> Option<Access> {
         match op.form {
-            Form::Load { to, j } => Some(Access {
+            Form::Load { to, base, j } => Some(Access {
                 load: true,
                 vector: to,
-                base: role::POINTER,
+                base,
                 offset: 16 * u32::from(j),
             }),
-            Form::Store { from, j } => Some(Access {
+            Form::Store { from, base, j } => Some(Access {
                 load: false,
                 vector: from,
-                base: role::POINTER,
+                base,
                 offset: 16 * u32::from(j),
             }),
             Form::Copy { .. } | Form::Lanewise { .. } => None,

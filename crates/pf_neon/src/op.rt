@@ -1,6 +1,7 @@
-ghost use Rattle.std.specs.Prelude.{◌≡◌, ◌≤◌, IsTrue};
+ghost use Rattle.std.specs.Prelude.{◌≡◌, ◌<◌, ◌≤◌, IsTrue};
 ghost use Rattle.pf_neon.specs.Forms.{IsForm, is_row, name_cost};
 
+use pf_isa::role;
 use std::marker::Model;
 
 /// How a vector is divided into lanes.
@@ -35,14 +36,16 @@ impl Mnemonic {
 /// Vector instructions, by the shape of their operands.
 #[derive(Clone, Copy, Debug, PartialEq, Eq)]
 pub enum Form {
-    /// Loads a vector through the pointer register, at `j` vectors behind it.
+    /// Loads a vector at `j` vectors behind the address in the general register `base`.
     Load {
         to: u32,
+        base: u8,
         j: u8,
     },
-    /// Stores a vector through the pointer register, at `j` vectors behind it.
+    /// Stores a vector at `j` vectors behind the address in the general register `base`.
     Store {
         from: u32,
+        base: u8,
         j: u8,
     },
     /// Copies a vector.
@@ -61,7 +64,7 @@ pub enum Form {
 }
 
 /// A vector instruction of the table: its name goes with its lanes, and a load or store has one of
-/// the places 0 to 7.
+/// the general registers 0 to 7, by their roles, and one of the places 0 to 7.
 #[derive(Clone, Copy, Debug, PartialEq, Eq)]
 pub struct Op {
     pub(crate) form: Form,
@@ -85,18 +88,36 @@ impl Op {
     /// `ldr`: loads the vector `to` at `j` vectors behind the pointer register.
     pub fn load(to: u32, j: u8) -> Op
         requires { j ≤ 7 }
-        ensures { result ≡ Form.Load to j }
+        ensures { result ≡ Form.Load to 5 j }
     {
-        let form = Form::Load { to, j };
+        Op::load_at(to, role::POINTER, j)
+    }
+
+    /// `ldr`: loads the vector `to` at `j` vectors behind the general register of this role.
+    pub fn load_at(to: u32, base: u8, j: u8) -> Op
+        requires base { base < 8 }
+        requires place { j ≤ 7 }
+        ensures { result ≡ Form.Load to base j }
+    {
+        let form = Form::Load { to, base, j };
         Op { form }
     }
 
     /// `str`: stores the vector `from` at `j` vectors behind the pointer register.
     pub fn store(from: u32, j: u8) -> Op
         requires { j ≤ 7 }
-        ensures { result ≡ Form.Store from j }
+        ensures { result ≡ Form.Store from 5 j }
     {
-        let form = Form::Store { from, j };
+        Op::store_at(from, role::POINTER, j)
+    }
+
+    /// `str`: stores the vector `from` at `j` vectors behind the general register of this role.
+    pub fn store_at(from: u32, base: u8, j: u8) -> Op
+        requires base { base < 8 }
+        requires place { j ≤ 7 }
+        ensures { result ≡ Form.Store from base j }
+    {
+        let form = Form::Store { from, base, j };
         Op { form }
     }
 

@@ -38,32 +38,33 @@ fn lanes_of(n: u64) -> Option<Lanes>
     None
 }
 
-/// A vector, the pointer register and an offset of up to 7 vectors.
-fn place(text: &[u8]) -> Option<(u32, u8)>
+/// A vector, a general register and an offset of up to 7 vectors.
+fn place(text: &[u8]) -> Option<(u32, u8, u8)>
     ensures value { result ≡ place_read text.now }
     ensures vector { IfSome result (λ p. p.0 < 32) }
-    ensures place { IfSome result (λ p. p.1 ≤ 7) }
+    ensures base { IfSome result (λ p. p.1 < 8) }
+    ensures place { IfSome result (λ p. p.2 ≤ 7) }
 {
     let (n, rest) = below(32, text)?;
-    let (_, rest) = below(8, rest)?;
+    let (base, rest) = below(8, rest)?;
     let (offset, _) = below(128, rest)?;
-    Some((n, (offset / 16) as u8))
+    Some((n, base as u8, (offset / 16) as u8))
 }
 
 fn load(text: &[u8]) -> Option<Op>
     ensures value { result ≡ load_read text.now }
     ensures over { IfSome result (λ op. IsOver table op) }
 {
-    let (to, j) = place(text)?;
-    Some(Op::load(to, j))
+    let (to, base, j) = place(text)?;
+    Some(Op::load_at(to, base, j))
 }
 
 fn store(text: &[u8]) -> Option<Op>
     ensures value { result ≡ store_read text.now }
     ensures over { IfSome result (λ op. IsOver table op) }
 {
-    let (from, j) = place(text)?;
-    Some(Op::store(from, j))
+    let (from, base, j) = place(text)?;
+    Some(Op::store_at(from, base, j))
 }
 
 fn copy(text: &[u8]) -> Option<Op>

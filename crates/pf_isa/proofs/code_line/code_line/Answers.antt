@@ -2,7 +2,7 @@ use Rattle.std.proofs.Common.{◌≡◌, ◌∙◌, sym, ap, true, not, ◌==◌
 use Rattle.std.specs.List.{list_all}
 use Rattle.pf_isa.specs.Lines.{tight}
 use Rattle.pf_isa.specs.Texts.{uncommented}
-use Rattle.pf_isa.proofs.CodeLineLaws.{no_return, blank_line, label_tight, nothing_said}
+use Rattle.pf_isa.proofs.CodeLineLaws.{no_return, blank_line, label_tight, means_same, nothing_said}
 use Rattle.pf_isa.proofs.code_line.code_line.Goals as goal
 
 pub returns-then-bare-lt1 : goal.returns-then-bare-lt1
@@ -21,7 +21,7 @@ pub returns-in-Some-instruction_of : goal.returns-in-Some-instruction_of
 returns-in-Some-instruction_of g c =
     let plain : list_all (λ b. not (b == 13)) c.args.line.now ≡ true = no_return c.args.line.now (sym c.contains.ensures.value ∙ c.if-contains.false) in
     let same : tight c.trimmed-bare.result.now ≡ tight (uncommented c.args.line.now) = c.trimmed-bare.ensures.same ∙ ap tight c.uncommented.ensures in
-    ((plain, sym same ∙ c.in-Some-instruction_of.ensures.1), c.in-Some-instruction_of.ensures.0)
+    ((plain, means_same g.I.Isa.table c.in-Some-instruction_of.instruction _ _ (sym same) c.in-Some-instruction_of.ensures.1), c.in-Some-instruction_of.ensures.0)
 
 pub returns-in-None : goal.returns-in-None
 returns-in-None g c =

@@ -1,4 +1,4 @@
-use Rattle.std.proofs.Common.{◌≡◌, ◌<◌, None, Some, length, ◌∙◌, sym, ap}
+use Rattle.std.proofs.Common.{◌≡◌, ◌<◌, None, Some, length, ◌∙◌, sym, ap, refl, inl, rules}
 use Rattle.std.proofs.lemmas.Bool.{false≢true}
 use Rattle.pf_isa.specs.Lines.{tight}
 use Rattle.pf_neon.specs.Lines.{text}
@@ -25,3 +25,9 @@ returns-else-is_same c =
     let printed : c.tightened-printed.result ≡ tight (text c.op.inside.form) = c.tightened-printed.ensures ∙ ap tight c.form_line.ensures in
     no_other_form c.args.line.now op c.op.inside.form is over means some
     (λ same. false≢true (c.if-is_same.ensures.1 (printed ∙ (same ∙ sym c.in_ok-tight.ensures))))
+
+pub returns-then-is_same : goal.returns-then-is_same
+returns-then-is_same c =
+    let printed : c.tightened-printed.result ≡ tight (text c.op.inside.form) = c.tightened-printed.ensures ∙ ap tight c.form_line.ensures in
+    let same : tight c.args.line.now ≡ tight (text c.in_ok-op.op) = sym c.in_ok-tight.ensures ∙ sym (c.if-is_same.ensures.0 (search rules)) ∙ printed ∙ ap (λ f. tight (text f)) c.op.view_is in
+    (c.in_ok-op.ensures.over, (text c.in_ok-op.op, inl refl, same))
