@@ -21,8 +21,8 @@ use Rattle.pf_isa.specs.Steps.{State, started}
 use Rattle.pf_isa.specs.Tables.{Table, IsTable, IsFile}
 use Rattle.pf_isa.proofs.ByteLaws.{bytes-number}
 use Rattle.pf_isa.proofs.MemoryLaws.{image_bytes, take-drop-part}
-use Rattle.pf_rows.specs.RowCode.{row_code, row_labels, block_lines, next_lines, tail_lines, last_lines, narrow_lines, back_lines}
-use Rattle.pf_rows.specs.BlockRows.{IsOne, tap_widths, row_text, start_of, pixel_part, AreBlocks, IsGiven, IsBlockRow, IsRowBlock, no_decl}
+use Rattle.pf_rows.specs.BlockRows.{tap_widths, start_of, pixel_part, AreBlocks, IsGiven, IsBlockRow, IsRowBlock, no_decl}
+use Rattle.pf_rows.specs.RowCode.{row_code, row_labels, block_lines, next_lines, tail_lines, last_lines, narrow_lines, back_lines, IsOne, row_text}
 use Rattle.pf_rows.proofs.Cells.{part, length-part, Agree}
 use Rattle.pf_rows.proofs.RowPlaces.{RowPlace, span}
 use Rattle.pf_rows.proofs.Wide.{wide_taps, wide_tap}

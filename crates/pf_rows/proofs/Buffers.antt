@@ -19,9 +19,10 @@ use Rattle.pf_isa.specs.Tables.{Table}
 use Rattle.pf_isa.specs.Steps.{pointer_bytes, place_of}
 use Rattle.pf_isa.proofs.ByteLaws.{packed_below, bytes-number, length-bytes}
 use Rattle.pf_isa.proofs.MemoryLaws.{image_bytes, overwritten, length-overwritten, overwritten-overwritten, take-drop-part, stored-scratch}
-use Rattle.pf_rows.specs.RowCode.{buffer_at, table_bytes, scratch_lines, copy_turn, copy_label, tap_copy}
+use Rattle.pf_rows.specs.Scratch.{buffer_at, table_bytes}
+use Rattle.pf_rows.specs.RowCode.{scratch_lines, copy_turn, copy_label, tap_copy}
 use Rattle.pf_rows.proofs.Paths.{Stands, stands-front, stands-back, now, Comes, comes-on, comes-one}
-use Rattle.pf_rows.proofs.Pointers.{scratch_count, length-scratch_lines, comes-scratch}
+use Rattle.pf_rows.proofs.Pointers.{scratch_count, scratch_cheap, length-scratch_lines, comes-scratch}
 use Rattle.pf_rows.proofs.Cells.{part, length-part}
 use Rattle.pf_rows.proofs.RowPlaces.{RowPlace, span, entry-given, tap-given, some-pointer, most-pointer}
 use Rattle.pf_rows.proofs.Wide.{mem}
@@ -229,8 +230,8 @@ module _ {I O : Type 0} (t : Table O) (code : List (Line I O)) (labels : List La
         pointer_stored t code labels k last_at at.table n at.scratch n at.table loop.pointer loop.value (at.scratch + offset) false f (memo (copied_to n) output) (memo filled output) (omega arith) at_store.0 put in
         let all = comes-on t code labels 1 (c * m + (scratch_count offset + 1)) _ _ _ one' (comes-on t code labels (c * m) (scratch_count offset + 1) _ _ _ loop.comes (comes-on t code labels (scratch_count offset) 1 _ _ _ two three)) in
         let low_buffer = buffer_low t.vector (length widths) k most few (omega arith) in
-        let cheap : scratch_count offset ≡ 2 = omega arith in
-        let to_count : length to_lines ≡ 2 = length-scratch_lines I O 7 offset ∙ cheap in
+        let cheap : scratch_count offset ≤ 2 = scratch_cheap offset low_buffer in
+        let to_count : length to_lines ≡ scratch_count offset = length-scratch_lines I O 7 offset in
         let turn_low : c ≤ 12 = omega arith in
         let product : c * m ≤ 12 * 128 = mul-le c m 12 128 turn_low (omega arith) in
         let last_long : length last_lines ≡ scratch_count offset + 1 = length-append (scratch_lines 7 offset) store_line ∙ ap (λ l. l + 1) (length-scratch_lines I O 7 offset) in

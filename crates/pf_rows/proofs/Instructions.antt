@@ -15,8 +15,9 @@ use Rattle.pf_isa.specs.Control.{is_offset}
 use Rattle.pf_isa.specs.Tables.{Table, IsOver}
 use Rattle.pf_isa.specs.Blocks.{IsWithin}
 use Rattle.pf_isa.specs.Programs.{IsInstructionOf, IsLast}
-use Rattle.pf_rows.specs.RowCode.{begin_lines, pixel_lines, scratch_lines, item_lines, block_lines, next_lines, tail_lines, last_lines, load_value, store_value, copy_turn, copy_label, tap_copy, tap_copies, narrow_lines, back_lines, row_code, row_labels, slot_at, buffer_at}
+use Rattle.pf_rows.specs.Scratch.{slot_at, buffer_at}
 use Rattle.pf_rows.specs.BlockRows.{IsStep}
+use Rattle.pf_rows.specs.RowCode.{begin_lines, pixel_lines, last_pages, scratch_lines, item_lines, block_lines, next_lines, tail_lines, last_lines, load_value, store_value, copy_turn, copy_label, tap_copy, tap_copies, narrow_lines, back_lines, row_code, row_labels}
 use Rattle.pf_rows.proofs.LabelLaws.{block_named, tail_named, last_named, narrow_named, back_named, loop_named, copy_named, block_there, tail_there, to_last_there, narrow_there, back_there, loop_there, copy_there}
 
 -- numbers that may be added
@@ -73,14 +74,18 @@ module _ (I O : Type 0) (t : Table O) (labels : List Label) where
   pixels_are r zero low = All-nil P
   pixels_are r (suc width) low = All-cons P (Controls (AddReg r r 3)) (pixel_lines r width) (sum_is r r 3 low low (omega arith)) (pixels_are r width low)
 
+  last_pages_are : (r pages : ℕ) → r < 8 → pages ≤ 4095 → All P (last_pages r pages)
+  last_pages_are r zero low few = All-nil P
+  last_pages_are r (suc pages) low few = one (Controls (AddImm r r false (4096 * suc pages))) (add_is r r (4096 * suc pages) low low (offset_pages (suc pages) few))
+
   scratch_is : (r offset : ℕ) → r < 8 → All P (scratch_lines r offset)
   scratch_is r offset low =
       let pages = offset / 4096 in
       let step : Line I O = Controls (AddImm r r false 16773120) in
-      let last : Line I O = Controls (AddImm r r false (4096 * (pages % 4095))) in
+      let last : List (Line I O) = last_pages r (pages % 4095) in
       let front : List (Line I O) = replicate (pages / 4095) step in
-      All-cons P (Controls (AddImm r 2 false (offset % 4096))) (front ++ last ∷ []) (add_is r 2 (offset % 4096) low (omega arith) (offset_low (offset % 4096) (omega arith)))
-      (All-append P front (last ∷ []) (All-replicate P (pages / 4095) step (add_is r r 16773120 low low refl)) (one last (add_is r r (4096 * (pages % 4095)) low low (offset_pages (pages % 4095) (omega arith)))))
+      All-cons P (Controls (AddImm r 2 false (offset % 4096))) (front ++ last) (add_is r 2 (offset % 4096) low (omega arith) (offset_low (offset % 4096) (omega arith)))
+      (All-append P front last (All-replicate P (pages / 4095) step (add_is r r 16773120 low low refl)) (last_pages_are r (pages % 4095) low (omega arith)))
 
   load_value_is : (width : ℕ) → P (load_value width)
   load_value_is zero = ((omega arith, omega arith), tt)

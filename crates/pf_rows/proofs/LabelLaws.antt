@@ -16,7 +16,8 @@ use Rattle.pf_isa.specs.declared.block.Item.{Item}
 use Rattle.pf_isa.specs.Tables.{Table}
 use Rattle.pf_isa.specs.Programs.{IsLabel}
 use Rattle.pf_rows.proofs.Parts.{bytes_eq-same, copy_label-other}
-use Rattle.pf_rows.specs.RowCode.{block_lines, next_lines, tail_lines, last_lines, narrow_lines, back_lines, row_code, row_labels, copy_labels, copy_label, tap_copy, tap_copies, label, next_at, narrow_at, back_at, scratch_lines, buffer_at}
+use Rattle.pf_rows.specs.Scratch.{buffer_at}
+use Rattle.pf_rows.specs.RowCode.{block_lines, next_lines, tail_lines, last_lines, narrow_lines, back_lines, row_code, row_labels, copy_labels, copy_label, tap_copy, tap_copies, label, next_at, narrow_at, back_at, scratch_lines}
 
 pub block_named : is_name (codes "block") ≡ true
 unfolding is_name is_reserved

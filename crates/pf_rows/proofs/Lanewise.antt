@@ -19,7 +19,8 @@ use Rattle.pf_isa.specs.RowEnds.{RowDone, row_values, row_in_memory}
 use Rattle.pf_isa.specs.Tables.{Table, IsTable}
 use Rattle.pf_isa.proofs.ByteLaws.{bytes_below, lane_at}
 use Rattle.pf_isa.proofs.RowLaws.{leaves, length-row_in_memory, length-row_values}
-use Rattle.pf_rows.specs.BlockRows.{IsOne, tap_widths, row_text, start_of, pixel_part, tap_pixel, IsBlockRow, IsLanewise, IsRowBlock, RunsBlock, LeavesLanes, no_decl}
+use Rattle.pf_rows.specs.BlockRows.{tap_widths, start_of, pixel_part, tap_pixel, IsBlockRow, IsLanewise, IsRowBlock, RunsBlock, LeavesLanes, no_decl}
+use Rattle.pf_rows.specs.RowCode.{IsOne, row_text}
 use Rattle.pf_rows.proofs.Cells.{part, length-part, Cells, cells_of, cells-of, cells-joined, length-cells_of, get_or-cells_of}
 use Rattle.pf_rows.proofs.RowPlaces.{span}
 use Rattle.pf_rows.proofs.BlockRowLaws.{block_row, started_file}

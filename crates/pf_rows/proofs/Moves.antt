@@ -11,8 +11,9 @@ use Rattle.pf_isa.specs.declared.block.Item.TheVariants.{Vector as Operation, Ta
 use Rattle.pf_isa.specs.Tables.{Table, IsTable}
 use Rattle.pf_isa.specs.Blocks.{IsWithin}
 use Rattle.pf_isa.specs.Moved.{Moved, WritesOnly, OfControl, MovesPixel, MovesTable, MovesEnd, MovesPointer, MovesValue, StoresValue, Compares, StoresPointer, AccessesPointer}
-use Rattle.pf_rows.specs.RowCode.{pixel_lines, page_lines, scratch_lines, item_lines, block_lines, next_lines, tail_lines, last_lines, load_value, store_value, copy_turn, copy_label, tap_copy, tap_copies, narrow_lines, back_lines, row_code, row_labels, slot_at, buffer_at, label, copy_labels, next_at, narrow_at, back_at}
+use Rattle.pf_rows.specs.Scratch.{slot_at, buffer_at}
 use Rattle.pf_rows.specs.BlockRows.{IsStep}
+use Rattle.pf_rows.specs.RowCode.{pixel_lines, last_pages, page_lines, scratch_lines, item_lines, block_lines, next_lines, tail_lines, last_lines, load_value, store_value, copy_turn, copy_label, tap_copy, tap_copies, narrow_lines, back_lines, row_code, row_labels, label, copy_labels, next_at, narrow_at, back_at}
 
 -- what holds of each line behind the first
 abbrev pub Moves : {I O : Type 0} → Table O → ℕ → Line I O → Type 0
@@ -41,17 +42,23 @@ module _ (I O : Type 0) (t : Table O) (taps : ℕ) where
   pixel_moves_end zero = All-nil M
   pixel_moves_end (suc width) = All-cons M (Controls (AddReg 7 7 3)) (pixel_lines 7 width) (search rules) (pixel_moves_end width)
 
+  last_pages_move : (pages : ℕ) → All M (last_pages 5 pages)
+  last_pages_move zero = All-nil M
+  last_pages_move (suc pages) = All-from_recursion M (last_pages 5 (suc pages)) (search rules)
+
+  last_pages_move_end : (pages : ℕ) → All M (last_pages 7 pages)
+  last_pages_move_end zero = All-nil M
+  last_pages_move_end (suc pages) = All-from_recursion M (last_pages 7 (suc pages)) (search rules)
+
   page_moves : (pages : ℕ) → All M (page_lines 5 pages)
   page_moves pages =
       let step : Line I O = Controls (AddImm 5 5 false 16773120) in
-      let last : Line I O = Controls (AddImm 5 5 false (4096 * (pages % 4095))) in
-      All-append M (replicate (pages / 4095) step) (last ∷ []) (All-replicate M (pages / 4095) step (search rules)) (All-cons M last [] (search rules) (All-nil M))
+      All-append M (replicate (pages / 4095) step) (last_pages 5 (pages % 4095)) (All-replicate M (pages / 4095) step (search rules)) (last_pages_move (pages % 4095))
 
   page_moves_end : (pages : ℕ) → All M (page_lines 7 pages)
   page_moves_end pages =
       let step : Line I O = Controls (AddImm 7 7 false 16773120) in
-      let last : Line I O = Controls (AddImm 7 7 false (4096 * (pages % 4095))) in
-      All-append M (replicate (pages / 4095) step) (last ∷ []) (All-replicate M (pages / 4095) step (search rules)) (All-cons M last [] (search rules) (All-nil M))
+      All-append M (replicate (pages / 4095) step) (last_pages 7 (pages % 4095)) (All-replicate M (pages / 4095) step (search rules)) (last_pages_move_end (pages % 4095))
 
   scratch_moves : (offset : ℕ) → All M (scratch_lines 5 offset)
   scratch_moves offset = All-cons M (Controls (AddImm 5 2 false (offset % 4096))) (page_lines 5 (offset / 4096)) (search rules) (page_moves (offset / 4096))

@@ -17,7 +17,7 @@ use Rattle.pf_isa.specs.Runs.{Places}
 use Rattle.pf_isa.specs.Tables.{Table}
 use Rattle.pf_isa.proofs.MemoryLaws.{overwritten, length-overwritten, take-drop-part, loaded-scratch, stored-scratch}
 use Rattle.pf_isa.proofs.StepLaws.{wrapped_small}
-use Rattle.pf_rows.specs.RowCode.{slot_at, buffer_at}
+use Rattle.pf_rows.specs.Scratch.{slot_at, buffer_at}
 use Rattle.pf_rows.proofs.Cells.{part, length-part, Agree, agree-trans, agree-before, agree-behind, Cells, cells-agree, cells-set}
 use Rattle.pf_rows.proofs.Steps.{Desk}
 use Rattle.pf_rows.proofs.RowPlaces.{RowPlace, span, number-pointer, some-pointer, most-pointer, slots-agree, slot-given, slot-stored}

@@ -22,10 +22,11 @@ use Rattle.pf_isa.specs.Tables.{Table, IsTable, IsFile}
 use Rattle.pf_isa.specs.Blocks.{Bench, items_run, IsWithin}
 use Rattle.pf_isa.proofs.ByteLaws.{lane_at, get_or-lanes, length-lanes, length-packed, length-bytes}
 use Rattle.pf_isa.proofs.MemoryLaws.{image_bytes, overwritten, length-overwritten, overwritten-overwritten, take-drop-part, loaded-scratch}
-use Rattle.pf_rows.specs.RowCode.{buffer_at, block_lines, next_at, narrow_at, back_at, scratch_lines, copy_turn}
-use Rattle.pf_rows.specs.BlockRows.{IsOne, IsStep, StoresEach, start_of}
+use Rattle.pf_rows.specs.Scratch.{buffer_at}
+use Rattle.pf_rows.specs.BlockRows.{IsStep, StoresEach, start_of}
+use Rattle.pf_rows.specs.RowCode.{block_lines, next_at, narrow_at, back_at, scratch_lines, copy_turn, IsOne}
 use Rattle.pf_rows.proofs.Paths.{Stands, stands-front, stands-back, now, Comes, comes-on, comes-one}
-use Rattle.pf_rows.proofs.Pointers.{scratch_count, length-scratch_lines, comes-scratch}
+use Rattle.pf_rows.proofs.Pointers.{scratch_count, scratch_cheap, length-scratch_lines, comes-scratch}
 use Rattle.pf_rows.proofs.Cells.{part, length-part, part-within, Agree, agree-same, agree-before, agree-behind, cells-none, cells-joined, cells_of, length-cells_of}
 use Rattle.pf_rows.proofs.Steps.{block_takes}
 use Rattle.pf_rows.proofs.RowPlaces.{RowPlace, span, entry-given, row-stored}
@@ -203,8 +204,8 @@ module _ {I O : Type 0} (t : Table O) (is_op : O → Type 0) (laws : IsTable t i
       let whole : take (width * n) bytes_row ≡ bytes_row = take_all (width * n) bytes_row (omega arith) in
       let over = returns t code labels widths width block laid (a + 1 + c) (at.scratch ∷ n ∷ at.scratch ∷ n ∷ at.table ∷ loop.pointer ∷ loop.value ∷ loop.end ∷ []) false f (memo scratch left) at_end.0 in
       let low_buffer = buffer_low t.vector (length widths) (length widths) most few (omega arith) in
-      let cheap : scratch_count buffer ≡ 2 = omega arith in
-      let from_count : length from ≡ 2 = length-scratch_lines I O 5 buffer ∙ cheap in
+      let cheap : scratch_count buffer ≤ 2 = scratch_cheap buffer low_buffer in
+      let from_count : length from ≡ scratch_count buffer = length-scratch_lines I O 5 buffer in
       let turn_low : c ≤ 12 = omega arith in
       let product : c * m ≤ 12 * 128 = mul-le c m 12 128 turn_low (omega arith) in
       let fits = placed.inside_out in

@@ -24,7 +24,7 @@ use Rattle.pf_isa.specs.Runs.{Places, IsPlaced, pixel_bytes, columns, rows, tap_
 use Rattle.pf_isa.proofs.MemoryLaws.{image_bytes, memory-image, memory-output, output_place, length-memory, length-image_regions}
 use Rattle.pf_isa.proofs.RowLaws.{row_apart, row_low, length-row_entries, placed_kept, output_in_rows}
 use Rattle.pf_isa.proofs.ByteLaws.{length-packed, lane_at}
-use Rattle.pf_rows.specs.RowCode.{scratch_bytes}
+use Rattle.pf_rows.specs.Scratch.{scratch_bytes}
 use Rattle.pf_rows.specs.BlockRows.{no_decl, tap_widths, tap_pixel}
 use Rattle.pf_rows.proofs.Cells.{part}
 use Rattle.pf_rows.proofs.Taps.{columns_at, columns_fit, rows_fit}

@@ -1,5 +1,5 @@
 -- Registers that become addresses.
-use Rattle.std.proofs.Common.{◌≡◌, ◌≢◌, ℕ, zero, suc, ◌+◌, ◌*◌, ◌/◌, ◌%◌, ◌^◌, ◌<◌, List, [], ◌∷◌, length, set, get_or, Bool, false, Some, refl, arith, ap, sym, subst, ◌∙◌, length-append}
+use Rattle.std.proofs.Common.{◌≡◌, ◌≢◌, ℕ, zero, suc, ◌+◌, ◌*◌, ◌/◌, ◌%◌, ◌^◌, ◌<◌, ◌≤◌, List, [], ◌∷◌, length, set, get_or, Bool, false, Some, refl, arith, ap, sym, subst, ◌∙◌, length-append}
 use Rattle.std.specs.Prelude.{slice_get, replicate}
 use Rattle.std.proofs.lemmas.List.{set-set, set-get_or, get_or-set_same, get_or-set_other, length-set, length-replicate}
 use Rattle.pf_isa.specs.declared.registers.RegFile.{RegFile}
@@ -11,7 +11,7 @@ use Rattle.pf_isa.specs.declared.code.Label.{Label}
 use Rattle.pf_isa.specs.Tables.{Table}
 use Rattle.pf_isa.specs.Steps.{wrapped}
 use Rattle.pf_isa.proofs.StepLaws.{wrapped_small}
-use Rattle.pf_rows.specs.RowCode.{pixel_lines, scratch_lines}
+use Rattle.pf_rows.specs.RowCode.{pixel_lines, last_pages, scratch_lines}
 use Rattle.pf_rows.proofs.Paths.{Stands, stands-front, stands-back, now, Comes, comes-none, comes-on, comes-one}
 
 pub length-pixel_lines : (I O : Type 0) (r width : ℕ) → length (pixel_lines {I = I} {O = O} r width) ≡ width
@@ -19,11 +19,29 @@ length-pixel_lines I O r zero = refl
 length-pixel_lines I O r (suc width) = ap suc (length-pixel_lines I O r width)
 
 -- instructions of an address in the scratch
+abbrev pub last_count : ℕ → ℕ
+last_count zero = 0
+last_count (suc pages) = 1
+
 abbrev pub scratch_count : ℕ → ℕ
-scratch_count offset = 2 + offset / 4096 / 4095
+scratch_count offset = 1 + (offset / 4096 / 4095 + last_count (offset / 4096 % 4095))
+
+length-last_pages : (I O : Type 0) (r pages : ℕ) → length (last_pages {I = I} {O = O} r pages) ≡ last_count pages
+length-last_pages I O r zero = refl
+length-last_pages I O r (suc pages) = refl
 
 pub length-scratch_lines : (I O : Type 0) (r offset : ℕ) → length (scratch_lines {I = I} {O = O} r offset) ≡ scratch_count offset
-length-scratch_lines I O r offset = simp (length-append, length-replicate) (omega arith)
+length-scratch_lines I O r offset =
+    let last = length-last_pages I O r (offset / 4096 % 4095) in
+    simp (length-append, length-replicate) (omega arith)
+
+at_most_one : (pages : ℕ) → last_count pages ≤ 1
+at_most_one zero = omega arith
+at_most_one (suc pages) = omega arith
+
+-- near the scratch's beginning they are few
+pub scratch_cheap : (offset : ℕ) → offset ≤ 17024 → scratch_count offset ≤ 2
+scratch_cheap offset low = let one = at_most_one (offset / 4096 % 4095) in omega arith
 
 module _ {I O : Type 0} (t : Table O) (code : List (Line I O)) (labels : List Label) where
   -- a number is added to the register
@@ -77,6 +95,15 @@ module _ {I O : Type 0} (t : Table O) (code : List (Line I O)) (labels : List La
       (subst (λ m. Comes t code labels (1 + count) (now a g flag f rs) (now m (set g r (base + by * suc count)) flag f rs)) place
       (subst (λ l. Comes t code labels (1 + count) (now a g flag f rs) (now (a + 1 + count) l flag f rs)) same both))
 
+  comes-last : (pages a r base : ℕ) (g : List ℕ) (flag : Bool) (f : RegFile) (rs : List Region) → Stands code a (last_pages r pages) → get_or g r 0 ≡ base → base + 4096 * pages < 2 ^ 32
+      → Comes t code labels (last_count pages) (now a g flag f rs) (now (a + last_count pages) (set g r (base + 4096 * pages)) flag f rs)
+  comes-last zero a r base g flag f rs there held small =
+      let here : a + 0 ≡ a = omega arith in
+      let sum : base + 4096 * 0 ≡ base = omega arith in
+      let same : set g r base ≡ g = ap (λ b. set g r b) (sym held) ∙ set-get_or g r 0 in
+      rw (here, sum, same) (comes-none t code labels (now a g flag f rs))
+  comes-last (suc pages) a r base g flag f rs there held small = adds a r (4096 * suc pages) base g flag f rs there.0 held small
+
   -- the register becomes the address of a byte of the scratch
   pub comes-scratch : (a r scratch offset : ℕ) (g : List ℕ) (flag : Bool) (f : RegFile) (rs : List Region) → Stands code a (scratch_lines r offset) → r < length g → get_or g 2 0 ≡ scratch → scratch + offset < 2 ^ 32
       → Comes t code labels (scratch_count offset) (now a g flag f rs) (now (a + scratch_count offset) (set g r (scratch + offset)) flag f rs)
@@ -87,7 +114,7 @@ module _ {I O : Type 0} (t : Table O) (code : List (Line I O)) (labels : List La
       let left = pages % 4095 in
       let first_line : Line I O = Controls (AddImm r 2 false low) in
       let front : List (Line I O) = replicate many (Controls (AddImm r r false 16773120)) in
-      let last : List (Line I O) = Controls (AddImm r r false (4096 * left)) ∷ [] in
+      let last : List (Line I O) = last_pages r left in
       let split : offset ≡ low + (16773120 * many + 4096 * left) = omega arith in
       let sum : wrapped t.target (get_or g 2 0 + low) ≡ scratch + low = ap (λ b. wrapped t.target (b + low)) held ∙ wrapped_small t.target (scratch + low) (omega arith) in
       let g' = set g r (scratch + low) in
@@ -98,13 +125,12 @@ module _ {I O : Type 0} (t : Table O) (code : List (Line I O)) (labels : List La
       let two = comes-replicate many (a + 1) r 16773120 (scratch + low) g' flag f rs (stands-front code (a + 1) front last there.1) inside' (get_or-set_same g r (scratch + low) 0 inside) (omega arith) in
       let at_last : Stands code (a + 1 + length front) last = stands-back code (a + 1) front last there.1 in
       let at_last' : Stands code (a + 1 + many) last = subst (λ m. Stands code (a + 1 + m) last) (length-replicate many (Controls (AddImm r r false 16773120))) at_last in
-      let three = adds (a + 1 + many) r (4096 * left) (scratch + low + 16773120 * many) g'' flag f rs at_last'.0 (get_or-set_same g' r (scratch + low + 16773120 * many) 0 inside') (omega arith) in
-      let all = comes-on t code labels 1 (many + 1) _ _ _ one (comes-on t code labels many 1 _ _ _ two three) in
-      let steps : 1 + (many + 1) ≡ scratch_count offset = omega arith in
-      let place : a + 1 + many + 1 ≡ a + scratch_count offset = omega arith in
+      let end = last_count left in
+      let three = comes-last left (a + 1 + many) r (scratch + low + 16773120 * many) g'' flag f rs at_last' (get_or-set_same g' r (scratch + low + 16773120 * many) 0 inside') (omega arith) in
+      let all = comes-on t code labels 1 (many + end) _ _ _ one (comes-on t code labels many end _ _ _ two three) in
+      let place : a + 1 + many + end ≡ a + scratch_count offset = omega arith in
       let whole : scratch + low + 16773120 * many + 4096 * left ≡ scratch + offset = omega arith in
       let same : set g'' r (scratch + low + 16773120 * many + 4096 * left) ≡ set g r (scratch + offset) =
       set-set g' r (scratch + low + 16773120 * many) (scratch + low + 16773120 * many + 4096 * left) ∙ set-set g r (scratch + low) (scratch + low + 16773120 * many + 4096 * left) ∙ ap (λ b. set g r b) whole in
-      subst (λ c. Comes t code labels c (now a g flag f rs) (now (a + scratch_count offset) (set g r (scratch + offset)) flag f rs)) steps
-      (subst (λ m. Comes t code labels (1 + (many + 1)) (now a g flag f rs) (now m (set g r (scratch + offset)) flag f rs)) place
-      (subst (λ l. Comes t code labels (1 + (many + 1)) (now a g flag f rs) (now (a + 1 + many + 1) l flag f rs)) same all))
+      subst (λ m. Comes t code labels (scratch_count offset) (now a g flag f rs) (now m (set g r (scratch + offset)) flag f rs)) place
+      (subst (λ l. Comes t code labels (scratch_count offset) (now a g flag f rs) (now (a + 1 + many + end) l flag f rs)) same all)

@@ -19,9 +19,10 @@ use Rattle.pf_isa.specs.Steps.{wrapped, pointer_bytes, place_of}
 use Rattle.pf_isa.proofs.ByteLaws.{length-bytes}
 use Rattle.pf_isa.proofs.MemoryLaws.{image_bytes, overwritten, length-overwritten, stored-scratch}
 use Rattle.pf_isa.proofs.StepLaws.{wrapped_small}
-use Rattle.pf_rows.specs.RowCode.{buffer_at, scratch_lines, tap_copy, tap_copies, narrow_lines}
+use Rattle.pf_rows.specs.Scratch.{buffer_at}
+use Rattle.pf_rows.specs.RowCode.{scratch_lines, tap_copy, tap_copies, narrow_lines}
 use Rattle.pf_rows.proofs.Paths.{Stands, stands-front, stands-back, now, Comes, comes-none, comes-on, comes-one}
-use Rattle.pf_rows.proofs.Pointers.{scratch_count, length-scratch_lines, comes-scratch}
+use Rattle.pf_rows.proofs.Pointers.{scratch_count, scratch_cheap, length-scratch_lines, comes-scratch}
 use Rattle.pf_rows.proofs.Cells.{part, length-part, part-before, part-behind, part-within}
 use Rattle.pf_rows.proofs.RowPlaces.{RowPlace, span, some-pointer, most-pointer}
 use Rattle.pf_rows.proofs.Wide.{mem}
@@ -246,7 +247,7 @@ module _ {I O : Type 0} (t : Table O) (code : List (Line I O)) (labels : List La
       let four = over_scratch (b + many + 1) at.table n at.scratch copies.x' at.table copies.p' copies.v' (at.scratch + offset) copies.flag' f (memo after output) at_end.1 base to_block in
       let all = comes-on t code labels copies.count (many + (1 + 3)) _ _ _ copies.comes (comes-on t code labels many (1 + 3) _ _ _ two (comes-on t code labels 1 3 _ _ _ three four)) in
       let low_buffer = buffer_low t.vector taps taps most few (omega arith) in
-      let cheap : many ≡ 2 = omega arith in
+      let cheap : many ≤ 2 = scratch_cheap offset low_buffer in
       let count_low = copies.count_low in
       let filled = copies.filled in
       record {

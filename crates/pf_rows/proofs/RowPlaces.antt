@@ -16,7 +16,7 @@ use Rattle.pf_isa.specs.Runs.{Places, memory}
 use Rattle.pf_isa.proofs.ByteLaws.{entry_at, length-packed, number-bytes, take-bytes}
 use Rattle.pf_isa.proofs.MemoryLaws.{image_bytes, overwritten, length-overwritten, loaded-table, loaded-image, loaded-scratch, stored-scratch, stored-output}
 use Rattle.pf_isa.proofs.StepLaws.{wrapped_small}
-use Rattle.pf_rows.specs.RowCode.{buffer_at, slot_at, scratch_bytes}
+use Rattle.pf_rows.specs.Scratch.{buffer_at, slot_at, scratch_bytes}
 use Rattle.pf_rows.proofs.Cells.{part, Agree, Cells, cells-agree, cells-set}
 
 -- A row of n pixels: its table, where its taps lie in their images, its place in the output, and the scratch.

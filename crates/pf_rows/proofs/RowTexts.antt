@@ -15,8 +15,9 @@ use Rattle.pf_isa.specs.Moved.{Moved, Work}
 use Rattle.pf_isa.specs.Programs.{IsProgram, Text}
 use Rattle.pf_isa.specs.Runs.{pixel_bytes}
 use Rattle.pf_isa.specs.Tables.{Table, IsTable}
-use Rattle.pf_rows.specs.RowCode.{begin_lines, block_lines, next_lines, tail_lines, last_lines, narrow_lines, row_code, row_labels, copy_labels, label, next_at, back_at, slot_at}
-use Rattle.pf_rows.specs.BlockRows.{no_decl, tap_widths, row_text, IsRowBlock, block_cost, IsNear, IsPixel}
+use Rattle.pf_rows.specs.Scratch.{slot_at}
+use Rattle.pf_rows.specs.BlockRows.{no_decl, tap_widths, IsRowBlock, block_cost}
+use Rattle.pf_rows.specs.RowCode.{begin_lines, block_lines, next_lines, tail_lines, last_lines, narrow_lines, row_code, row_labels, copy_labels, label, next_at, back_at, row_text, IsNear, IsPixel}
 use Rattle.pf_rows.proofs.RowPlaces.{span}
 use Rattle.pf_rows.proofs.Placed.{pixel_one_or_two}
 use Rattle.pf_rows.proofs.Moves.{row_moved}

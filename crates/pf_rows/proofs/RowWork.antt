@@ -11,8 +11,9 @@ use Rattle.pf_isa.specs.declared.block.Item.{Item}
 use Rattle.pf_isa.specs.declared.block.Item.TheVariants.{Vector as Operation, TapLoad, OutStore, SlotLoad, SlotStore}
 use Rattle.pf_isa.specs.Tables.{Table, IsTable}
 use Rattle.pf_isa.specs.Moved.{Work, line_cost}
-use Rattle.pf_rows.specs.RowCode.{begin_lines, pixel_lines, scratch_lines, item_lines, block_lines, next_lines, tail_lines, last_lines, load_value, store_value, copy_turn, copy_label, tap_copy, tap_copies, narrow_lines, back_lines, row_code, slot_at, buffer_at}
+use Rattle.pf_rows.specs.Scratch.{slot_at, buffer_at}
 use Rattle.pf_rows.specs.BlockRows.{IsStep, item_cost, block_cost}
+use Rattle.pf_rows.specs.RowCode.{begin_lines, pixel_lines, last_pages, scratch_lines, item_lines, block_lines, next_lines, tail_lines, last_lines, load_value, store_value, copy_turn, copy_label, tap_copy, tap_copies, narrow_lines, back_lines, row_code}
 
 module _ (I O : Type 0) (t : Table O) where
   abbrev W : List (Line I O) → ℕ
@@ -31,11 +32,16 @@ module _ (I O : Type 0) (t : Table O) where
   work_pages r by zero = refl
   work_pages r by (suc count) = let rest = work_pages r by count in omega arith
 
+  work_last : (r pages : ℕ) → W (last_pages r pages) ≡ 0
+  work_last r zero = refl
+  work_last r (suc pages) = refl
+
   work_scratch : (r offset : ℕ) → W (scratch_lines r offset) ≡ 0
   work_scratch r offset =
       let pages = offset / 4096 in
       let front : List (Line I O) = replicate (pages / 4095) (Controls (AddImm r r false 16773120)) in
-      let last : List (Line I O) = Controls (AddImm r r false (4096 * (pages % 4095))) ∷ [] in
+      let last : List (Line I O) = last_pages r (pages % 4095) in
+      let free = work_last r (pages % 4095) in
       let both = work-append front last in
       let none = work_pages r 16773120 (pages / 4095) in
       omega arith

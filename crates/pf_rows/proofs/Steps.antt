@@ -20,8 +20,9 @@ use Rattle.pf_isa.specs.Tables.{Table, IsTable, IsFile, CanRun, after}
 use Rattle.pf_isa.specs.Blocks.{Bench, item_step, items_run, IsWithin}
 use Rattle.pf_isa.specs.Steps.{State, wrapped, pointer_bytes}
 use Rattle.pf_isa.proofs.StepLaws.{wrapped_small}
-use Rattle.pf_rows.specs.RowCode.{pixel_lines, scratch_lines, item_lines, block_lines, slot_at}
-use Rattle.pf_rows.specs.BlockRows.{IsStep, IsOne, stores_part}
+use Rattle.pf_rows.specs.Scratch.{slot_at}
+use Rattle.pf_rows.specs.BlockRows.{IsStep, stores_part}
+use Rattle.pf_rows.specs.RowCode.{pixel_lines, scratch_lines, item_lines, block_lines, IsOne}
 use Rattle.pf_rows.proofs.Paths.{Stands, stands-front, stands-back, now, Comes, comes-none, comes-on, comes-one}
 use Rattle.pf_rows.proofs.Pointers.{length-pixel_lines, scratch_count, length-scratch_lines, comes-pixels, comes-scratch}
 

@@ -12,7 +12,7 @@ use Rattle.pf_isa.specs.Memory.{loaded, stored}
 use Rattle.pf_isa.specs.Runs.{Places}
 use Rattle.pf_isa.specs.Tables.{Table}
 use Rattle.pf_isa.proofs.MemoryLaws.{image_bytes, overwritten, length-overwritten, take-drop-part}
-use Rattle.pf_rows.specs.RowCode.{slot_at}
+use Rattle.pf_rows.specs.Scratch.{slot_at}
 use Rattle.pf_rows.proofs.Cells.{part, length-part, Agree, agree-trans, agree-before, agree-behind, Cells, cells-set}
 use Rattle.pf_rows.proofs.Steps.{Desk}
 use Rattle.pf_rows.proofs.RowPlaces.{RowPlace, span, holding, entry-given, tap-given, row-stored, Slots, slot-given, slot-stored}

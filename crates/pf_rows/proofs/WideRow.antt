@@ -18,8 +18,9 @@ use Rattle.pf_isa.proofs.StepLaws.{run_longer}
 use Rattle.pf_isa.specs.Tables.{Table, IsTable, IsFile}
 use Rattle.pf_isa.specs.Blocks.{Bench, items_run, IsWithin}
 use Rattle.pf_isa.proofs.MemoryLaws.{take-drop-part}
-use Rattle.pf_rows.specs.RowCode.{buffer_at, block_lines, next_at}
-use Rattle.pf_rows.specs.BlockRows.{IsOne, IsStep, StoresEach, start_of}
+use Rattle.pf_rows.specs.Scratch.{buffer_at}
+use Rattle.pf_rows.specs.BlockRows.{IsStep, StoresEach, start_of}
+use Rattle.pf_rows.specs.RowCode.{block_lines, next_at, IsOne}
 use Rattle.pf_rows.proofs.Paths.{now, Comes, comes-on}
 use Rattle.pf_rows.proofs.Cells.{part, length-part, Agree, agree-trans, agree-same, agree-within, cells-none, cells-joined, cells_of, length-cells_of, get_or-cells_of, cells-of}
 use Rattle.pf_rows.proofs.Steps.{block_takes}

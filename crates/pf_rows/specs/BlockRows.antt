@@ -19,7 +19,7 @@ use Rattle.pf_isa.specs.Programs.{Text}
 use Rattle.pf_isa.specs.Runs.{Places, IsPlaced, Leaves, pixel_bytes, columns, rows}
 use Rattle.pf_isa.specs.RowEnds.{row_size, RowDone}
 use Rattle.pf_isa.specs.Tables.{Table, IsFile}
-use Rattle.pf_rows.specs.RowCode.{row_code, row_labels, scratch_bytes, slot_at, buffer_at}
+use Rattle.pf_rows.specs.Scratch.{scratch_bytes}
 
 abbrev pub no_decl : ImageDecl
 no_decl = record { name = []; ty = no_picture.ty; lo = 0; hi = 0 }
@@ -27,14 +27,6 @@ no_decl = record { name = []; ty = no_picture.ty; lo = 0; hi = 0 }
 -- the bytes of a pixel of each tap
 abbrev pub tap_widths : Head → List ℕ
 tap_widths h = map (λ t. pixel_bytes (slice_index_or h.images t.image no_decl).ty) h.taps
-
--- the program that runs a block over each row
-abbrev pub row_text : (I : Type 0) {O : Type 0} → Table O → Head → List (Item O) → Text I O
-row_text I table h block = record {
-  head = h;
-  code = row_code {I = I} table (tap_widths h) (pixel_bytes h.out_ty) block;
-  labels = row_labels I table (tap_widths h) (pixel_bytes h.out_ty) block;
-}
 
 -- of the places at which a block of so many pixels begins in a row of n pixels, the greatest one at most q
 abbrev pub start_of : (vector n q : ℕ) → ℕ
@@ -124,25 +116,3 @@ item_cost t _ = 0
 
 abbrev pub block_cost : {O : Type 0} → Table O → List (Item O) → ℕ
 block_cost t block = sum (map (item_cost t) block)
-
--- an item that is an operation is one of these
-abbrev pub IsOne : {O : Type 0} → (O → Type 0) → Item O → Type 0
-IsOne is_op (Operation op) = is_op op
-IsOne is_op (TapLoad to tap part) = Unit {0}
-IsOne is_op (OutStore from part) = Unit {0}
-IsOne is_op (SlotLoad to slot) = Unit {0}
-IsOne is_op (SlotStore from slot) = Unit {0}
-
--- the slot of an item lies below a place of the scratch
-abbrev pub IsNear : (vector taps end : ℕ) → {O : Type 0} → Item O → Type 0
-IsNear vector taps end (SlotLoad to slot) = slot_at vector taps slot ≤ end
-IsNear vector taps end (SlotStore from slot) = slot_at vector taps slot ≤ end
-IsNear vector taps end _ = Unit {0}
-
--- a tap's or an output's pixel has one byte or two
-abbrev pub IsPixel : ℕ → Type 0
-IsPixel width = (1 ≤ width) × (width ≤ 2)
-
--- as many slots as the head's scratch has room for
-abbrev pub slots_in : {O : Type 0} → Table O → Head → ℕ
-slots_in t h = (h.scratch - buffer_at t.vector (length h.taps) (length h.taps + 1)) / t.vector

@@ -1,2 +1,3 @@
-pub mod RowCode
+pub mod Scratch
 pub mod BlockRows
+pub mod RowCode

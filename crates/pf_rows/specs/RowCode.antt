@@ -4,7 +4,7 @@
 -- A narrower row is copied into buffers in the scratch, each tap pixel by pixel, and the scratch begins with a table of their addresses.
 -- Then t becomes the scratch, the same block runs once at x = 0, and its pixels are copied from the last buffer to the row.
 -- What follows the block tells the two apart by the row's count alone.
-use Rattle.std.specs.Prelude.{ℕ, zero, suc, ◌+◌, ◌*◌, ◌/◌, ◌%◌, List, [], ◌∷◌, ◌++◌, length, true, false, replicate, codes, slice_index}
+use Rattle.std.specs.Prelude.{ℕ, zero, suc, ◌+◌, ◌*◌, ◌/◌, ◌%◌, ◌≤◌, List, [], ◌∷◌, ◌++◌, length, true, false, replicate, codes, slice_index}
 use Rattle.std.specs.List.{flat_map}
 use Rattle.pf_isa.specs.declared.control.Control.TheVariants.{LoadPtr, StorePtr, Imm, AddImm, AddReg, LoadByte, LoadHalf, StoreByte, StoreHalf, Compare, Below, Jump, Return}
 use Rattle.pf_isa.specs.declared.code.Line.{Line}
@@ -12,7 +12,12 @@ use Rattle.pf_isa.specs.declared.code.Line.TheVariants.{Vector, Control as Contr
 use Rattle.pf_isa.specs.declared.code.Label.{Label}
 use Rattle.pf_isa.specs.declared.block.Item.{Item}
 use Rattle.pf_isa.specs.declared.block.Item.TheVariants.{Vector as Operation, TapLoad, OutStore, SlotLoad, SlotStore}
+use Rattle.pf_isa.specs.declared.program.Head.{Head}
+use Rattle.pf_isa.specs.Programs.{Text}
+use Rattle.pf_isa.specs.Runs.{pixel_bytes}
 use Rattle.pf_isa.specs.Tables.{Table}
+use Rattle.pf_rows.specs.Scratch.{buffer_at, slot_at}
+use Rattle.pf_rows.specs.BlockRows.{tap_widths}
 
 -- the general registers by their roles
 abbrev t : ℕ
@@ -39,20 +44,6 @@ v = 6
 abbrev e : ℕ
 e = 7
 
--- The scratch: a table for so many taps and the output, a buffer of two vectors for each, and slots of a vector
-
-abbrev pub table_bytes : ℕ → ℕ
-table_bytes taps = 128 * ((taps + 16) / 16)
-
-abbrev pub buffer_at : (vector taps k : ℕ) → ℕ
-buffer_at vector taps k = table_bytes taps + 2 * vector * k
-
-abbrev pub slot_at : (vector taps slot : ℕ) → ℕ
-slot_at vector taps slot = buffer_at vector taps (taps + 1) + vector * slot
-
-abbrev pub scratch_bytes : (vector taps slots : ℕ) → ℕ
-scratch_bytes vector taps slots = slot_at vector taps slots
-
 -- Addresses
 
 -- the register goes on by x pixels of so many bytes
@@ -60,9 +51,14 @@ abbrev pub pixel_lines : {I O : Type 0} → ℕ → ℕ → List (Line I O)
 pixel_lines r zero = []
 pixel_lines r (suc width) = Controls (AddReg r r x) ∷ pixel_lines r width
 
+-- the register goes on by so many times 4096, fewer than 4096 times
+abbrev pub last_pages : {I O : Type 0} → ℕ → ℕ → List (Line I O)
+last_pages r zero = []
+last_pages r (suc pages) = Controls (AddImm r r false (4096 * suc pages)) ∷ []
+
 -- the register goes on by so many times 4096
 abbrev pub page_lines : {I O : Type 0} → ℕ → ℕ → List (Line I O)
-page_lines r pages = replicate (pages / 4095) (Controls (AddImm r r false 16773120)) ++ Controls (AddImm r r false (4096 * (pages % 4095))) ∷ []
+page_lines r pages = replicate (pages / 4095) (Controls (AddImm r r false 16773120)) ++ last_pages r (pages % 4095)
 
 -- the register is the address of a byte of the scratch
 abbrev pub scratch_lines : {I O : Type 0} → ℕ → ℕ → List (Line I O)
@@ -185,3 +181,33 @@ row_labels I {O} table widths width block =
     ∷ label (codes "narrow") (narrow_at I table widths width block)
     ∷ (copy_labels I O table.vector (length widths) 0 (narrow_at I table widths width block) widths
     ++ label (codes "back") (back_at I table widths width block) ∷ label (codes "loop") (back_at I table widths width block + 1) ∷ [])
+
+-- The program
+
+-- the program that runs a block over each row
+abbrev pub row_text : (I : Type 0) {O : Type 0} → Table O → Head → List (Item O) → Text I O
+row_text I table h block = record {
+  head = h;
+  code = row_code {I = I} table (tap_widths h) (pixel_bytes h.out_ty) block;
+  labels = row_labels I table (tap_widths h) (pixel_bytes h.out_ty) block;
+}
+
+-- What its parts ask of a block
+
+-- a tap's or an output's pixel has one byte or two
+abbrev pub IsPixel : ℕ → Type 0
+IsPixel width = (1 ≤ width) × (width ≤ 2)
+
+-- the slot of an item lies below a place of the scratch
+abbrev pub IsNear : (vector taps end : ℕ) → {O : Type 0} → Item O → Type 0
+IsNear vector taps end (SlotLoad to slot) = slot_at vector taps slot ≤ end
+IsNear vector taps end (SlotStore from slot) = slot_at vector taps slot ≤ end
+IsNear vector taps end _ = Unit {0}
+
+-- an item that is an operation is one of these
+abbrev pub IsOne : {O : Type 0} → (O → Type 0) → Item O → Type 0
+IsOne is_op (Operation op) = is_op op
+IsOne is_op (TapLoad to tap part) = Unit {0}
+IsOne is_op (OutStore from part) = Unit {0}
+IsOne is_op (SlotLoad to slot) = Unit {0}
+IsOne is_op (SlotStore from slot) = Unit {0}

@@ -1,14 +1,14 @@
 ghost use Rattle.std.specs.Prelude.{◌≡◌, ◌+◌, ◌*◌, ◌/◌, ◌%◌, ◌^◌, ◌<◌, ◌≤◌, ◌++◌, [], ◌∷◌, length, take, IsTrue, OnOk, All, codes, false, List, ℕ};
 ghost use Rattle.pf_ints.specs.Words.{is_name};
-ghost use Rattle.pf_rows.specs.RowCode.{buffer_at, copy_label, copy_labels, label, copy_turn, copy_end, load_value, narrow_lines, back_lines, scratch_lines, store_value, tap_copy, tap_copies};
-ghost use Rattle.pf_rows.specs.BlockRows.{IsPixel};
+ghost use Rattle.pf_rows.specs.Scratch.{buffer_at};
+ghost use Rattle.pf_rows.specs.RowCode.{copy_label, copy_labels, label, copy_turn, copy_end, load_value, narrow_lines, back_lines, scratch_lines, store_value, tap_copy, tap_copies, IsPixel};
 ghost use Rattle.pf_isa.specs.declared.code.Line.{Line};
 
-use crate::items::buffer_offset;
 use crate::lines::{
     add, back_name, below, block_name, compare, control, copy_name, loop_name, pixels, pointer,
     scratch, set,
 };
+use crate::scratch::buffer_offset;
 use pf_ints::{Memory, Name};
 use pf_isa::{Code, Control, Isa, Label, LabelList, role};
 

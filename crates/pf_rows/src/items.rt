@@ -1,31 +1,11 @@
 ghost use Rattle.std.specs.Prelude.{◌≡◌, ◌+◌, ◌*◌, ◌/◌, ◌^◌, ◌<◌, ◌≤◌, ◌++◌, [], ◌∷◌, length, OnOk, All};
-ghost use Rattle.pf_rows.specs.RowCode.{table_bytes, buffer_at, slot_at, item_lines, block_lines};
-ghost use Rattle.pf_rows.specs.BlockRows.{IsStep, IsOne, IsNear, IsPixel};
+ghost use Rattle.pf_rows.specs.BlockRows.{IsStep};
+ghost use Rattle.pf_rows.specs.RowCode.{item_lines, block_lines, IsOne, IsNear, IsPixel};
 
 use crate::lines::{pixels, pointer, scratch};
+use crate::scratch::slot_offset;
 use pf_ints::Memory;
 use pf_isa::{Block, Code, Isa, Item, Line, role};
-
-/// Where buffer number `k` begins in the scratch of a row of so many taps.
-pub fn buffer_offset(vector: u32, taps: usize, k: usize) -> u32
-    requires vector { vector ≤ 128 }
-    requires taps { taps ≤ 64 }
-    requires buffer { k ≤ 65 }
-    ensures value { result ≡ buffer_at vector taps k }
-    ensures low { result ≤ 2 ^ 16 }
-{
-    128 * ((taps as u32 + 16) / 16) + 2 * vector * k as u32
-}
-
-/// Where a slot begins in the scratch of a row of so many taps.
-fn slot_offset(vector: u32, taps: usize, slot: u32) -> u32
-    requires vector { vector ≤ 128 }
-    requires taps { taps ≤ 64 }
-    requires near { slot_at vector taps slot ≤ 2 ^ 30 }
-    ensures { result ≡ slot_at vector taps slot }
-{
-    buffer_offset(vector, taps, taps + 1) + vector * slot
-}
 
 /// Appends the instructions of a step of a block, over taps and an output whose pixels have so
 /// many bytes.

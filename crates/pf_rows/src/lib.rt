@@ -5,5 +5,7 @@ mod copies;
 mod items;
 mod lines;
 mod program;
+mod scratch;
 
 pub use program::row_program;
+pub use scratch::scratch_size;

@@ -2,7 +2,7 @@ ghost use Rattle.std.specs.Prelude.{◌≡◌, ◌+◌, ◌*◌, ◌/◌, ◌%�
 ghost use Rattle.pf_ints.specs.Words.{is_name};
 ghost use Rattle.pf_isa.specs.Control.{IsControl, is_offset};
 ghost use Rattle.pf_isa.specs.declared.control.Control.TheVariants.{Below};
-ghost use Rattle.pf_rows.specs.RowCode.{copy_label, last_lines, next_lines, page_lines, pixel_lines, scratch_lines, tail_lines};
+ghost use Rattle.pf_rows.specs.RowCode.{copy_label, last_lines, last_pages, next_lines, page_lines, pixel_lines, scratch_lines, tail_lines};
 
 use pf_ints::{Memory, Name};
 use pf_isa::{Code, Control, Ctl, Isa, Line, role};
@@ -95,6 +95,18 @@ pub fn pixels<I: Isa>(code: &mut Code<I>, register: u8, width: u8) -> Result<(),
     Ok(())
 }
 
+/// Appends that the register goes on by so many times 4096, fewer than 4096 times.
+fn last_pages<I: Isa>(code: &mut Code<I>, register: u8, pages: u32) -> Result<(), Memory>
+    requires register { register < 8 }
+    requires few { pages < 4096 }
+    ensures { OnOk result (code.new ≡ code.old ++ last_pages register pages) }
+{
+    if pages == 0 {
+        return Ok(());
+    }
+    add(code, register, register, 4096 * pages)
+}
+
 /// Appends that the register goes on by so many times 4096.
 fn pages<I: Isa>(code: &mut Code<I>, register: u8, pages: u32) -> Result<(), Memory>
     requires { register < 8 }
@@ -103,7 +115,7 @@ fn pages<I: Isa>(code: &mut Code<I>, register: u8, pages: u32) -> Result<(), Mem
     for _step in 0..pages / 4095 {
         add(code, register, register, 16_773_120)?;
     }
-    add(code, register, register, 4096 * (pages % 4095))
+    last_pages(code, register, pages % 4095)
 }
 
 /// Appends that the register becomes the address of a byte of the scratch.

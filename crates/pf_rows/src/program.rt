@@ -3,8 +3,8 @@ ghost use Rattle.pf_ints.specs.Images.{IsPixelType};
 ghost use Rattle.pf_isa.specs.Heads.{IsHead};
 ghost use Rattle.pf_isa.specs.Moved.{Moved, Work};
 ghost use Rattle.pf_isa.specs.Runs.{pixel_bytes};
-ghost use Rattle.pf_rows.specs.RowCode.{back_lines, begin_lines, block_lines, copy_labels, label, last_lines, narrow_lines, next_lines, row_code, row_labels, tail_lines};
-ghost use Rattle.pf_rows.specs.BlockRows.{IsNear, IsOne, IsPixel, IsRowBlock, IsStep, LeavesLanes, RunsBlock, block_cost, row_text, slots_in, tap_widths, no_decl};
+ghost use Rattle.pf_rows.specs.BlockRows.{IsRowBlock, IsStep, LeavesLanes, RunsBlock, block_cost, tap_widths, no_decl};
+ghost use Rattle.pf_rows.specs.RowCode.{back_lines, begin_lines, block_lines, copy_labels, label, last_lines, narrow_lines, next_lines, row_code, row_labels, tail_lines, IsNear, IsOne, IsPixel, row_text};
 
 use crate::copies::{back, mark, narrow};
 use crate::items::items;
@@ -130,25 +130,42 @@ fn lines<I: Isa>(
     Ok((code, labels))
 }
 
-/// The program that runs the block over each row of the output, of any width.
-///
-/// The block runs in place at every whole block of pixels, and at the row's last ones where some
-/// are left. A row of fewer pixels than a vector has bytes is copied into the scratch, and its
-/// pixels back from there. It fails for want of memory alone.
-pub fn row_program<I: Isa>(
+/// The program that runs the block over each row of the output, as its code and its labels.
+fn row_text<I: Isa>(
     alloc: Global,
     block: Block<I::Op>,
+    slots: u32,
     head: Head,
 ) -> Result<Program<I>, Memory>
-    requires { IsRowBlock I.table head (slots_in I.table head) block }
+    requires { IsRowBlock I.table head slots block }
     ensures value { IfOk result (λ p. p ≡ row_text I I.table head block) }
-    ensures moved { IfOk result (λ p. Moved I.table (length p.head.taps) p.code p.labels) }
-    ensures work { IfOk result (λ p. Work I.table p.code ≡ block_cost I.table block) }
-    ensures rows { IfOk result (λ p. RunsBlock I.table (slots_in I.table head) block p) }
-    ensures lanes { IfOk result (λ p. LeavesLanes I.table (slots_in I.table head) block p) }
+    ensures known { IfOk result (λ _. All (λ i. IsOne I.is_op i) block) }
 {
     let widths = widths_of(alloc, &head)?;
     let width = head.out_ty.bytes();
     let (code, labels) = lines(alloc, widths.as_slice(), width, block)?;
     Ok(Program::new(head, code, labels))
+}
+
+/// The program that runs the block over each row of the output, of any width.
+///
+/// The block runs in place at every whole block of pixels, and at the row's last ones where some
+/// are left. A row of fewer pixels than a vector has bytes is copied into the scratch, and its
+/// pixels back from there. The head's scratch has room for as many slots as `slots` says, which
+/// the block may use. It fails for want of memory alone.
+pub fn row_program<I: Isa>(
+    alloc: Global,
+    block: Block<I::Op>,
+    slots: u32,
+    head: Head,
+) -> Result<Program<I>, Memory>
+    requires { IsRowBlock I.table head slots block }
+    ensures head { IfOk result (λ p. p.head ≡ head) }
+    ensures moved { IfOk result (λ p. Moved I.table (length p.head.taps) p.code p.labels) }
+    ensures work { IfOk result (λ p. Work I.table p.code ≡ block_cost I.table block) }
+    ensures rows { IfOk result (λ p. RunsBlock I.table slots block p) }
+    ensures lanes { IfOk result (λ p. LeavesLanes I.table slots block p) }
+{
+    let program = row_text(alloc, block, slots, head)?;
+    Ok(program)
 }

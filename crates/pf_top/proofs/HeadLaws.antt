@@ -167,7 +167,8 @@ head_taps k first second kernel least =
     let within = taps_within (names_behind k.source.images k.source.taps []) first second named in
     record {
       head = head_is k kernel least.defs;
-      taps = subst (λ ty. AreTapsOf ty k.source.images k.source.taps) (sym least.out_ty) least.taps;
+      out_ty = least.out_ty;
+      taps = least.taps;
       scratch = refl;
       first_tap = within.0;
       second_tap = within.1;

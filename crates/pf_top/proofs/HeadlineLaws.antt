@@ -10,24 +10,24 @@ use Rattle.pf_isa.specs.declared.program.Head.{Head}
 use Rattle.pf_isa.specs.Moved.{Moved, Work}
 use Rattle.pf_isa.specs.Programs.{Text}
 use Rattle.pf_isa.specs.Texts.{IsText, printed, head_lines, code_lines}
-use Rattle.pf_isa.specs.Runs.{Places, IsPlaced, Leaves, pixel_bytes}
+use Rattle.pf_isa.specs.Runs.{Places, IsPlaced, Leaves}
 use Rattle.pf_neon.specs.declared.neon.Neon.{Neon}
 use Rattle.pf_neon.specs.declared.op.Form.{Form}
 use Rattle.pf_neon.specs.Forms.{IsForm}
 use Rattle.pf_neon.specs.Neon.{table}
-use Rattle.pf_top.specs.Least.{least_term, least_source, IsLeastOf, LeavesLeast}
+use Rattle.pf_top.specs.Least.{byte_type, least_term, least_source, IsLeastOf, LeavesLeast}
 use Rattle.pf_top.specs.Headline.{Headline}
 use Rattle.pf_top.specs.Selected.{IsSelected, head_of}
 
-abbrev with_parts : Source → List Definition → Term → Source
-with_parts s ds t = record { images = s.images; taps = s.taps; defs = ds; out_ty = s.out_ty; out = t }
+abbrev with_parts : Source → List Definition → LaneType → Term → Source
+with_parts s ds ty t = record { images = s.images; taps = s.taps; defs = ds; out_ty = ty; out = t }
 
 -- what a kernel says, by its head and its two taps
 least_is : (s : Source) (first second : ℕ) → IsLeastOf s first second → least_source (head_of s) first second ≡ s
 least_is s first second least =
-    ap (λ (ds : List Definition). with_parts s ds (least_term s.out_ty first second)) (sym least.defs)
-    ∙ ap (λ (ty : LaneType). with_parts s s.defs (least_term ty first second)) least.out_ty
-    ∙ ap (λ (t : Term). with_parts s s.defs t) (sym least.out)
+    ap (λ (ds : List Definition). with_parts s ds byte_type (least_term byte_type first second)) (sym least.defs)
+    ∙ ap (λ (ty : LaneType). with_parts s s.defs ty (least_term byte_type first second)) (sym least.out_ty)
+    ∙ ap (λ (t : Term). with_parts s s.defs s.out_ty t) (sym least.out)
 
 -- the program leaves the output of what a kernel says
 abbrev LeavesOut : Source → Text Neon Form → Type 0
@@ -50,7 +50,7 @@ headline_at s text p first second least is leaves parses =
 pub record IsMade (wanted : Head) (first second : ℕ) (p : Text Neon Form) : Type 0 where
   pub head : p.head ≡ wanted
   pub moved : Moved table (length p.head.taps) p.code p.labels
-  pub work : Work table p.code ≡ pixel_bytes wanted.out_ty
+  pub work : Work table p.code ≡ 1
   pub right : LeavesLeast p first second
 
 pub selected_from : (s : Source) (text : List ℕ) (head : Head) (first second : ℕ) (p : Text Neon Form) → IsLeastOf s first second → head ≡ head_of s → IsMade head first second p
@@ -63,5 +63,5 @@ selected_from s text head first second p least same_head made parses spelled =
       spelled = spelled;
       head = is;
       moved = made.moved;
-      work = made.work ∙ ap (λ (h : Head). pixel_bytes h.out_ty) same_head ∙ ap pixel_bytes least.out_ty ∙ sym (ap (λ (h : Head). h.cost) is);
+      work = made.work ∙ sym (ap (λ (h : Head). h.cost) is);
     }

@@ -1,8 +1,7 @@
--- The lesser of two taps of images of one type: the term, the block that computes it, and what its program promises.
+-- The lesser of two taps of u8: the term, the block that computes it, and what its program promises.
 use Rattle.std.specs.Prelude.{◌≡◌, ℕ, ◌<◌, List, [], ◌∷◌, ◌++◌, length, All, false, slice_index_or}
 use Rattle.pf_ints.specs.declared.lane.LaneType.{LaneType}
-use Rattle.pf_ints.specs.declared.lane.Bits.{Bits}
-use Rattle.pf_ints.specs.declared.lane.Bits.TheVariants.{Eight, Sixteen, ThirtyTwo}
+use Rattle.pf_ints.specs.declared.lane.Bits.TheVariants.{Eight}
 use Rattle.pf_ints.specs.Images.{Picture}
 use Rattle.pf_terms.specs.declared.kernel.ImageDecl.{ImageDecl}
 use Rattle.pf_terms.specs.declared.names.Tap.{Tap as TapOf}
@@ -19,12 +18,11 @@ use Rattle.pf_isa.specs.Programs.{Text}
 use Rattle.pf_isa.specs.Runs.{Places, IsPlaced, Leaves}
 use Rattle.pf_neon.specs.declared.op.Form.{Form}
 use Rattle.pf_neon.specs.declared.op.Form.TheVariants.{Lanewise}
-use Rattle.pf_neon.specs.declared.op.Lanes.{Lanes}
-use Rattle.pf_neon.specs.declared.op.Lanes.TheVariants.{Bytes, Halves}
+use Rattle.pf_neon.specs.declared.op.Lanes.TheVariants.{Bytes}
 use Rattle.pf_neon.specs.declared.op.Mnemonic.TheVariants.{Umin}
 use Rattle.pf_neon.specs.Neon.{table}
 use Rattle.pf_rows.specs.BlockRows.{no_decl}
-use Rattle.pf_rows.specs.RowCode.{scratch_bytes}
+use Rattle.pf_rows.specs.Scratch.{scratch_bytes}
 
 abbrev pub byte_type : LaneType
 byte_type = record { signed = false; bits = Eight }
@@ -36,9 +34,9 @@ tap_term ty n = Leaf (Tap n) ty
 abbrev pub least_term : LaneType → ℕ → ℕ → Term
 least_term ty first second = Node Min ty 0 (tap_term ty first ∷ tap_term ty second ∷ [])
 
--- the kernel that has a head's images, taps and output type, and the lesser of two of the taps as its output
+-- the kernel that has a head's images and taps, and the lesser of two of the taps as its output
 abbrev pub least_source : Head → ℕ → ℕ → Source
-least_source h first second = record { images = h.images; taps = h.taps; defs = []; out_ty = h.out_ty; out = least_term h.out_ty first second }
+least_source h first second = record { images = h.images; taps = h.taps; defs = []; out_ty = byte_type; out = least_term byte_type first second }
 
 -- the taps are pixels of this type
 abbrev pub AreTapsOf : LaneType → List ImageDecl → List TapOf → Type 0
@@ -51,20 +49,15 @@ pub record IsLeastOf (s : Source) (first second : ℕ) : Type 0 where
   pub out_ty : s.out_ty ≡ byte_type
   pub out : s.out ≡ least_term byte_type first second
 
--- a part of both taps is loaded, and the lesser of each two lanes is stored
-abbrev pub least_part : Lanes → (first second part : ℕ) → List (Item Form)
-least_part lanes first second part = TapLoad 0 first part ∷ TapLoad 1 second part ∷ Vector (Lanewise Umin lanes 0 0 1) ∷ OutStore 0 part ∷ []
+-- both taps are loaded, and the lesser of each two lanes is stored
+abbrev pub least_block : (first second : ℕ) → List (Item Form)
+least_block first second = TapLoad 0 first 0 ∷ TapLoad 1 second 0 ∷ Vector (Lanewise Umin Bytes 0 0 1) ∷ OutStore 0 0 ∷ []
 
--- the parts of a block of pixels of so many bits
-abbrev pub least_block : Bits → (first second : ℕ) → List (Item Form)
-least_block Eight first second = least_part Bytes first second 0
-least_block Sixteen first second = least_part Halves first second 0 ++ least_part Halves first second 1
-least_block ThirtyTwo first second = []
-
--- two taps of a head whose taps have the output's type, with the scratch that its rows need
+-- two taps of a head whose taps and output are of u8, with the scratch that its rows need
 pub record HasTaps (h : Head) (first second : ℕ) : Type 0 where
   pub head : IsHead h
-  pub taps : AreTapsOf h.out_ty h.images h.taps
+  pub out_ty : h.out_ty ≡ byte_type
+  pub taps : AreTapsOf byte_type h.images h.taps
   pub scratch : h.scratch ≡ scratch_bytes 16 (length h.taps) 0
   pub first_tap : first < length h.taps
   pub second_tap : second < length h.taps

@@ -7,7 +7,7 @@ use Rattle.pf_isa.specs.declared.program.Head.{Head}
 use Rattle.pf_isa.specs.Moved.{Moved, Work}
 use Rattle.pf_isa.specs.Texts.{printed, head_lines, code_lines}
 use Rattle.pf_neon.specs.Neon.{table}
-use Rattle.pf_rows.specs.RowCode.{scratch_bytes}
+use Rattle.pf_rows.specs.Scratch.{scratch_bytes}
 use Rattle.pf_top.specs.Headline.{Headline}
 
 abbrev pub output_of : Source → Definition

@@ -1,5 +1,5 @@
 ghost use Rattle.std.specs.Prelude.{◌≡◌, ◌+◌, ◌*◌, ◌/◌, ◌≤◌, [], ◌∷◌, codes, length, IfOk};
-ghost use Rattle.pf_rows.specs.RowCode.{scratch_bytes};
+ghost use Rattle.pf_rows.specs.Scratch.{scratch_bytes};
 ghost use Rattle.pf_top.specs.Least.{IsLeastOf};
 ghost use Rattle.pf_top.specs.Selected.{IsSelected, output_of, head_of};
 
@@ -9,16 +9,16 @@ use pf_ints::{Duplicate, Memory, Name, Sequence};
 use pf_isa::{Head, write_text};
 use pf_kernel::Kernel;
 use pf_neon::Neon;
+use pf_rows::scratch_size;
 use pf_terms::{Definition, Definitions};
 use std::alloc::Global;
 
-/// Bytes of scratch for so many taps: a table of their addresses and the output's, in pieces of 16
-/// entries, and two vectors for each of these.
-fn scratch_of(taps: u32) -> u32
+/// Bytes of scratch for so many taps, and no slots.
+fn scratch_of(taps: usize) -> u32
     requires { taps ≤ 64 }
     ensures { result ≡ scratch_bytes 16 taps 0 }
 {
-    128 * ((taps + 16) / 16) + 32 * (taps + 1)
+    scratch_size(16, taps, 0).unwrap()
 }
 
 fn output_name() -> Name
@@ -43,7 +43,7 @@ fn head_of(alloc: Global, kernel: &Kernel) -> Result<Head, Memory>
     ensures { IfOk result (λ head. head ≡ head_of kernel.now.source) }
 {
     let taps = kernel.names().taps.copy(alloc)?;
-    let scratch = scratch_of(taps.len() as u32);
+    let scratch = scratch_of(taps.len());
     Ok(Head {
         images: kernel.images().copy(alloc)?,
         taps,

@@ -1,52 +1,29 @@
-use Rattle.std.proofs.Common.{◌≡◌, length, sym, subst, ◌∙◌}
+use Rattle.std.proofs.Common.{◌≡◌, length, sym, subst, ap}
 use Rattle.pf_isa.specs.Moved.{Moved, Work}
-use Rattle.pf_isa.specs.Programs.{IsProgram}
-use Rattle.pf_rows.specs.BlockRows.{slots_in, block_cost, RunsBlock, LeavesLanes}
+use Rattle.pf_rows.specs.BlockRows.{block_cost, RunsBlock, LeavesLanes}
 use Rattle.pf_rows.proofs.Lanewise.{runs_block, leaves_lanes}
-use Rattle.pf_rows.proofs.RowTexts.{widths_pixels, near_block, row_is_program, row_is_moved, row_is_work, text_is}
+use Rattle.pf_rows.proofs.RowTexts.{row_is_moved, row_is_work}
 use Rattle.pf_rows.proofs.program.row_program.Goals as goal
 
-pub lines-requires-clause-some : goal.lines-requires-clause-some
-lines-requires-clause-some g c = let laws = g.met.I.Isa.laws in laws.some_bytes
-
-pub lines-requires-clause-most : goal.lines-requires-clause-most
-lines-requires-clause-most g c = let laws = g.met.I.Isa.laws in laws.few_bytes
-
-pub lines-requires-clause-pixels : goal.lines-requires-clause-pixels
-lines-requires-clause-pixels g c = widths_pixels c.args.head c.requires.head c.as_slice.result.now (c.as_slice.ensures ∙ c.in_ok-widths.ensures)
-
-pub lines-requires-clause-near : goal.lines-requires-clause-near
-lines-requires-clause-near g c = near_block g.I.Isa.table c.args.head (slots_in g.I.Isa.table c.args.head) c.args.block c.requires c.as_slice.result.now (c.as_slice.ensures ∙ c.in_ok-widths.ensures)
-
-pub new-requires : goal.new-requires
-new-requires g c =
-    let whole = text_is g.row.I.Denot g.row.I-Op.Denot g.I.Isa.table c.args.head c.args.block c.as_slice.result.now c.bytes-width.result c.in_ok-code.code c.in_ok-code.labels c.in_ok-code.ensures.code c.in_ok-code.ensures.labels (c.as_slice.ensures ∙ c.in_ok-widths.ensures) c.bytes-width.ensures.value in
-    subst (λ p. IsProgram g.I.Isa.table p) (sym whole) (row_is_program g.row.I.Denot g.row.I-Op.Denot g.I.Isa.table c.args.head (slots_in g.I.Isa.table c.args.head) c.args.block c.requires g.I.Isa.is_op g.met.I.Isa.laws)
-
-pub returns-clause-value : goal.returns-clause-value
-returns-clause-value g c =
-    c.new.ensures ∙ text_is g.row.I.Denot g.row.I-Op.Denot g.I.Isa.table c.args.head c.args.block c.as_slice.result.now c.bytes-width.result c.in_ok-code.code c.in_ok-code.labels c.in_ok-code.ensures.code c.in_ok-code.ensures.labels (c.as_slice.ensures ∙ c.in_ok-widths.ensures) c.bytes-width.ensures.value
+pub returns-clause-head : goal.returns-clause-head
+returns-clause-head g c = ap (λ p. p.head) c.in_ok-program.ensures.value
 
 pub returns-clause-moved : goal.returns-clause-moved
 returns-clause-moved g c =
-    let whole = c.new.ensures ∙ text_is g.row.I.Denot g.row.I-Op.Denot g.I.Isa.table c.args.head c.args.block c.as_slice.result.now c.bytes-width.result c.in_ok-code.code c.in_ok-code.labels c.in_ok-code.ensures.code c.in_ok-code.ensures.labels (c.as_slice.ensures ∙ c.in_ok-widths.ensures) c.bytes-width.ensures.value in
-    subst (λ p. Moved g.I.Isa.table (length p.head.taps) p.code p.labels) (sym whole)
-    (row_is_moved g.row.I.Denot g.row.I-Op.Denot g.I.Isa.table c.args.head (slots_in g.I.Isa.table c.args.head) c.args.block c.requires g.I.Isa.is_op g.met.I.Isa.laws)
+    subst (λ p. Moved g.I.Isa.table (length p.head.taps) p.code p.labels) (sym c.in_ok-program.ensures.value)
+    (row_is_moved g.row.I.Denot g.row.I-Op.Denot g.I.Isa.table c.args.head c.args.slots c.args.block c.requires g.I.Isa.is_op g.met.I.Isa.laws)
 
 pub returns-clause-work : goal.returns-clause-work
 returns-clause-work g c =
-    let whole = c.new.ensures ∙ text_is g.row.I.Denot g.row.I-Op.Denot g.I.Isa.table c.args.head c.args.block c.as_slice.result.now c.bytes-width.result c.in_ok-code.code c.in_ok-code.labels c.in_ok-code.ensures.code c.in_ok-code.ensures.labels (c.as_slice.ensures ∙ c.in_ok-widths.ensures) c.bytes-width.ensures.value in
-    subst (λ p. Work g.I.Isa.table p.code ≡ block_cost g.I.Isa.table c.args.block) (sym whole)
-    (row_is_work g.row.I.Denot g.row.I-Op.Denot g.I.Isa.table c.args.head (slots_in g.I.Isa.table c.args.head) c.args.block c.requires g.I.Isa.is_op g.met.I.Isa.laws)
+    subst (λ p. Work g.I.Isa.table p.code ≡ block_cost g.I.Isa.table c.args.block) (sym c.in_ok-program.ensures.value)
+    (row_is_work g.row.I.Denot g.row.I-Op.Denot g.I.Isa.table c.args.head c.args.slots c.args.block c.requires g.I.Isa.is_op g.met.I.Isa.laws)
 
 pub returns-clause-rows : goal.returns-clause-rows
 returns-clause-rows g c =
-    let whole = c.new.ensures ∙ text_is g.row.I.Denot g.row.I-Op.Denot g.I.Isa.table c.args.head c.args.block c.as_slice.result.now c.bytes-width.result c.in_ok-code.code c.in_ok-code.labels c.in_ok-code.ensures.code c.in_ok-code.ensures.labels (c.as_slice.ensures ∙ c.in_ok-widths.ensures) c.bytes-width.ensures.value in
-    subst (λ p. RunsBlock g.I.Isa.table (slots_in g.I.Isa.table c.args.head) c.args.block p) (sym whole)
-    (runs_block g.row.I.Denot g.row.I-Op.Denot g.I.Isa.table g.I.Isa.is_op g.met.I.Isa.laws c.args.head (slots_in g.I.Isa.table c.args.head) c.args.block c.in_ok-code.ensures.known c.requires)
+    subst (λ p. RunsBlock g.I.Isa.table c.args.slots c.args.block p) (sym c.in_ok-program.ensures.value)
+    (runs_block g.row.I.Denot g.row.I-Op.Denot g.I.Isa.table g.I.Isa.is_op g.met.I.Isa.laws c.args.head c.args.slots c.args.block c.in_ok-program.ensures.known c.requires)
 
 pub returns-clause-lanes : goal.returns-clause-lanes
 returns-clause-lanes g c =
-    let whole = c.new.ensures ∙ text_is g.row.I.Denot g.row.I-Op.Denot g.I.Isa.table c.args.head c.args.block c.as_slice.result.now c.bytes-width.result c.in_ok-code.code c.in_ok-code.labels c.in_ok-code.ensures.code c.in_ok-code.ensures.labels (c.as_slice.ensures ∙ c.in_ok-widths.ensures) c.bytes-width.ensures.value in
-    subst (λ p. LeavesLanes g.I.Isa.table (slots_in g.I.Isa.table c.args.head) c.args.block p) (sym whole)
-    (leaves_lanes g.row.I.Denot g.row.I-Op.Denot g.I.Isa.table g.I.Isa.is_op g.met.I.Isa.laws c.args.head (slots_in g.I.Isa.table c.args.head) c.args.block c.in_ok-code.ensures.known c.requires)
+    subst (λ p. LeavesLanes g.I.Isa.table c.args.slots c.args.block p) (sym c.in_ok-program.ensures.value)
+    (leaves_lanes g.row.I.Denot g.row.I-Op.Denot g.I.Isa.table g.I.Isa.is_op g.met.I.Isa.laws c.args.head c.args.slots c.args.block c.in_ok-program.ensures.known c.requires)
