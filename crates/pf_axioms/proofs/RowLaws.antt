@@ -4,44 +4,44 @@ use Rattle.std.specs.Prelude.{◌&&◌, neg_ℤ, nat_le}
 use Rattle.std.specs.Int.Signed.{le_z}
 use Rattle.std.proofs.lemmas.Int.{ints}
 use Rattle.std.proofs.lemmas.Bool.Decides.{nat_tests}
-use Rattle.pf_ints.specs.Lanes.{IsIn, wrapped}
-use Rattle.pf_ints.specs.Ranges.{Range, Holds, range, furthest, lane_range, lies_in}
+use Rattle.pf_ints.specs.Meaning.Lanes.{IsIn, wrapped}
+use Rattle.pf_ints.specs.Meaning.Ranges.{Range, Includes, range, furthest, lane_range, lies_in}
 use Rattle.pf_ints.proofs.Ring.{distribute, mul_assoc, mul_comm}
 use Rattle.pf_ints.proofs.LaneLaws.{wrapped_same}
 use Rattle.pf_ints.proofs.RangeLaws.{inside_holds}
 use Rattle.pf_forms.specs.declared.axioms.Axiom.{Axiom}
 use Rattle.pf_forms.specs.declared.axioms.Axiom.TheVariants.{AddComm, AddAssoc, AddBack, AddZero, SubAdd, Cancel, MulComm, MulAssoc, MulBack, MulOne, Distribute, Fold, DropWrap, WrapWrap, WrapAdd, WrapMul}
-use Rattle.pf_forms.specs.Shapes.{Shape, Var, Num, Pow, Add, Sub, Mul, FloorDiv, Min, Max, Abs, Sel, Wrap, Sat}
-use Rattle.pf_forms.specs.Equality.{same}
-use Rattle.pf_forms.specs.Values.{FVal, AreIn, G, IsFormOver}
+use Rattle.pf_forms.specs.Meaning.Shapes.{Shape, Var, Num, Pow, Add, Sub, Mul, FloorDiv, Min, Max, Abs, Sel, Wrap, Sat}
+use Rattle.pf_forms.specs.Meaning.Equality.{same}
+use Rattle.pf_forms.specs.Meaning.Values.{FVal, AreIn, G, IsFormOver}
 use Rattle.pf_forms.proofs.BoundLaws.{value_in}
 use Rattle.pf_forms.proofs.EqualityLaws.{both, same_true, same_itself}
-use Rattle.pf_axioms.specs.Rows.{Letters, If, row_of, is_number, is_foldable, is_near, closed_value, minus_one}
-use Rattle.pf_axioms.specs.Steps.{Grants, letters_of, only_if, is_zero, is_one, is_minus_one, of_one, of_two, of_three, typed, in_sum, in_sum_left, in_sum_right, in_add_zero, in_difference, in_cancel, in_product, in_product_left, in_product_right, in_mul_one, in_distribute, in_wrap, in_wrap_wrap, in_wrap_add, in_wrap_mul}
+use Rattle.pf_axioms.specs.Meaning.Rows.{Letters, If, axiom_row, is_number, is_foldable, is_within_forms, closed_value, minus_one}
+use Rattle.pf_axioms.specs.Meaning.AxiomSteps.{Grants, letters_of, only_if, is_zero, is_one, is_minus_one, of_one, of_two, of_three, typed, in_sum, in_sum_left, in_sum_right, in_add_zero, in_difference, in_cancel, in_product, in_product_left, in_product_right, in_mul_one, in_distribute, in_wrap, in_wrap_wrap, in_wrap_add, in_wrap_mul}
 use Rattle.pf_axioms.proofs.WrapLaws.{wrapped-wrapped, wrapped-add-wrapped, wrapped-mul-wrapped}
 
 -- where letters are found, the form is the left form at them
 abbrev Taken : Axiom → Type 0
-Taken law = (f : Shape) (l : Letters) → letters_of law f ≡ Some l → f ≡ (row_of law).left l
+Taken law = (f : Shape) (l : Letters) → letters_of law f ≡ Some l → f ≡ (axiom_row law).left l
 
 -- at the left form letters are found, which suit the row where the given ones do
 abbrev Found : Axiom → Type 0
-Found law = (l : Letters) → (m : Letters) × (letters_of law ((row_of law).left l) ≡ Some m) × ((row_of law).suits m ≡ (row_of law).suits l)
+Found law = (l : Letters) → (m : Letters) × (letters_of law ((axiom_row law).left l) ≡ Some m) × ((axiom_row law).suits m ≡ (axiom_row law).suits l)
 
 -- both forms have one value, where the row is granted
 abbrev SameValue : Axiom → Type 0
 SameValue law =
-    (ranges : List Range) (v : ℕ → ℤ) → AreIn ranges v → (l : Letters) → IsTrue ((row_of law).suits l) → Grants ((row_of law).condition l) (G ranges l.x)
-    → FVal v ((row_of law).right l) ≡ FVal v ((row_of law).left l)
+    (ranges : List Range) (v : ℕ → ℤ) → AreIn ranges v → (l : Letters) → IsTrue ((axiom_row law).suits l) → Grants ((axiom_row law).condition l) (G ranges l.x)
+    → FVal v ((axiom_row law).right l) ≡ FVal v ((axiom_row law).left l)
 
 -- the right form is a form wherever the left one is and the row has room for its numbers
 abbrev Fits : Axiom → Type 0
 Fits law =
-    (count : ℕ) (l : Letters) → (row_of law).room l ≡ true → IsFormOver count ((row_of law).left l) → IsFormOver count ((row_of law).right l)
+    (count : ℕ) (l : Letters) → (axiom_row law).room l ≡ true → IsFormOver count ((axiom_row law).left l) → IsFormOver count ((axiom_row law).right l)
 
 -- the right form is none where there is no room
 abbrev Bursts : Axiom → Type 0
-Bursts law = (count : ℕ) (l : Letters) → (row_of law).room l ≡ false → IsFormOver count ((row_of law).right l) → ⊥
+Bursts law = (count : ℕ) (l : Letters) → (axiom_row law).room l ≡ false → IsFormOver count ((axiom_row law).right l) → ⊥
 
 -- what is proved of a row
 pub record IsSound (law : Axiom) : Type 0 where
@@ -81,28 +81,28 @@ minus_one_true (negsuc (suc n)) e = absurd (cc)
 
 taken_sum : Taken AddComm
 unfolding in_sum
-taken_sum (Add x y) l e = ap (row_of AddComm).left (one_some _ l e)
+taken_sum (Add x y) l e = ap (axiom_row AddComm).left (one_some _ l e)
 taken_sum _ l e = absurd (cc)
 
 taken_sum_left : Taken AddAssoc
 unfolding in_sum_left
-taken_sum_left (Add (Add x y) z) l e = ap (row_of AddAssoc).left (one_some _ l e)
+taken_sum_left (Add (Add x y) z) l e = ap (axiom_row AddAssoc).left (one_some _ l e)
 taken_sum_left _ l e = absurd (cc)
 
 taken_sum_right : Taken AddBack
 unfolding in_sum_right
-taken_sum_right (Add x (Add y z)) l e = ap (row_of AddBack).left (one_some _ l e)
+taken_sum_right (Add x (Add y z)) l e = ap (axiom_row AddBack).left (one_some _ l e)
 taken_sum_right _ l e = absurd (cc)
 
 taken_add_zero : Taken AddZero
 unfolding in_add_zero
 taken_add_zero (Add x (Num n)) l e =
-    let p = if_some (is_zero n) _ l e in ap (λ m. Add x (Num m)) (zero_true n p.0) ∙ ap (row_of AddZero).left p.1
+    let p = if_some (is_zero n) _ l e in ap (λ m. Add x (Num m)) (zero_true n p.0) ∙ ap (axiom_row AddZero).left p.1
 taken_add_zero _ l e = absurd (cc)
 
 taken_difference : Taken SubAdd
 unfolding in_difference
-taken_difference (Sub x y) l e = ap (row_of SubAdd).left (one_some _ l e)
+taken_difference (Sub x y) l e = ap (axiom_row SubAdd).left (one_some _ l e)
 taken_difference _ l e = absurd (cc)
 
 taken_cancel : Taken Cancel
@@ -111,53 +111,53 @@ taken_cancel (Add x (Mul (Num n) y)) l e =
     let p = if_some (is_minus_one n && same x y) _ l e in
     let q = both (is_minus_one n) (same x y) p.0 in
     ap (λ m. Add x (Mul (Num m) y)) (minus_one_true n q.0) ∙ ap (λ s. Add x (Mul minus_one s)) (sym (same_true x y q.1))
-    ∙ ap (row_of Cancel).left p.1
+    ∙ ap (axiom_row Cancel).left p.1
 taken_cancel _ l e = absurd (cc)
 
 taken_product : Taken MulComm
 unfolding in_product
-taken_product (Mul x y) l e = ap (row_of MulComm).left (one_some _ l e)
+taken_product (Mul x y) l e = ap (axiom_row MulComm).left (one_some _ l e)
 taken_product _ l e = absurd (cc)
 
 taken_product_left : Taken MulAssoc
 unfolding in_product_left
-taken_product_left (Mul (Mul x y) z) l e = ap (row_of MulAssoc).left (one_some _ l e)
+taken_product_left (Mul (Mul x y) z) l e = ap (axiom_row MulAssoc).left (one_some _ l e)
 taken_product_left _ l e = absurd (cc)
 
 taken_product_right : Taken MulBack
 unfolding in_product_right
-taken_product_right (Mul x (Mul y z)) l e = ap (row_of MulBack).left (one_some _ l e)
+taken_product_right (Mul x (Mul y z)) l e = ap (axiom_row MulBack).left (one_some _ l e)
 taken_product_right _ l e = absurd (cc)
 
 taken_mul_one : Taken MulOne
 unfolding in_mul_one
 taken_mul_one (Mul (Num n) x) l e =
-    let p = if_some (is_one n) _ l e in ap (λ m. Mul (Num m) x) (one_true n p.0) ∙ ap (row_of MulOne).left p.1
+    let p = if_some (is_one n) _ l e in ap (λ m. Mul (Num m) x) (one_true n p.0) ∙ ap (axiom_row MulOne).left p.1
 taken_mul_one _ l e = absurd (cc)
 
 taken_distribute : Taken Distribute
 unfolding in_distribute
-taken_distribute (Mul x (Add y z)) l e = ap (row_of Distribute).left (one_some _ l e)
+taken_distribute (Mul x (Add y z)) l e = ap (axiom_row Distribute).left (one_some _ l e)
 taken_distribute _ l e = absurd (cc)
 
 taken_wrap : Taken DropWrap
 unfolding in_wrap
-taken_wrap (Wrap t x) l e = ap (row_of DropWrap).left (one_some _ l e)
+taken_wrap (Wrap t x) l e = ap (axiom_row DropWrap).left (one_some _ l e)
 taken_wrap _ l e = absurd (cc)
 
 taken_wrap_wrap : Taken WrapWrap
 unfolding in_wrap_wrap
-taken_wrap_wrap (Wrap t (Wrap u x)) l e = ap (row_of WrapWrap).left (one_some _ l e)
+taken_wrap_wrap (Wrap t (Wrap u x)) l e = ap (axiom_row WrapWrap).left (one_some _ l e)
 taken_wrap_wrap _ l e = absurd (cc)
 
 taken_wrap_add : Taken WrapAdd
 unfolding in_wrap_add
-taken_wrap_add (Wrap t (Add (Wrap u x) y)) l e = ap (row_of WrapAdd).left (one_some _ l e)
+taken_wrap_add (Wrap t (Add (Wrap u x) y)) l e = ap (axiom_row WrapAdd).left (one_some _ l e)
 taken_wrap_add _ l e = absurd (cc)
 
 taken_wrap_mul : Taken WrapMul
 unfolding in_wrap_mul
-taken_wrap_mul (Wrap t (Mul (Wrap u x) y)) l e = ap (row_of WrapMul).left (one_some _ l e)
+taken_wrap_mul (Wrap t (Mul (Wrap u x) y)) l e = ap (axiom_row WrapMul).left (one_some _ l e)
 taken_wrap_mul _ l e = absurd (cc)
 
 found_cancel : Found Cancel
@@ -206,11 +206,11 @@ same_dropped ranges v inside l s granted = by_interval (G ranges l.x) refl grant
 
 -- ---- limits
 
-near_true : (n : ℤ) → is_near n ≡ true → Holds (range (neg_ℤ furthest) furthest) n
+near_true : (n : ℤ) → is_within_forms n ≡ true → Includes (range (neg_ℤ furthest) furthest) n
 near_true n e =
     let p = both (le_z (neg_ℤ furthest) n) (le_z n furthest) e in record { low = omega (arith, ints, p.0); high = omega (arith, ints, p.1) }
 
-near_holds : (n : ℤ) → Holds (range (neg_ℤ furthest) furthest) n → is_near n ≡ false → ⊥
+near_holds : (n : ℤ) → Includes (range (neg_ℤ furthest) furthest) n → is_within_forms n ≡ false → ⊥
 near_holds n h e = by_tests (le_z (neg_ℤ furthest) n) (le_z n furthest) refl refl e
   where
     by_tests : (b c : Bool) → le_z (neg_ℤ furthest) n ≡ b → le_z n furthest ≡ c → b && c ≡ false → ⊥
@@ -218,10 +218,10 @@ near_holds n h e = by_tests (le_z (neg_ℤ furthest) n) (le_z n furthest) refl r
     by_tests true false p q r = omega (arith, ints, q, h.high)
     by_tests false c p q r = omega (arith, ints, p, h.low)
 
-minus_one_near : Holds (range (neg_ℤ furthest) furthest) (negsuc 0)
+minus_one_near : Includes (range (neg_ℤ furthest) furthest) (negsuc 0)
 minus_one_near = record { low = record { le = tt }; high = record { le = tt } }
 
-zero_near : Holds (range (neg_ℤ furthest) furthest) (pos 0)
+zero_near : Includes (range (neg_ℤ furthest) furthest) (pos 0)
 zero_near = record { low = record { le = tt }; high = record { le = tt } }
 
 -- ---- the rows

@@ -1,3 +1,2 @@
-pub mod Rows
-pub mod Folds
+pub mod Meaning
 pub mod Steps

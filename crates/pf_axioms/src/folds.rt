@@ -1,11 +1,11 @@
 ghost use Rattle.std.specs.Prelude.{◌≡◌, ℕ, ℤ, List};
-ghost use Rattle.pf_ints.specs.Ranges.{Range};
-ghost use Rattle.pf_forms.specs.Shapes.{shape, Num};
-ghost use Rattle.pf_forms.specs.Values.{IsFormOver};
+ghost use Rattle.pf_ints.specs.Meaning.Ranges.{Range};
+ghost use Rattle.pf_forms.specs.Meaning.Shapes.{shape, Num};
+ghost use Rattle.pf_forms.specs.Meaning.Values.{IsFormOver};
 ghost use Rattle.pf_forms.specs.declared.axioms.Axiom.TheVariants.{Fold};
-ghost use Rattle.pf_axioms.specs.Rows.{is_near};
-ghost use Rattle.pf_axioms.specs.Folds.{IsNumberOf, AreNumbersOf};
-ghost use Rattle.pf_axioms.specs.Steps.{Gives, limited, rewritten};
+ghost use Rattle.pf_axioms.specs.Meaning.Rows.{is_within_forms};
+ghost use Rattle.pf_axioms.specs.Steps.Folds.{IsNumberOf, AreNumbersOf};
+ghost use Rattle.pf_axioms.specs.Meaning.AxiomSteps.{GivesForm, limited, rewritten};
 
 use crate::fault::StepFault;
 use pf_forms::{Form, power};
@@ -14,7 +14,7 @@ use pf_ints::{FURTHEST, sat, wrap};
 /// An operation on numbers alone becomes its value.
 pub fn fold(form: &Form) -> Result<Form, StepFault>
     requires { (count : ℕ) × IsFormOver count (shape form.now) }
-    ensures { (ranges : List Range) → Gives result (rewritten Fold ranges (shape form.now)) }
+    ensures { (ranges : List Range) → GivesForm result (rewritten Fold ranges (shape form.now)) }
 {
     match form {
         Form::Var(_) | Form::Num(_) | Form::Pow(_) => Err(StepFault::NoMatch),
@@ -52,7 +52,7 @@ pub fn fold(form: &Form) -> Result<Form, StepFault>
 
 /// The form of a number, where that one is within the limits.
 fn number(n: i128) -> Result<Form, StepFault>
-    ensures { Gives result (limited (is_near n) (Num n)) }
+    ensures { GivesForm result (limited (is_within_forms n) (Num n)) }
 {
     if -FURTHEST <= n && n <= FURTHEST {
         Ok(Form::Num(n))

@@ -1,9 +1,9 @@
 ghost use Rattle.std.specs.Prelude.{◌≡◌, List, length, IfOk};
-ghost use Rattle.pf_ints.specs.Ranges.{Range};
-ghost use Rattle.pf_forms.specs.Shapes.{shape, Add, Mul};
-ghost use Rattle.pf_forms.specs.Values.{IsFormOver};
+ghost use Rattle.pf_ints.specs.Meaning.Ranges.{Range};
+ghost use Rattle.pf_forms.specs.Meaning.Shapes.{shape, Add, Mul};
+ghost use Rattle.pf_forms.specs.Meaning.Values.{IsFormOver};
 ghost use Rattle.pf_forms.specs.declared.axioms.Axiom.TheVariants.{AddComm, AddAssoc, AddBack, AddZero, SubAdd, Cancel, MulComm, MulAssoc, MulBack, MulOne, Distribute, DropWrap, WrapWrap, WrapAdd, WrapMul};
-ghost use Rattle.pf_axioms.specs.Steps.{Gives, rewritten};
+ghost use Rattle.pf_axioms.specs.Meaning.AxiomSteps.{GivesForm, rewritten};
 
 use crate::fault::StepFault;
 use pf_forms::{Form, boxed, equal, form_bounds};
@@ -25,9 +25,9 @@ fn product(alloc: Global, x: &Form, y: &Form) -> Result<Box<Form>, AllocError>
 }
 
 /// x + y becomes y + x.
-#[tactic(auto, unfolding(crate::specs::Steps::in_sum))]
+#[tactic(auto, unfolding(crate::specs::Meaning::AxiomSteps::in_sum))]
 pub fn add_comm(alloc: Global, form: &Form) -> Result<Form, StepFault>
-    ensures { (ranges : List Range) → Gives result (rewritten AddComm ranges (shape form.now)) }
+    ensures { (ranges : List Range) → GivesForm result (rewritten AddComm ranges (shape form.now)) }
 {
     let Form::Add(x, y) = form else {
         return Err(StepFault::NoMatch);
@@ -36,9 +36,9 @@ pub fn add_comm(alloc: Global, form: &Form) -> Result<Form, StepFault>
 }
 
 /// (x + y) + z becomes x + (y + z).
-#[tactic(auto, unfolding(crate::specs::Steps::in_sum_left))]
+#[tactic(auto, unfolding(crate::specs::Meaning::AxiomSteps::in_sum_left))]
 pub fn add_assoc(alloc: Global, form: &Form) -> Result<Form, StepFault>
-    ensures { (ranges : List Range) → Gives result (rewritten AddAssoc ranges (shape form.now)) }
+    ensures { (ranges : List Range) → GivesForm result (rewritten AddAssoc ranges (shape form.now)) }
 {
     let Form::Add(first, z) = form else {
         return Err(StepFault::NoMatch);
@@ -50,9 +50,9 @@ pub fn add_assoc(alloc: Global, form: &Form) -> Result<Form, StepFault>
 }
 
 /// x + (y + z) becomes (x + y) + z.
-#[tactic(auto, unfolding(crate::specs::Steps::in_sum_right))]
+#[tactic(auto, unfolding(crate::specs::Meaning::AxiomSteps::in_sum_right))]
 pub fn add_back(alloc: Global, form: &Form) -> Result<Form, StepFault>
-    ensures { (ranges : List Range) → Gives result (rewritten AddBack ranges (shape form.now)) }
+    ensures { (ranges : List Range) → GivesForm result (rewritten AddBack ranges (shape form.now)) }
 {
     let Form::Add(x, rest) = form else {
         return Err(StepFault::NoMatch);
@@ -64,9 +64,9 @@ pub fn add_back(alloc: Global, form: &Form) -> Result<Form, StepFault>
 }
 
 /// x + 0 becomes x.
-#[tactic(auto, unfolding(crate::specs::Steps::in_add_zero))]
+#[tactic(auto, unfolding(crate::specs::Meaning::AxiomSteps::in_add_zero))]
 pub fn add_zero(alloc: Global, form: &Form) -> Result<Form, StepFault>
-    ensures { (ranges : List Range) → Gives result (rewritten AddZero ranges (shape form.now)) }
+    ensures { (ranges : List Range) → GivesForm result (rewritten AddZero ranges (shape form.now)) }
 {
     let Form::Add(x, zero) = form else {
         return Err(StepFault::NoMatch);
@@ -78,9 +78,9 @@ pub fn add_zero(alloc: Global, form: &Form) -> Result<Form, StepFault>
 }
 
 /// x - y becomes x + (-1) * y.
-#[tactic(auto, unfolding(crate::specs::Steps::in_difference))]
+#[tactic(auto, unfolding(crate::specs::Meaning::AxiomSteps::in_difference))]
 pub fn sub_add(alloc: Global, form: &Form) -> Result<Form, StepFault>
-    ensures { (ranges : List Range) → Gives result (rewritten SubAdd ranges (shape form.now)) }
+    ensures { (ranges : List Range) → GivesForm result (rewritten SubAdd ranges (shape form.now)) }
 {
     let Form::Sub(x, y) = form else {
         return Err(StepFault::NoMatch);
@@ -91,9 +91,9 @@ pub fn sub_add(alloc: Global, form: &Form) -> Result<Form, StepFault>
 }
 
 /// x + (-1) * x becomes 0.
-#[tactic(auto, unfolding(crate::specs::Steps::in_cancel))]
+#[tactic(auto, unfolding(crate::specs::Meaning::AxiomSteps::in_cancel))]
 pub fn cancel(form: &Form) -> Result<Form, StepFault>
-    ensures { (ranges : List Range) → Gives result (rewritten Cancel ranges (shape form.now)) }
+    ensures { (ranges : List Range) → GivesForm result (rewritten Cancel ranges (shape form.now)) }
 {
     let Form::Add(x, product) = form else {
         return Err(StepFault::NoMatch);
@@ -112,9 +112,9 @@ pub fn cancel(form: &Form) -> Result<Form, StepFault>
 }
 
 /// x * y becomes y * x.
-#[tactic(auto, unfolding(crate::specs::Steps::in_product))]
+#[tactic(auto, unfolding(crate::specs::Meaning::AxiomSteps::in_product))]
 pub fn mul_comm(alloc: Global, form: &Form) -> Result<Form, StepFault>
-    ensures { (ranges : List Range) → Gives result (rewritten MulComm ranges (shape form.now)) }
+    ensures { (ranges : List Range) → GivesForm result (rewritten MulComm ranges (shape form.now)) }
 {
     let Form::Mul(x, y) = form else {
         return Err(StepFault::NoMatch);
@@ -123,9 +123,9 @@ pub fn mul_comm(alloc: Global, form: &Form) -> Result<Form, StepFault>
 }
 
 /// (x * y) * z becomes x * (y * z).
-#[tactic(auto, unfolding(crate::specs::Steps::in_product_left))]
+#[tactic(auto, unfolding(crate::specs::Meaning::AxiomSteps::in_product_left))]
 pub fn mul_assoc(alloc: Global, form: &Form) -> Result<Form, StepFault>
-    ensures { (ranges : List Range) → Gives result (rewritten MulAssoc ranges (shape form.now)) }
+    ensures { (ranges : List Range) → GivesForm result (rewritten MulAssoc ranges (shape form.now)) }
 {
     let Form::Mul(first, z) = form else {
         return Err(StepFault::NoMatch);
@@ -137,9 +137,9 @@ pub fn mul_assoc(alloc: Global, form: &Form) -> Result<Form, StepFault>
 }
 
 /// x * (y * z) becomes (x * y) * z.
-#[tactic(auto, unfolding(crate::specs::Steps::in_product_right))]
+#[tactic(auto, unfolding(crate::specs::Meaning::AxiomSteps::in_product_right))]
 pub fn mul_back(alloc: Global, form: &Form) -> Result<Form, StepFault>
-    ensures { (ranges : List Range) → Gives result (rewritten MulBack ranges (shape form.now)) }
+    ensures { (ranges : List Range) → GivesForm result (rewritten MulBack ranges (shape form.now)) }
 {
     let Form::Mul(x, rest) = form else {
         return Err(StepFault::NoMatch);
@@ -151,9 +151,9 @@ pub fn mul_back(alloc: Global, form: &Form) -> Result<Form, StepFault>
 }
 
 /// 1 * x becomes x.
-#[tactic(auto, unfolding(crate::specs::Steps::in_mul_one))]
+#[tactic(auto, unfolding(crate::specs::Meaning::AxiomSteps::in_mul_one))]
 pub fn mul_one(alloc: Global, form: &Form) -> Result<Form, StepFault>
-    ensures { (ranges : List Range) → Gives result (rewritten MulOne ranges (shape form.now)) }
+    ensures { (ranges : List Range) → GivesForm result (rewritten MulOne ranges (shape form.now)) }
 {
     let Form::Mul(one, x) = form else {
         return Err(StepFault::NoMatch);
@@ -165,9 +165,9 @@ pub fn mul_one(alloc: Global, form: &Form) -> Result<Form, StepFault>
 }
 
 /// x * (y + z) becomes x * y + x * z.
-#[tactic(auto, unfolding(crate::specs::Steps::in_distribute))]
+#[tactic(auto, unfolding(crate::specs::Meaning::AxiomSteps::in_distribute))]
 pub fn distribute(alloc: Global, form: &Form) -> Result<Form, StepFault>
-    ensures { (ranges : List Range) → Gives result (rewritten Distribute ranges (shape form.now)) }
+    ensures { (ranges : List Range) → GivesForm result (rewritten Distribute ranges (shape form.now)) }
 {
     let Form::Mul(x, rest) = form else {
         return Err(StepFault::NoMatch);
@@ -179,10 +179,10 @@ pub fn distribute(alloc: Global, form: &Form) -> Result<Form, StepFault>
 }
 
 /// x wrapped to t becomes x, where the interval of x lies in t.
-#[tactic(auto, unfolding(crate::specs::Steps::in_wrap))]
+#[tactic(auto, unfolding(crate::specs::Meaning::AxiomSteps::in_wrap))]
 pub fn drop_wrap(alloc: Global, form: &Form, ranges: &IntervalList) -> Result<Form, StepFault>
     requires { IsFormOver (length ranges.now) (shape form.now) }
-    ensures { Gives result (rewritten DropWrap ranges.now (shape form.now)) }
+    ensures { GivesForm result (rewritten DropWrap ranges.now (shape form.now)) }
 {
     let Form::Wrap(t, x) = form else {
         return Err(StepFault::NoMatch);
@@ -198,9 +198,9 @@ pub fn drop_wrap(alloc: Global, form: &Form, ranges: &IntervalList) -> Result<Fo
 }
 
 /// x wrapped to u and then to t is only wrapped to t, where u is at least as wide.
-#[tactic(auto, unfolding(crate::specs::Steps::in_wrap_wrap))]
+#[tactic(auto, unfolding(crate::specs::Meaning::AxiomSteps::in_wrap_wrap))]
 pub fn wrap_wrap(alloc: Global, form: &Form) -> Result<Form, StepFault>
-    ensures { (ranges : List Range) → Gives result (rewritten WrapWrap ranges (shape form.now)) }
+    ensures { (ranges : List Range) → GivesForm result (rewritten WrapWrap ranges (shape form.now)) }
 {
     let Form::Wrap(t, inner) = form else {
         return Err(StepFault::NoMatch);
@@ -215,9 +215,9 @@ pub fn wrap_wrap(alloc: Global, form: &Form) -> Result<Form, StepFault>
 }
 
 /// A sum that is wrapped to t loses the wrap to u of its first part, where u is at least as wide.
-#[tactic(auto, unfolding(crate::specs::Steps::in_wrap_add))]
+#[tactic(auto, unfolding(crate::specs::Meaning::AxiomSteps::in_wrap_add))]
 pub fn wrap_add(alloc: Global, form: &Form) -> Result<Form, StepFault>
-    ensures { (ranges : List Range) → Gives result (rewritten WrapAdd ranges (shape form.now)) }
+    ensures { (ranges : List Range) → GivesForm result (rewritten WrapAdd ranges (shape form.now)) }
 {
     let Form::Wrap(outer, whole) = form else {
         return Err(StepFault::NoMatch);
@@ -235,9 +235,9 @@ pub fn wrap_add(alloc: Global, form: &Form) -> Result<Form, StepFault>
 }
 
 /// A product that is wrapped to t loses the wrap to u of its first part, where u is at least as wide.
-#[tactic(auto, unfolding(crate::specs::Steps::in_wrap_mul))]
+#[tactic(auto, unfolding(crate::specs::Meaning::AxiomSteps::in_wrap_mul))]
 pub fn wrap_mul(alloc: Global, form: &Form) -> Result<Form, StepFault>
-    ensures { (ranges : List Range) → Gives result (rewritten WrapMul ranges (shape form.now)) }
+    ensures { (ranges : List Range) → GivesForm result (rewritten WrapMul ranges (shape form.now)) }
 {
     let Form::Wrap(t, whole) = form else {
         return Err(StepFault::NoMatch);

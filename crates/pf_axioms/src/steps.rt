@@ -1,7 +1,7 @@
 ghost use Rattle.std.specs.Prelude.{◌≡◌, length, IfOk};
-ghost use Rattle.pf_forms.specs.Shapes.{shape};
-ghost use Rattle.pf_forms.specs.Values.{IsFormOver};
-ghost use Rattle.pf_axioms.specs.Steps.{IsStep, Keeps, Gives, answer_of, rewritten};
+ghost use Rattle.pf_forms.specs.Meaning.Shapes.{shape};
+ghost use Rattle.pf_forms.specs.Meaning.Values.{IsFormOver};
+ghost use Rattle.pf_axioms.specs.Meaning.AxiomSteps.{AxiomStep, KeepsValue, GivesForm, answer_of, rewritten};
 
 use crate::fault::StepFault;
 use crate::folds::fold;
@@ -22,9 +22,9 @@ pub fn apply(
     ranges: &IntervalList,
 ) -> Result<Form, StepFault>
     requires { IsFormOver (length ranges.now) (shape form.now) }
-    ensures exactly { IsStep «axiom» ranges.now (shape form.now) (answer_of result) }
-    ensures keeps { IfOk result (λ g. Keeps ranges.now (shape form.now) (shape g)) }
-    ensures value { Gives result (rewritten «axiom» ranges.now (shape form.now)) }
+    ensures exactly { AxiomStep «axiom» ranges.now (shape form.now) (answer_of result) }
+    ensures keeps { IfOk result (λ g. KeepsValue ranges.now (shape form.now) (shape g)) }
+    ensures value { GivesForm result (rewritten «axiom» ranges.now (shape form.now)) }
 {
     rewrite(alloc, axiom, form, ranges)
 }
@@ -36,7 +36,7 @@ fn rewrite(
     ranges: &IntervalList,
 ) -> Result<Form, StepFault>
     requires { IsFormOver (length ranges.now) (shape form.now) }
-    ensures { Gives result (rewritten «axiom» ranges.now (shape form.now)) }
+    ensures { GivesForm result (rewritten «axiom» ranges.now (shape form.now)) }
 {
     match axiom {
         Axiom::AddComm => add_comm(alloc, form),

@@ -3,12 +3,12 @@ use Rattle.std.proofs.Common.{◌≡◌, refl, sym, ap, ◌∙◌, subst, ℕ, �
 use Rattle.std.specs.Prelude.{◌==◌, int_lt, unsigned_abs, option_map, option_and_then}
 use Rattle.std.specs.Option.{option_map_or}
 use Rattle.std.specs.Int.{int_max, int_min}
-use Rattle.pf_ints.specs.Whole.{floor_div}
-use Rattle.pf_ints.specs.Lanes.{wrapped, clamped}
+use Rattle.pf_ints.specs.Meaning.Whole.{floor_div}
+use Rattle.pf_ints.specs.Meaning.Lanes.{wrapped, clamped}
 use Rattle.pf_forms.specs.declared.form.Form.{Form}
-use Rattle.pf_forms.specs.Shapes.{Shape, shape, Var, Num, Pow, Add, Sub, Mul, FloorDiv, Min, Max, Abs, Sel, Wrap, Sat}
-use Rattle.pf_forms.specs.Values.{FVal, IsFormOver}
-use Rattle.pf_forms.specs.Parts.{child, part_at, with_child, put_at}
+use Rattle.pf_forms.specs.Meaning.Shapes.{Shape, shape, Var, Num, Pow, Add, Sub, Mul, FloorDiv, Min, Max, Abs, Sel, Wrap, Sat}
+use Rattle.pf_forms.specs.Meaning.Values.{FVal, IsFormOver}
+use Rattle.pf_forms.specs.Meaning.Parts.{child, part_at, with_child, put_at}
 
 -- which child it is, where there is one
 one_is : (a : Bool) (x w : Shape) → cond a (Some x) None ≡ Some w → w ≡ x

@@ -1,6 +1,1 @@
-pub mod Shapes
-pub mod Equality
-pub mod Values
-pub mod Parts
-pub mod FormTexts
-pub mod Axioms
+pub mod Meaning

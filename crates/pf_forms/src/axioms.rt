@@ -1,5 +1,5 @@
 ghost use Rattle.std.specs.Prelude.{◌≡◌, ◌≢◌, MatchOption};
-ghost use Rattle.pf_forms.specs.Axioms.{axiom_name};
+ghost use Rattle.pf_forms.specs.Meaning.Axioms.{axiom_name};
 
 /// A law by which a form may be rewritten.
 #[derive(Clone, Copy, Debug, PartialEq, Eq)]

@@ -1,7 +1,7 @@
 ghost use Rattle.std.specs.Prelude.{◌≡◌, ℕ, ℤ, pos, ◌^◌, ◌<◌, length, IfSome};
-ghost use Rattle.pf_ints.specs.Ranges.{Holds};
-ghost use Rattle.pf_forms.specs.Shapes.{shape};
-ghost use Rattle.pf_forms.specs.Values.{FVal, AreIn, G, IsFormOver};
+ghost use Rattle.pf_ints.specs.Meaning.Ranges.{Includes};
+ghost use Rattle.pf_forms.specs.Meaning.Shapes.{shape};
+ghost use Rattle.pf_forms.specs.Meaning.Values.{FVal, AreIn, G, IsFormOver};
 
 use crate::form::Form;
 use pf_ints::{Interval, IntervalList};
@@ -12,7 +12,7 @@ use pf_ints::{Interval, IntervalList};
 pub fn form_bounds(form: &Form, ranges: &IntervalList) -> Option<Interval>
     requires { IsFormOver (length ranges.now) (shape form.now) }
     ensures value { result ≡ G ranges.now (shape form.now) }
-    ensures holds { IfSome result (λ r. (v : ℕ → ℤ) → AreIn ranges.now v → Holds r (FVal v (shape form.now))) }
+    ensures holds { IfSome result (λ r. (v : ℕ → ℤ) → AreIn ranges.now v → Includes r (FVal v (shape form.now))) }
 {
     bounds(form, ranges.as_slice())
 }

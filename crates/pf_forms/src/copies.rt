@@ -1,5 +1,5 @@
 ghost use Rattle.std.specs.Prelude.{◌≡◌, IfOk};
-ghost use Rattle.pf_forms.specs.Shapes.{shape};
+ghost use Rattle.pf_forms.specs.Meaning.Shapes.{shape};
 
 use crate::form::Form;
 use std::alloc::{AllocError, Global};

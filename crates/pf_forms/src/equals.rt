@@ -1,6 +1,6 @@
 ghost use Rattle.std.specs.Prelude.{◌≡◌, ◌↔◌, IsTrue};
-ghost use Rattle.pf_forms.specs.Shapes.{shape};
-ghost use Rattle.pf_forms.specs.Equality.{same, same_type};
+ghost use Rattle.pf_forms.specs.Meaning.Shapes.{shape};
+ghost use Rattle.pf_forms.specs.Meaning.Equality.{same, same_type};
 
 use crate::form::Form;
 use pf_ints::LaneType;

@@ -1,7 +1,7 @@
 ghost use Rattle.std.specs.Prelude.{◌≡◌, ℕ, ℤ, IsSome, IfSome, option_map};
-ghost use Rattle.pf_forms.specs.Shapes.{shape};
-ghost use Rattle.pf_forms.specs.Values.{FVal, IsFormOver};
-ghost use Rattle.pf_forms.specs.Parts.{child, part_at, put_at};
+ghost use Rattle.pf_forms.specs.Meaning.Shapes.{shape};
+ghost use Rattle.pf_forms.specs.Meaning.Values.{FVal, IsFormOver};
+ghost use Rattle.pf_forms.specs.Meaning.Parts.{child, part_at, put_at};
 
 use crate::form::Form;
 use pf_ints::Path;

@@ -1,12 +1,12 @@
 ghost use Rattle.std.specs.Prelude.{◌≡◌, ◌-◌, ◌^◌, min};
-ghost use Rattle.pf_forms.specs.Shapes.{shape};
-ghost use Rattle.pf_forms.specs.Parts.{node_count};
+ghost use Rattle.pf_forms.specs.Meaning.Shapes.{shape};
+ghost use Rattle.pf_forms.specs.Meaning.Parts.{form_node_count};
 
 use crate::form::Form;
 
 /// The number of nodes, or 2^64 - 1 where there are more. The divisor of a quotient is a node.
 pub fn size(form: &Form) -> u64
-    ensures { result ≡ min (node_count (shape form.now)) (2 ^ 64 - 1) }
+    ensures { result ≡ min (form_node_count (shape form.now)) (2 ^ 64 - 1) }
 {
     match form {
         Form::Var(_) | Form::Num(_) | Form::Pow(_) => 1,

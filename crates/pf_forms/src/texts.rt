@@ -1,10 +1,11 @@
 ghost use Rattle.std.specs.Prelude.{◌≡◌, ◌++◌, ◌<◌, length, IfOk, OnOk, decimal};
-ghost use Rattle.pf_forms.specs.Shapes.{shape};
-ghost use Rattle.pf_forms.specs.Values.{IsFormOver};
-ghost use Rattle.pf_forms.specs.FormTexts.{form_text, next_text, opening, typed_opening, type_word, power_text};
+ghost use Rattle.pf_forms.specs.Meaning.Shapes.{shape};
+ghost use Rattle.pf_forms.specs.Meaning.Values.{IsFormOver};
+ghost use Rattle.pf_forms.specs.Meaning.FormTexts.{form_text, next_text, form_opening, typed_opening, type_word, power_text};
 
 use crate::form::Form;
-use pf_ints::{LaneType, Name, NameList, push_number, push_whole};
+use pf_ints::{LaneType, Name, NameList};
+use pf_text::{push_number, push_whole};
 use std::alloc::{AllocError, Global};
 
 /// The text of a form whose variables have their names in `names`.
@@ -33,7 +34,7 @@ fn write_power(text: &mut Vec<u8>, e: u8) -> Result<(), AllocError>
 
 /// Writes what stands before the parts of a form.
 fn open(text: &mut Vec<u8>, form: &Form) -> Result<(), AllocError>
-    ensures { OnOk result (text.new.items ≡ text.old.items ++ opening (shape form.now)) }
+    ensures { OnOk result (text.new.items ≡ text.old.items ++ form_opening (shape form.now)) }
 {
     match form {
         Form::Add(_, _) => text.extend_from_slice(b"add("),

@@ -4,8 +4,8 @@ use Rattle.std.specs.List.{AllByRecursion, concat}
 use Rattle.std.proofs.lemmas.Bool.{cases_Bool, eqb-true}
 use Rattle.std.proofs.lemmas.Bool.Decides.{nat_tests}
 use Rattle.std.proofs.lemmas.List.{length-append}
-use Rattle.pf_images.specs.Pgm.{is_white, ends_comment, IsPiece, IsBlank, begins_blank}
-use Rattle.pf_images.specs.Reading.{blank_count}
+use Rattle.pf_images.specs.Meaning.Pgm.{is_white, ends_comment, IsPiece, IsBlank, begins_blank}
+use Rattle.pf_images.specs.Steps.Reading.{blank_count}
 
 -- pieces of white space, or none
 abbrev pub IsSpace : List ℕ → Type 0

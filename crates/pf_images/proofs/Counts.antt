@@ -1,7 +1,7 @@
 -- Digits and white space, counted from the front.
 use Rattle.std.proofs.Common.{◌≡◌, ℕ, ◌+◌, ◌-◌, ◌*◌, ◌<◌, min, List, [], ◌∷◌, length, drop, get_or, refl, sym, ap, ◌∙◌, arith}
 use Rattle.std.proofs.lemmas.List.{drop_more}
-use Rattle.pf_images.specs.Pgm.{number_from}
+use Rattle.pf_images.specs.Meaning.Pgm.{number_from}
 
 -- a number that is kept at the cap goes on as the number itself does
 pub number_from_capped : (a : ℕ) (ds : List ℕ) → min (number_from (min a 65536) ds) 65536 ≡ min (number_from a ds) 65536

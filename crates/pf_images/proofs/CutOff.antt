@@ -2,12 +2,12 @@
 use Rattle.std.proofs.Common.{◌≡◌, ℕ, suc, ◌<◌, ◌≤◌, List, [], ◌∷◌, ◌++◌, length, take, drop, Bool, true, false, cond, ◌||◌, eqb, Result, Ok, Err, refl, sym, ap, ◌∙◌, append_assoc, arith, ◌⊎◌, inl, inr, subst}
 use Rattle.std.proofs.lemmas.Bool.{cases_Bool, eqb-true, eqb-false, ne_eqb, or_parts}
 use Rattle.std.proofs.lemmas.List.{length-append, length-take-le, take-append-drop, take_at, drop_at, append-nil}
-use Rattle.pf_ints.specs.Words.{is_digit}
+use Rattle.pf_text.specs.Meaning.Words.{is_digit}
 use Rattle.pf_images.specs.declared.fault.Fault.{Fault}
 use Rattle.pf_images.specs.declared.fault.PgmKind.TheVariants.{Number}
-use Rattle.pf_images.specs.Pgm.{begins_blank, number_from, IsNumber, IsBlank}
-use Rattle.pf_images.specs.Faults.{IsWhole, IsBegun, Stops}
-use Rattle.pf_images.specs.Reading.{◌>>=◌, at_these, blank_count, digit_count, is_open, begun, digits_at, field_at}
+use Rattle.pf_images.specs.Meaning.Pgm.{begins_blank, number_from, IsPgmNumber, IsBlank}
+use Rattle.pf_images.specs.Meaning.Faults.{IsWhole, IsNumberBegun, Stops}
+use Rattle.pf_images.specs.Steps.Reading.{◌>>=◌, at_these, blank_count, digit_count, is_open, begun, digits_at, field_at}
 use Rattle.pf_images.proofs.Blanks.{counted_blank, blank_again, blank_begins}
 use Rattle.pf_images.proofs.Fields.{BeginsBlank, all_digits, digit_count-le, digit_count_again, first_digit, field_again}
 
@@ -38,19 +38,19 @@ begun_stops comments (a ∷ more) f e =
 
 -- ---- what begins a number
 
-one : IsNumber (49 ∷ []) 1
+one : IsPgmNumber (49 ∷ []) 1
 one = (omega arith, refl, refl)
 
 line_end : IsBlank (10 ∷ [])
 line_end = ((10 ∷ []) ∷ [], omega arith, (inl (10, refl, refl), tt), refl)
 
-pub begun_digits : (comments : Bool) (blank digits : List ℕ) (n : ℕ) → IsBlank blank → IsNumber digits n → IsBegun comments (blank ++ digits)
+pub begun_digits : (comments : Bool) (blank digits : List ℕ) (n : ℕ) → IsBlank blank → IsPgmNumber digits n → IsNumberBegun comments (blank ++ digits)
 begun_digits comments blank digits n b h = (32, [], (blank ++ digits, n, 32, (blank, digits, b, h, refl), refl, refl))
 
-pub begun_blank : (comments : Bool) (blank : List ℕ) → IsBlank blank → IsBegun comments blank
+pub begun_blank : (comments : Bool) (blank : List ℕ) → IsBlank blank → IsNumberBegun comments blank
 begun_blank comments blank b = (49, 32 ∷ [], (blank ++ 49 ∷ [], 1, 32, (blank, 49 ∷ [], b, one, refl), refl, sym (append_assoc blank (49 ∷ []) (32 ∷ []))))
 
-pub begun_open : (comments : Bool) (text : List ℕ) → IsBlank (text ++ 10 ∷ []) → IsBegun comments text
+pub begun_open : (comments : Bool) (text : List ℕ) → IsBlank (text ++ 10 ∷ []) → IsNumberBegun comments text
 begun_open comments text b = (
   10,
   49 ∷ 32 ∷ [],
@@ -64,7 +64,7 @@ begun_open comments text b = (
   ),
 )
 
-pub begun_none : (comments : Bool) → IsBegun comments []
+pub begun_none : (comments : Bool) → IsNumberBegun comments []
 begun_none comments = begun_open comments [] line_end
 
 -- ---- what stops a count
@@ -121,7 +121,7 @@ no_digits : (comments : Bool) (c : ℕ) (cs : List ℕ) → is_digit c ≡ false
 unfolding digits_at
 no_digits comments c cs n = rw n refl
 
-no_end : (comments : Bool) (digits : List ℕ) (c : ℕ) (cs : List ℕ) (n : ℕ) → IsNumber digits n → is_digit c ≡ false → begins_blank comments c ≡ false → digits_at comments (digits ++ c ∷ cs) ≡ Err (at_these (c ∷ cs) Number)
+no_end : (comments : Bool) (digits : List ℕ) (c : ℕ) (cs : List ℕ) (n : ℕ) → IsPgmNumber digits n → is_digit c ≡ false → begins_blank comments c ≡ false → digits_at comments (digits ++ c ∷ cs) ≡ Err (at_these (c ∷ cs) Number)
 unfolding digits_at begun
 no_end comments digits c cs n h d b =
     let count : digit_count (digits ++ c ∷ cs) ≡ length digits = digit_count_again digits c cs h.1 d in
@@ -137,7 +137,7 @@ blank_cut comments blank c rest b n d more w = not_whole comments (blank ++ c �
     read = rw (blank_again blank c more b n, drop_at blank (c ∷ more) (length blank) refl) (no_digits comments c more d)
 
 -- behind digits a byte that is none and ends no number
-pub digits_cut : (comments : Bool) (blank digits : List ℕ) (n c : ℕ) (rest : List ℕ) → IsBlank blank → IsNumber digits n → is_digit c ≡ false → begins_blank comments c ≡ false → Stops comments (blank ++ digits) (c ∷ rest)
+pub digits_cut : (comments : Bool) (blank digits : List ℕ) (n c : ℕ) (rest : List ℕ) → IsBlank blank → IsPgmNumber digits n → is_digit c ≡ false → begins_blank comments c ≡ false → Stops comments (blank ++ digits) (c ∷ rest)
 unfolding field_at
 digits_cut comments blank digits n c rest b h d s more w = not_whole comments (blank ++ digits ++ c ∷ more) (at_these (c ∷ more) Number) read w
   where
@@ -166,7 +166,7 @@ pub record FieldStops (comments : Bool) (bytes : List ℕ) (f : Fault) : Type 0 
   pub part : List ℕ
   pub here : List ℕ
   pub fault : at_these here Number ≡ f
-  pub begun : IsBegun comments part
+  pub begun : IsNumberBegun comments part
   pub stops : Stops comments part here
   pub some : 0 < length part
   pub parts : bytes ≡ part ++ here
@@ -203,7 +203,7 @@ no_number_end comments bytes rest f b some e fault stops =
     let long : n ≤ length behind = digit_count-le behind in
     let left : 0 < length behind = omega arith in
     let blank : IsBlank (take k bytes) = subst (λ (t : List ℕ). 0 < length (drop (blank_count false t) t) → IsBlank (take (blank_count false t) t)) (sym b.2) (counted_blank b.0 b.1 b.3) left in
-    let number : IsNumber (take n behind) (number_from 0 (take n behind)) = (omega (arith, length-take-le n behind long), all_digits behind, refl) in
+    let number : IsPgmNumber (take n behind) (number_from 0 (take n behind)) = (omega (arith, length-take-le n behind long), all_digits behind, refl) in
     let first : 0 < length (take k bytes) = some_counted bytes b in
     record {
       part = take k bytes ++ take n behind;
@@ -216,7 +216,7 @@ no_number_end comments bytes rest f b some e fault stops =
     }
   where
     cut : (rest : List ℕ) → drop (digit_count (drop (blank_count false bytes) bytes)) (drop (blank_count false bytes) bytes) ≡ rest → ((c : ℕ) (cs : List ℕ) → rest ≡ c ∷ cs → begins_blank comments c ≡ false)
-        → (blank digits : List ℕ) → IsBlank blank → IsNumber digits (number_from 0 digits) → Stops comments (blank ++ digits) rest
+        → (blank digits : List ℕ) → IsBlank blank → IsPgmNumber digits (number_from 0 digits) → Stops comments (blank ++ digits) rest
     cut [] e s blank digits is number = tt
     cut (c ∷ cs) e s blank digits is number = digits_cut comments blank digits (number_from 0 digits) c cs is number (digit_stops (drop (blank_count false bytes) bytes) c cs e) (s c cs refl)
 

@@ -4,15 +4,15 @@ use Rattle.std.specs.Prelude.{codes}
 use Rattle.std.proofs.lemmas.Bool.{eq-eqb, and_from, ltb-true, le-leb, lt-ltb}
 use Rattle.std.proofs.lemmas.List.{length-append, length-drop, length-take-le, take-append-drop, append-nil}
 use Rattle.pf_ints.specs.declared.lane.LaneType.{LaneType}
-use Rattle.pf_ints.specs.Lanes.{lane_width}
-use Rattle.pf_ints.specs.Images.{Picture}
+use Rattle.pf_ints.specs.Meaning.Lanes.{lane_width}
+use Rattle.pf_ints.specs.Meaning.Images.{Picture}
 use Rattle.pf_images.specs.declared.fault.Fault.{Fault}
 use Rattle.pf_images.specs.declared.fault.PgmKind.{PgmKind}
 use Rattle.pf_images.specs.declared.fault.PgmKind.TheVariants.{Magic, Number, Size, Maxval, Short, Extra}
 use Rattle.pf_images.specs.declared.header.Header.{Header}
-use Rattle.pf_images.specs.Pgm.{begins_blank, number_from, IsField, IsHead, IsMaxval, sample_bytes}
-use Rattle.pf_images.specs.Faults.{IsSide, AreSizes, may_comment, Stops, IsNumberAt, IsBehindHeader, IsFaultBetween, IsFaultAt}
-use Rattle.pf_images.specs.Reading.{at_these, at_number, begun, field_at, side_of, height_of, maxval_of, magic_of, header_of, counted, parts_of, picture_of, image_of}
+use Rattle.pf_images.specs.Meaning.Pgm.{begins_blank, number_from, IsField, IsPgmHeader, IsMaxval, sample_bytes}
+use Rattle.pf_images.specs.Meaning.Faults.{IsSide, AreSizes, may_comment, Stops, IsNumberAt, IsBehindHeader, IsFaultBetween, IsFaultAt}
+use Rattle.pf_images.specs.Steps.Reading.{at_these, at_number, begun, field_at, side_of, header_height, maxval_of, magic_of, header_of, counted, parts_of, picture_of, image_of}
 use Rattle.pf_images.proofs.Fields.{BeginsBlank, begun_takes, FieldTakes, field_takes}
 use Rattle.pf_images.proofs.Headers.{HeaderTakes, header_takes, head_more, parts_more, at_maxval, at_third, at_height, at_second, at_width, at_first, at_start, magic_takes, side_takes, height_takes}
 use Rattle.pf_images.proofs.CutOff.{bind_err, test_err, pass_err, begun_stops, begun_none, front_cut, FieldStops, field_stops}
@@ -29,7 +29,7 @@ told ty bytes before here kind f e parts is = subst (IsTold ty bytes) e (before,
 
 -- ---- single steps
 
-cut_told : (ty : LaneType) (bytes head rest numbers : List ℕ) (f : Fault) → IsHead numbers head → AreSizes numbers → bytes ≡ head ++ rest → FieldStops (may_comment numbers) rest f → IsTold ty bytes f
+cut_told : (ty : LaneType) (bytes head rest numbers : List ℕ) (f : Fault) → IsPgmHeader numbers head → AreSizes numbers → bytes ≡ head ++ rest → FieldStops (may_comment numbers) rest f → IsTold ty bytes f
 cut_told ty bytes head rest numbers f is sizes parts s =
     told ty bytes (head ++ s.part) s.here Number f s.fault (parts_more bytes head rest s.part s.here parts s.parts)
     (record { numbers = numbers; head = head; part = s.part; head_is = is; sizes = sizes; begun = s.begun; stops = s.stops; ended = λ e. absurd (none s.part s.some e); parts = refl })
@@ -37,7 +37,7 @@ cut_told ty bytes head rest numbers f is sizes parts s =
     none : (part : List ℕ) → 0 < length part → part ≡ [] → ⊥
     none part some e = omega (arith, ap length e)
 
-number_told : (ty : LaneType) (bytes head rest numbers : List ℕ) (x : List ℕ × List ℕ) (kind : PgmKind) (f : Fault) → IsHead numbers head → AreSizes numbers → bytes ≡ head ++ rest
+number_told : (ty : LaneType) (bytes head rest numbers : List ℕ) (x : List ℕ × List ℕ) (kind : PgmKind) (f : Fault) → IsPgmHeader numbers head → AreSizes numbers → bytes ≡ head ++ rest
     → FieldTakes (may_comment numbers) rest x.0 x.1 → at_number x kind ≡ f → ((before here : List ℕ) → IsNumberAt numbers (number_from 0 x.0) before here → IsFaultBetween ty kind before here) → IsTold ty bytes f
 number_told ty bytes head rest numbers x kind f is sizes parts t e make =
     let here = x.0 ++ x.1 in
@@ -65,8 +65,8 @@ no_side field f e =
     let p = pass_err (leb 1 n && leb n 8192) (at_number field Size) n f e in
     (p.1, λ s. clash (leb 1 n && leb n 8192) (and_from _ _ (le-leb _ _ s.some) (le-leb _ _ s.most)) p.0)
 
-no_height : (width : ℕ) (field : List ℕ × List ℕ) (f : Fault) → height_of width field ≡ Err f → (at_number field Size ≡ f) × (AreSizes (number_from 0 field.0 ∷ width ∷ []) → ⊥)
-unfolding height_of
+no_height : (width : ℕ) (field : List ℕ × List ℕ) (f : Fault) → header_height width field ≡ Err f → (at_number field Size ≡ f) × (AreSizes (number_from 0 field.0 ∷ width ∷ []) → ⊥)
+unfolding header_height
 no_height width field f e =
     let n = number_from 0 field.0 in
     let fits : ℕ → Result ℕ Fault = λ m. cond (leb (width * m) 16777216) (Ok m) (Err (at_number field Size)) in
@@ -101,7 +101,7 @@ no_magic (a ∷ b ∷ more) f e =
 
 -- ---- the header, step by step
 
-third_told : (ty : LaneType) (bytes head rest : List ℕ) (w h : ℕ) (f : Fault) → IsHead (h ∷ w ∷ []) head → bytes ≡ head ++ rest → AreSizes (h ∷ w ∷ []) → BeginsBlank true rest → at_third ty w h rest ≡ Err f → IsTold ty bytes f
+third_told : (ty : LaneType) (bytes head rest : List ℕ) (w h : ℕ) (f : Fault) → IsPgmHeader (h ∷ w ∷ []) head → bytes ≡ head ++ rest → AreSizes (h ∷ w ∷ []) → BeginsBlank true rest → at_third ty w h rest ≡ Err f → IsTold ty bytes f
 third_told ty bytes head rest w h f is parts sizes b e =
     elim (bind_err (field_at false rest) (at_maxval ty w h) f e) [
       | inl a ↦ cut_told ty bytes head rest (h ∷ w ∷ []) f is sizes parts (field_stops false rest f b a)
@@ -118,14 +118,14 @@ third_told ty bytes head rest w h f is parts sizes b e =
     ok_no_err : (x : Header × List ℕ) (d : Fault) → ◌≡◌ {A = Result (Header × List ℕ) Fault} (Ok x) (Err d) → ⊥
     ok_no_err x d h = cc
 
-second_told : (ty : LaneType) (bytes head rest : List ℕ) (w : ℕ) (f : Fault) → IsHead (w ∷ []) head → bytes ≡ head ++ rest → AreSizes (w ∷ []) → BeginsBlank true rest → at_second ty w rest ≡ Err f → IsTold ty bytes f
+second_told : (ty : LaneType) (bytes head rest : List ℕ) (w : ℕ) (f : Fault) → IsPgmHeader (w ∷ []) head → bytes ≡ head ++ rest → AreSizes (w ∷ []) → BeginsBlank true rest → at_second ty w rest ≡ Err f → IsTold ty bytes f
 second_told ty bytes head rest w f is parts sizes b e =
     elim (bind_err (field_at true rest) (at_height ty w) f e) [
       | inl a ↦ cut_told ty bytes head rest (w ∷ []) f is sizes parts (field_stops true rest f b a)
       | inr a ↦
           let onward : ℕ → Result (Header × List ℕ) Fault = λ h. at_third ty w h a.0.1 in
           let t = field_takes true rest a.0 b a.1 in
-          elim (bind_err (height_of w a.0) onward f a.2) [
+          elim (bind_err (header_height w a.0) onward f a.2) [
             | inl m ↦
                 let n = no_height w a.0 f m in
                 number_told ty bytes head rest (w ∷ []) a.0 Size f is sizes parts t n.0 (λ before here at. (w ∷ [], number_from 0 a.0.0, at, omega arith, n.1))
@@ -135,7 +135,7 @@ second_told ty bytes head rest w f is parts sizes b e =
           ]
     ]
 
-first_told : (ty : LaneType) (bytes head rest : List ℕ) (f : Fault) → IsHead [] head → bytes ≡ head ++ rest → BeginsBlank true rest → at_first ty rest ≡ Err f → IsTold ty bytes f
+first_told : (ty : LaneType) (bytes head rest : List ℕ) (f : Fault) → IsPgmHeader [] head → bytes ≡ head ++ rest → BeginsBlank true rest → at_first ty rest ≡ Err f → IsTold ty bytes f
 first_told ty bytes head rest f is parts b e =
     elim (bind_err (field_at true rest) (at_width ty) f e) [
       | inl a ↦ cut_told ty bytes head rest [] f is tt parts (field_stops true rest f b a)

@@ -5,14 +5,14 @@ use Rattle.std.proofs.lemmas.Bool.{cases_Bool, eqb-true, and_parts, or_cases, an
 use Rattle.std.proofs.lemmas.List.{length-append, append-nil, drop_at}
 use Rattle.pf_text.proofs.Lists.{Fork, fork}
 use Rattle.pf_ints.specs.declared.lane.LaneType.{LaneType}
-use Rattle.pf_ints.specs.Lanes.{lane_width}
+use Rattle.pf_ints.specs.Meaning.Lanes.{lane_width}
 use Rattle.pf_images.specs.declared.fault.Fault.{Fault}
 use Rattle.pf_images.specs.declared.fault.PgmKind.{PgmKind}
 use Rattle.pf_images.specs.declared.fault.PgmKind.TheVariants.{Magic, Number, Size, Maxval, Short, Extra}
 use Rattle.pf_images.specs.declared.header.Header.{Header}
-use Rattle.pf_images.specs.Pgm.{is_white, begins_blank, number_from, IsNumber, IsBlank, IsHead, IsMaxval, sample_bytes}
-use Rattle.pf_images.specs.Faults.{IsSide, AreSizes, may_comment, IsWhole, IsBegun, Stops, IsNumberAt, IsBehindHeader, IsFaultBetween, IsFaultAt}
-use Rattle.pf_images.specs.Reading.{at_these, at_number, begun, field_at, side_of, height_of, maxval_of, magic_of, header_of, counted, parts_of, image_of}
+use Rattle.pf_images.specs.Meaning.Pgm.{is_white, begins_blank, number_from, IsPgmNumber, IsBlank, IsPgmHeader, IsMaxval, sample_bytes}
+use Rattle.pf_images.specs.Meaning.Faults.{IsSide, AreSizes, may_comment, IsWhole, IsNumberBegun, Stops, IsNumberAt, IsBehindHeader, IsFaultBetween, IsFaultAt}
+use Rattle.pf_images.specs.Steps.Reading.{at_these, at_number, begun, field_at, side_of, header_height, maxval_of, magic_of, header_of, counted, parts_of, image_of}
 use Rattle.pf_images.proofs.Blanks.{blank_begins}
 use Rattle.pf_images.proofs.Fields.{BeginsBlank, FieldTakes, field_takes, field_again, field_reads}
 use Rattle.pf_images.proofs.Headers.{at_third, at_second, at_first, magic_again, start_again, first_again, second_again, field_begins, side_again, header_again}
@@ -37,7 +37,7 @@ whole_once comments text more v w =
     rests : (x y : List ℕ × List ℕ) → ◌≡◌ {A = Result (List ℕ × List ℕ) Fault} (Ok x) (Ok y) → length x.1 ≡ suc (length more) → length y.1 ≡ 1 → length more ≡ 0
     rests x y e p q = let same : x ≡ y = cc in omega (arith, ap (λ (z : List ℕ × List ℕ). length z.1) same)
 
-begun_begins : (comments : Bool) (part rest : List ℕ) → IsBegun comments part → 0 < length part → BeginsBlank true (part ++ rest)
+begun_begins : (comments : Bool) (part rest : List ℕ) → IsNumberBegun comments part → 0 < length part → BeginsBlank true (part ++ rest)
 begun_begins comments [] rest b some = absurd (omega arith)
 begun_begins comments (p ∷ part) rest b some =
     let w = b.2 in
@@ -47,7 +47,7 @@ begun_begins comments (p ∷ part) rest b some =
     (p, part ++ rest, refl, rw same f.3)
 
 -- a text that begins a number isn't read past, and one that stops isn't read on
-cut_again : (comments : Bool) (part here : List ℕ) → IsBegun comments part → Stops comments part here → 0 < length part → field_at comments (part ++ here) ≡ Err (at_these here Number)
+cut_again : (comments : Bool) (part here : List ℕ) → IsNumberBegun comments part → Stops comments part here → 0 < length part → field_at comments (part ++ here) ≡ Err (at_these here Number)
 cut_again comments part here b s some =
     elim (cases_result (field_at comments (part ++ here))) [
       | inl x ↦ absurd (not_read x.0 (field_takes comments (part ++ here) x.0 (begun_begins comments part here b some) x.1))
@@ -98,7 +98,7 @@ start_cut (c ∷ cs) s =
       | inr b ↦ rw b refl
     ]
   where
-    one : IsNumber (49 ∷ []) 1
+    one : IsPgmNumber (49 ∷ []) 1
     one = (omega arith, refl, refl)
 
     hash : IsWhole true (35 ∷ 10 ∷ 49 ∷ 32 ∷ [])
@@ -131,30 +131,30 @@ start_err : (ty : LaneType) (rest : List ℕ) (f : Fault) → begun true rest �
 unfolding header_of
 start_err ty rest f e = rw (magic_again rest, e) refl
 
-head_none : (ty : LaneType) (head tail : List ℕ) → IsHead [] head → BeginsBlank true tail → header_of ty (head ++ tail) ≡ at_first ty tail
+head_none : (ty : LaneType) (head tail : List ℕ) → IsPgmHeader [] head → BeginsBlank true tail → header_of ty (head ++ tail) ≡ at_first ty tail
 head_none ty head tail is b = ap (λ (t : List ℕ). header_of ty (t ++ tail)) is ∙ start_again ty tail b
 
-head_one : (ty : LaneType) (head : List ℕ) (w : ℕ) (tail : List ℕ) → IsHead (w ∷ []) head → IsSide w → BeginsBlank true tail → header_of ty (head ++ tail) ≡ at_second ty w tail
+head_one : (ty : LaneType) (head : List ℕ) (w : ℕ) (tail : List ℕ) → IsPgmHeader (w ∷ []) head → IsSide w → BeginsBlank true tail → header_of ty (head ++ tail) ≡ at_second ty w tail
 head_one ty head w tail is wide b =
     let grouped : head ++ tail ≡ is.0 ++ (is.1 ++ tail) = ap (λ (t : List ℕ). t ++ tail) is.4 ∙ append_assoc is.0 is.1 tail in
     ap (header_of ty) grouped ∙ head_none ty is.0 (is.1 ++ tail) is.2 (field_begins is.1 tail w is.3) ∙ first_again ty is.1 w tail is.3 wide b
 
-head_two : (ty : LaneType) (head : List ℕ) (w h : ℕ) (tail : List ℕ) → IsHead (h ∷ w ∷ []) head → AreSizes (h ∷ w ∷ []) → BeginsBlank true tail → header_of ty (head ++ tail) ≡ at_third ty w h tail
+head_two : (ty : LaneType) (head : List ℕ) (w h : ℕ) (tail : List ℕ) → IsPgmHeader (h ∷ w ∷ []) head → AreSizes (h ∷ w ∷ []) → BeginsBlank true tail → header_of ty (head ++ tail) ≡ at_third ty w h tail
 head_two ty head w h tail is sizes b =
     let grouped : head ++ tail ≡ is.0 ++ (is.1 ++ tail) = ap (λ (t : List ℕ). t ++ tail) is.4 ∙ append_assoc is.0 is.1 tail in
     ap (header_of ty) grouped ∙ head_one ty is.0 w (is.1 ++ tail) is.2 sizes.0 (field_begins is.1 tail h is.3) ∙ second_again ty is.1 w h tail is.3 sizes.1 sizes.2 b
 
-cut_some : (ty : LaneType) (numbers head part here : List ℕ) → IsHead numbers head → AreSizes numbers → IsBegun (may_comment numbers) part → Stops (may_comment numbers) part here → 0 < length part
+cut_some : (ty : LaneType) (numbers head part here : List ℕ) → IsPgmHeader numbers head → AreSizes numbers → IsNumberBegun (may_comment numbers) part → Stops (may_comment numbers) part here → 0 < length part
     → header_of ty (head ++ (part ++ here)) ≡ Err (at_these here Number)
 cut_some ty [] head part here is sizes b s some = head_none ty head (part ++ here) is (begun_begins true part here b some) ∙ rw (cut_again true part here b s some) refl
 cut_some ty (w ∷ []) head part here is sizes b s some = head_one ty head w (part ++ here) is sizes (begun_begins true part here b some) ∙ rw (cut_again true part here b s some) refl
 cut_some ty (h ∷ w ∷ []) head part here is sizes b s some = head_two ty head w h (part ++ here) is sizes (begun_begins false part here b some) ∙ rw (cut_again false part here b s some) refl
 cut_some ty (a ∷ h ∷ w ∷ more) head part here is sizes b s some = absurd sizes
 
-cut_header : (ty : LaneType) (numbers head part here : List ℕ) → IsHead numbers head → AreSizes numbers → IsBegun (may_comment numbers) part → Stops (may_comment numbers) part here → (part ≡ [] → numbers ≡ [])
+cut_header : (ty : LaneType) (numbers head part here : List ℕ) → IsPgmHeader numbers head → AreSizes numbers → IsNumberBegun (may_comment numbers) part → Stops (may_comment numbers) part here → (part ≡ [] → numbers ≡ [])
     → header_of ty (head ++ (part ++ here)) ≡ Err (at_these here Number)
 cut_header ty numbers head [] here is sizes b s ended =
-    let first : head ≡ codes "P5" = subst (λ (ns : List ℕ). IsHead ns head) (ended refl) is in
+    let first : head ≡ codes "P5" = subst (λ (ns : List ℕ). IsPgmHeader ns head) (ended refl) is in
     let stops : Stops true [] here = subst (λ (ns : List ℕ). Stops (may_comment ns) [] here) (ended refl) s in
     ap (λ (t : List ℕ). header_of ty (t ++ here)) first ∙ start_err ty here (at_these here Number) (start_cut here stops)
 cut_header ty numbers head (p ∷ part) here is sizes b s ended = cut_some ty numbers head (p ∷ part) here is sizes b s (omega arith)
@@ -167,8 +167,8 @@ side_refused field n e never =
     let fails : (leb 1 n && leb n 8192) ≡ false = false_from_ne_true _ (λ t. let p = and_parts (leb 1 n) (leb n 8192) t in never (record { some = leb-true _ _ p.0; most = leb-true _ _ p.1 })) in
     rw (e, fails) refl
 
-height_refused : (w : ℕ) (field : List ℕ × List ℕ) (n : ℕ) → IsSide w → number_from 0 field.0 ≡ n → (AreSizes (n ∷ w ∷ []) → ⊥) → height_of w field ≡ Err (at_number field Size)
-unfolding height_of
+height_refused : (w : ℕ) (field : List ℕ × List ℕ) (n : ℕ) → IsSide w → number_from 0 field.0 ≡ n → (AreSizes (n ∷ w ∷ []) → ⊥) → header_height w field ≡ Err (at_number field Size)
+unfolding header_height
 height_refused w field n wide e never =
     elim (cases_Bool (leb 1 n && leb n 8192)) [
       | inl t ↦
@@ -191,7 +191,7 @@ maxval_refused ty field n e never =
 same_place : (digits rest : List ℕ) (kind : PgmKind) → at_number (digits, rest) kind ≡ at_these (digits ++ rest) kind
 same_place digits rest kind = ap (λ (n : ℕ). let f : Fault = record { left = n; kind = kind } in f) (sym (length-append digits rest))
 
-size_header : (ty : LaneType) (numbers : List ℕ) (n : ℕ) (head blank digits rest : List ℕ) → IsHead numbers head → AreSizes numbers → IsBlank blank → IsNumber digits n → BeginsBlank (may_comment numbers) rest
+size_header : (ty : LaneType) (numbers : List ℕ) (n : ℕ) (head blank digits rest : List ℕ) → IsPgmHeader numbers head → AreSizes numbers → IsBlank blank → IsPgmNumber digits n → BeginsBlank (may_comment numbers) rest
     → length numbers ≤ 1 → (AreSizes (n ∷ numbers) → ⊥) → header_of ty (head ++ (blank ++ (digits ++ rest))) ≡ Err (at_these (digits ++ rest) Size)
 size_header ty [] n head blank digits rest is sizes b h e few never =
     head_none ty head (blank ++ (digits ++ rest)) is (blank_begins blank (digits ++ rest) b)
@@ -201,7 +201,7 @@ size_header ty (w ∷ []) n head blank digits rest is sizes b h e few never =
     ∙ rw (field_reads true blank digits rest n b h e, height_refused w (digits, rest) n sizes h.2 never) (ap Err (same_place digits rest Size))
 size_header ty (a ∷ w ∷ more) n head blank digits rest is sizes b h e few never = absurd (omega arith)
 
-maxval_header : (ty : LaneType) (numbers : List ℕ) (n : ℕ) (head blank digits rest : List ℕ) → IsHead numbers head → AreSizes numbers → IsBlank blank → IsNumber digits n → BeginsBlank (may_comment numbers) rest
+maxval_header : (ty : LaneType) (numbers : List ℕ) (n : ℕ) (head blank digits rest : List ℕ) → IsPgmHeader numbers head → AreSizes numbers → IsBlank blank → IsPgmNumber digits n → BeginsBlank (may_comment numbers) rest
     → length numbers ≡ 2 → (IsMaxval ty n → ⊥) → header_of ty (head ++ (blank ++ (digits ++ rest))) ≡ Err (at_these (digits ++ rest) Maxval)
 maxval_header ty [] n head blank digits rest is sizes b h e two never = absurd (omega arith)
 maxval_header ty (w ∷ []) n head blank digits rest is sizes b h e two never = absurd (omega arith)

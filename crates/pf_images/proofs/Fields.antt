@@ -4,11 +4,11 @@ use Rattle.std.specs.List.{list_all}
 use Rattle.std.proofs.lemmas.Bool.{cases_Bool, eqb-false, ne_eqb, and_parts}
 use Rattle.std.proofs.lemmas.Bool.Decides.{nat_tests}
 use Rattle.std.proofs.lemmas.List.{length-append, length-take-le, take-append-drop, take_at, drop_at}
-use Rattle.pf_ints.specs.Words.{is_digit}
+use Rattle.pf_text.specs.Meaning.Words.{is_digit}
 use Rattle.pf_images.specs.declared.fault.Fault.{Fault}
 use Rattle.pf_images.specs.declared.fault.PgmKind.TheVariants.{Number}
-use Rattle.pf_images.specs.Pgm.{number_from, IsNumber, IsBlank, IsField, begins_blank}
-use Rattle.pf_images.specs.Reading.{◌>>=◌, at_these, blank_count, digit_count, begun, digits_at, field_at}
+use Rattle.pf_images.specs.Meaning.Pgm.{number_from, IsPgmNumber, IsBlank, IsField, begins_blank}
+use Rattle.pf_images.specs.Steps.Reading.{◌>>=◌, at_these, blank_count, digit_count, begun, digits_at, field_at}
 use Rattle.pf_images.proofs.Blanks.{counted_blank, blank_again}
 
 -- the value of a step that did not fail
@@ -78,7 +78,7 @@ digit_no_blank c d = grind (arith, nat_tests)
 -- ---- digits and what ends them
 
 pub record DigitsTake (comments : Bool) (bytes digits rest : List ℕ) : Type 0 where
-  pub number : IsNumber digits (number_from 0 digits)
+  pub number : IsPgmNumber digits (number_from 0 digits)
   pub parts : bytes ≡ digits ++ rest
   pub next : BeginsBlank comments rest
 
@@ -96,7 +96,7 @@ digits_take comments bytes x e =
       next = rest.1;
     })
 
-pub digits_again : (comments : Bool) (digits rest : List ℕ) (n : ℕ) → IsNumber digits n → BeginsBlank comments rest → digits_at comments (digits ++ rest) ≡ Ok (digits, rest)
+pub digits_again : (comments : Bool) (digits rest : List ℕ) (n : ℕ) → IsPgmNumber digits n → BeginsBlank comments rest → digits_at comments (digits ++ rest) ≡ Ok (digits, rest)
 unfolding digits_at
 digits_again comments digits rest n h b =
     let count : digit_count (digits ++ rest) ≡ length digits = subst (λ (t : List ℕ). digit_count (digits ++ t) ≡ length digits) (sym b.2) (digit_count_again digits b.0 b.1 h.1 (blank_no_digit comments b.0 b.3)) in
@@ -108,7 +108,7 @@ digits_again comments digits rest n h b =
 pub record FieldTakes (comments : Bool) (bytes digits rest : List ℕ) : Type 0 where
   pub blank : List ℕ
   pub blank_is : IsBlank blank
-  pub number : IsNumber digits (number_from 0 digits)
+  pub number : IsPgmNumber digits (number_from 0 digits)
   pub text : List ℕ
   pub text_is : text ≡ blank ++ digits
   pub field : IsField text (number_from 0 digits)
@@ -133,11 +133,11 @@ field_takes comments bytes x b e =
       next = d.next;
     }
 
-pub first_digit : (digits : List ℕ) (n : ℕ) → IsNumber digits n → (d : ℕ) × (ds : List ℕ) × (digits ≡ d ∷ ds) × (begins_blank true d ≡ false)
+pub first_digit : (digits : List ℕ) (n : ℕ) → IsPgmNumber digits n → (d : ℕ) × (ds : List ℕ) × (digits ≡ d ∷ ds) × (begins_blank true d ≡ false)
 first_digit [] n h = absurd (omega (arith, h.0))
 first_digit (d ∷ ds) n h = (d, ds, refl, digit_no_blank d (and_parts (is_digit d) (list_all is_digit ds) h.1).0)
 
-pub field_reads : (comments : Bool) (blank digits rest : List ℕ) (n : ℕ) → IsBlank blank → IsNumber digits n → BeginsBlank comments rest → field_at comments (blank ++ (digits ++ rest)) ≡ Ok (digits, rest)
+pub field_reads : (comments : Bool) (blank digits rest : List ℕ) (n : ℕ) → IsBlank blank → IsPgmNumber digits n → BeginsBlank comments rest → field_at comments (blank ++ (digits ++ rest)) ≡ Ok (digits, rest)
 unfolding field_at
 field_reads comments blank digits rest n b h e =
     let f = first_digit digits n h in
@@ -145,7 +145,7 @@ field_reads comments blank digits rest n b h e =
     rw (count, drop_at blank (digits ++ rest) (length blank) refl) (digits_again comments digits rest n h e)
 
 -- a field is read again, whatever stands behind its end
-pub field_again : (comments : Bool) (text rest : List ℕ) (n : ℕ) → IsField text n → BeginsBlank comments rest → (digits : List ℕ) × IsNumber digits n × (field_at comments (text ++ rest) ≡ Ok (digits, rest))
+pub field_again : (comments : Bool) (text rest : List ℕ) (n : ℕ) → IsField text n → BeginsBlank comments rest → (digits : List ℕ) × IsPgmNumber digits n × (field_at comments (text ++ rest) ≡ Ok (digits, rest))
 field_again comments text rest n h b =
     let grouped : text ++ rest ≡ h.0 ++ (h.1 ++ rest) = ap (λ (t : List ℕ). t ++ rest) h.4 ∙ append_assoc h.0 h.1 rest in
     (h.1, h.3, ap (field_at comments) grouped ∙ field_reads comments h.0 h.1 rest n h.2 h.3 b)

@@ -4,13 +4,13 @@ use Rattle.std.specs.Prelude.{codes}
 use Rattle.std.proofs.lemmas.Bool.{eqb-true, and_parts, leb-true, ltb-true, le-leb, lt-ltb}
 use Rattle.std.proofs.lemmas.Bool.Decides.{nat_tests}
 use Rattle.pf_ints.specs.declared.lane.LaneType.{LaneType}
-use Rattle.pf_ints.specs.Lanes.{lane_width}
+use Rattle.pf_ints.specs.Meaning.Lanes.{lane_width}
 use Rattle.pf_images.specs.declared.fault.Fault.{Fault}
 use Rattle.pf_images.specs.declared.fault.PgmKind.TheVariants.{Magic, Size, Maxval}
 use Rattle.pf_images.specs.declared.header.Header.{Header}
-use Rattle.pf_images.specs.Pgm.{is_white, number_from, IsField, IsHead, IsMaxval, begins_blank}
-use Rattle.pf_images.specs.Faults.{IsSide}
-use Rattle.pf_images.specs.Reading.{◌>>=◌, at_these, at_number, begun, field_at, side_of, height_of, maxval_of, magic_of, header_of}
+use Rattle.pf_images.specs.Meaning.Pgm.{is_white, number_from, IsField, IsPgmHeader, IsMaxval, begins_blank}
+use Rattle.pf_images.specs.Meaning.Faults.{IsSide}
+use Rattle.pf_images.specs.Steps.Reading.{◌>>=◌, at_these, at_number, begun, field_at, side_of, header_height, maxval_of, magic_of, header_of}
 use Rattle.pf_images.proofs.Blanks.{blank_begins}
 use Rattle.pf_images.proofs.Fields.{bind_ok, pass_ok, ok_is, BeginsBlank, begun_takes, begun_again, field_takes, field_again}
 
@@ -43,8 +43,8 @@ side_again field n e h =
     let high : leb n 8192 ≡ true = le-leb _ _ h.most in
     rw (e, low, high) refl
 
-pub height_takes : (width : ℕ) (field : List ℕ × List ℕ) (n : ℕ) → height_of width field ≡ Ok n → (number_from 0 field.0 ≡ n) × IsSide n × (width * n ≤ 16777216)
-unfolding height_of
+pub height_takes : (width : ℕ) (field : List ℕ × List ℕ) (n : ℕ) → header_height width field ≡ Ok n → (number_from 0 field.0 ≡ n) × IsSide n × (width * n ≤ 16777216)
+unfolding header_height
 height_takes width field n e =
     let b = bind_ok (side_of field) (λ m. cond (leb (width * m) 16777216) (Ok m) (Err (at_number field Size))) n e in
     let p = pass_ok (leb (width * b.0) 16777216) (at_number field Size) b.0 n b.2 in
@@ -52,8 +52,8 @@ height_takes width field n e =
     let fits : width * b.0 ≤ 16777216 = leb-true _ _ p.0 in
     subst (λ (m : ℕ). (number_from 0 field.0 ≡ m) × IsSide m × (width * m ≤ 16777216)) p.1 (side.0, side.1, fits)
 
-height_again : (width : ℕ) (field : List ℕ × List ℕ) (n : ℕ) → number_from 0 field.0 ≡ n → IsSide n → width * n ≤ 16777216 → height_of width field ≡ Ok n
-unfolding height_of
+height_again : (width : ℕ) (field : List ℕ × List ℕ) (n : ℕ) → number_from 0 field.0 ≡ n → IsSide n → width * n ≤ 16777216 → header_height width field ≡ Ok n
+unfolding header_height
 height_again width field n e h fits =
     let low : leb (width * n) 16777216 ≡ true = le-leb _ _ fits in
     rw (side_again field n e h, low) refl
@@ -77,7 +77,7 @@ maxval_again ty field n e h =
 pub record HeaderTakes (ty : LaneType) (bytes : List ℕ) (h : Header) (rest : List ℕ) : Type 0 where
   pub head : List ℕ
   pub white : ℕ
-  pub head_is : IsHead (h.maxval ∷ h.height ∷ h.width ∷ []) head
+  pub head_is : IsPgmHeader (h.maxval ∷ h.height ∷ h.width ∷ []) head
   pub white_is : is_white white ≡ true
   pub width : IsSide h.width
   pub height : IsSide h.height
@@ -93,7 +93,7 @@ abbrev pub at_third : LaneType → ℕ → ℕ → List ℕ → Result (Header �
 at_third ty w h rest = field_at false rest >>= at_maxval ty w h
 
 abbrev pub at_height : LaneType → ℕ → List ℕ × List ℕ → Result (Header × List ℕ) Fault
-at_height ty w second = height_of w second >>= λ h. at_third ty w h second.1
+at_height ty w second = header_height w second >>= λ h. at_third ty w h second.1
 
 abbrev pub at_second : LaneType → ℕ → List ℕ → Result (Header × List ℕ) Fault
 at_second ty w rest = field_at true rest >>= at_height ty w
@@ -111,13 +111,13 @@ white_only : (c : ℕ) → begins_blank false c ≡ true → is_white c ≡ true
 white_only c b = grind (arith, nat_tests)
 
 -- a field more
-pub head_more : (before : List ℕ) (n : ℕ) (front text : List ℕ) → IsHead before front → IsField text n → IsHead (n ∷ before) (front ++ text)
+pub head_more : (before : List ℕ) (n : ℕ) (front text : List ℕ) → IsPgmHeader before front → IsField text n → IsPgmHeader (n ∷ before) (front ++ text)
 head_more before n front text h f = (front, text, h, f, refl)
 
 pub parts_more : (bytes front rest text tail : List ℕ) → bytes ≡ front ++ rest → rest ≡ text ++ tail → bytes ≡ (front ++ text) ++ tail
 parts_more bytes front rest text tail e f = e ∙ ap (λ (t : List ℕ). front ++ t) f ∙ sym (append_assoc front text tail)
 
-third_takes : (ty : LaneType) (bytes front rest : List ℕ) (w h : ℕ) (x : Header × List ℕ) → IsHead (h ∷ w ∷ []) front → bytes ≡ front ++ rest → IsSide w → IsSide h → w * h ≤ 16777216 → BeginsBlank true rest
+third_takes : (ty : LaneType) (bytes front rest : List ℕ) (w h : ℕ) (x : Header × List ℕ) → IsPgmHeader (h ∷ w ∷ []) front → bytes ≡ front ++ rest → IsSide w → IsSide h → w * h ≤ 16777216 → BeginsBlank true rest
     → at_third ty w h rest ≡ Ok x → HeaderTakes ty bytes x.0 x.1
 third_takes ty bytes front rest w h x head parts wide high most b e =
     let f = bind_ok (field_at false rest) (at_maxval ty w h) x e in
@@ -138,16 +138,16 @@ third_takes ty bytes front rest w h x head parts wide high most b e =
       parts = parts_more bytes front rest t.text (t.next.0 ∷ drop 1 f.0.1) parts (t.parts ∙ ap (λ (u : List ℕ). t.text ++ u) ended);
     })
 
-second_takes : (ty : LaneType) (bytes front rest : List ℕ) (w : ℕ) (x : Header × List ℕ) → IsHead (w ∷ []) front → bytes ≡ front ++ rest → IsSide w → BeginsBlank true rest
+second_takes : (ty : LaneType) (bytes front rest : List ℕ) (w : ℕ) (x : Header × List ℕ) → IsPgmHeader (w ∷ []) front → bytes ≡ front ++ rest → IsSide w → BeginsBlank true rest
     → at_second ty w rest ≡ Ok x → HeaderTakes ty bytes x.0 x.1
 second_takes ty bytes front rest w x head parts wide b e =
     let f = bind_ok (field_at true rest) (at_height ty w) x e in
-    let h = bind_ok (height_of w f.0) (λ h. at_third ty w h f.0.1) x f.2 in
+    let h = bind_ok (header_height w f.0) (λ h. at_third ty w h f.0.1) x f.2 in
     let t = field_takes true rest f.0 b f.1 in
     let v = height_takes w f.0 h.0 h.1 in
     third_takes ty bytes (front ++ t.text) f.0.1 w h.0 x (head_more (w ∷ []) h.0 front t.text head (subst (IsField t.text) v.0 t.field)) (parts_more bytes front rest t.text f.0.1 parts t.parts) wide v.1 v.2 t.next h.2
 
-first_takes : (ty : LaneType) (bytes front rest : List ℕ) (x : Header × List ℕ) → IsHead [] front → bytes ≡ front ++ rest → BeginsBlank true rest
+first_takes : (ty : LaneType) (bytes front rest : List ℕ) (x : Header × List ℕ) → IsPgmHeader [] front → bytes ≡ front ++ rest → BeginsBlank true rest
     → at_first ty rest ≡ Ok x → HeaderTakes ty bytes x.0 x.1
 first_takes ty bytes front rest x head parts b e =
     let f = bind_ok (field_at true rest) (at_width ty) x e in
@@ -195,7 +195,7 @@ unfolding header_of
 start_again ty rest b = rw (magic_again rest, begun_again true rest b) refl
 
 -- what spells a header is read as it
-pub header_again : (ty : LaneType) (head : List ℕ) (w h m c : ℕ) (rest : List ℕ) → IsHead (m ∷ h ∷ w ∷ []) head → IsSide w → IsSide h → w * h ≤ 16777216 → IsMaxval ty m → is_white c ≡ true
+pub header_again : (ty : LaneType) (head : List ℕ) (w h m c : ℕ) (rest : List ℕ) → IsPgmHeader (m ∷ h ∷ w ∷ []) head → IsSide w → IsSide h → w * h ≤ 16777216 → IsMaxval ty m → is_white c ≡ true
     → header_of ty (head ++ c ∷ rest) ≡ Ok (record { width = w; height = h; maxval = m }, rest)
 header_again ty head w h m c rest is wide high product most white =
     let two = is.2 in

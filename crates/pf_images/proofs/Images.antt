@@ -8,12 +8,12 @@ use Rattle.std.proofs.lemmas.List.Elements.{All-from_recursion, recursion_from_A
 use Rattle.pf_ints.specs.declared.lane.LaneType.{LaneType}
 use Rattle.pf_ints.specs.declared.lane.Bits.{Bits}
 use Rattle.pf_ints.specs.declared.lane.Bits.TheVariants.{Eight, Sixteen, ThirtyTwo}
-use Rattle.pf_ints.specs.Lanes.{lane_width, bit_count, IsIn}
-use Rattle.pf_ints.specs.Images.{Picture, IsPixelType}
+use Rattle.pf_ints.specs.Meaning.Lanes.{lane_width, bit_count, IsIn}
+use Rattle.pf_ints.specs.Meaning.Images.{Picture, IsPixelType}
 use Rattle.pf_images.specs.declared.fault.PgmKind.TheVariants.{Short, Extra}
 use Rattle.pf_images.specs.declared.header.Header.{Header}
-use Rattle.pf_images.specs.Pgm.{IsMaxval, IsPgm, samples, sample_bytes}
-use Rattle.pf_images.specs.Reading.{at_these, counted, header_of, parts_of, pairs, pixels_of, picture_of, image_of}
+use Rattle.pf_images.specs.Meaning.Pgm.{IsMaxval, IsPgm, samples, sample_bytes}
+use Rattle.pf_images.specs.Steps.Reading.{at_these, counted, header_of, parts_of, pairs, pixels_of, picture_of, image_of}
 use Rattle.pf_images.proofs.Pairs.{IsBytes, spelled_pairs, pairs_again, length-pairs, pairs_below}
 use Rattle.pf_images.proofs.Fields.{bind_ok, test_ok, ok_is}
 use Rattle.pf_images.proofs.Headers.{header_takes, header_again}

@@ -3,7 +3,7 @@ use Rattle.std.proofs.Common.{◌≡◌, ℕ, zero, suc, ◌+◌, ◌*◌, ◌/�
 use Rattle.std.specs.List.{flat_map, AllByRecursion}
 use Rattle.std.specs.Int.{w16, to_be_bytes}
 use Rattle.std.proofs.lemmas.List.{drop_more, append-nil, length-drop}
-use Rattle.pf_images.specs.Reading.{pairs}
+use Rattle.pf_images.specs.Steps.Reading.{pairs}
 
 pairs_more : (n : ℕ) (bytes : List ℕ) → 2 * n + 1 < length bytes → pairs (drop (2 * n) bytes) ≡ (256 * get_or bytes (2 * n) 0 + get_or bytes (2 * n + 1) 0) ∷ pairs (drop (2 * (n + 1)) bytes)
 pairs_more n bytes lt =

@@ -1,17 +1,17 @@
 -- What a call answers, from what reading gives.
 use Rattle.std.proofs.Common.{◌≡◌, ℕ, ◌-◌, ◌<◌, ◌≤◌, List, length, get_or, Result, Ok, Err, refl, sym, ap, ◌∙◌, arith, inl, inr, subst}
 use Rattle.std.proofs.lemmas.List.Elements.{All-from_get_or, recursion_from_All}
-use Rattle.pf_text.specs.Answers.{Answers, Decides}
+use Rattle.pf_text.specs.Meaning.Answers.{Answers, Decides}
 use Rattle.pf_text.proofs.Answering.{decides}
 use Rattle.pf_ints.specs.declared.lane.LaneType.{LaneType}
-use Rattle.pf_ints.specs.Images.{Picture, IsPicture, IsPixelType}
+use Rattle.pf_ints.specs.Meaning.Images.{Picture, IsPicture, IsPixelType}
 use Rattle.pf_images.specs.declared.fault.Fault.{Fault}
 use Rattle.pf_images.specs.declared.fault.ImageFault.{ImageFault}
 use Rattle.pf_images.specs.declared.fault.ImageFault.TheVariants.{At, Memory}
 use Rattle.pf_images.specs.declared.header.Header.{Header}
-use Rattle.pf_images.specs.Pgm.{IsPgm}
-use Rattle.pf_images.specs.Faults.{IsFault, IsFaultAt}
-use Rattle.pf_images.specs.Reading.{GivesImage, parts_of, pixels_of, image_of}
+use Rattle.pf_images.specs.Meaning.Pgm.{IsPgm}
+use Rattle.pf_images.specs.Meaning.Faults.{IsFault, IsFaultAt}
+use Rattle.pf_images.specs.Steps.Reading.{GivesImage, parts_of, pixels_of, image_of}
 use Rattle.pf_images.proofs.Pairs.{IsBytes}
 use Rattle.pf_images.proofs.Images.{parts_take, image_takes, image_again}
 use Rattle.pf_images.proofs.Faults.{left_within, image_told}

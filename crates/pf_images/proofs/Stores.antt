@@ -3,7 +3,7 @@ use Rattle.std.proofs.Common.{◌≡◌, ◌≢◌, ℕ, Bool, true, false, cond
 use Rattle.std.specs.Map.{update}
 use Rattle.std.specs.Str.{bytes_eq}
 use Rattle.std.specs.Cmp.Lexicographic.{bytes_decides}
-use Rattle.pf_images.specs.Outside.{Contents, Puts}
+use Rattle.pf_images.specs.Meaning.Outside.{Contents, Puts}
 
 -- a map of contents in which one name was set puts the bytes there
 pub puts_from_set : (name bytes : List ℕ) (old new : Contents) → ((q : List ℕ) → new q ≡ update bytes_eq old name (Some bytes) q) → Puts name bytes old new

@@ -7,16 +7,16 @@ use Rattle.std.proofs.lemmas.Str.Parse.{IsNumeralModel, numerals_by_fold}
 use Rattle.std.proofs.lemmas.List.Elements.{All-from_recursion, recursion_from_All}
 use Rattle.pf_ints.specs.declared.lane.Bits.{Bits}
 use Rattle.pf_ints.specs.declared.lane.Bits.TheVariants.{Eight, Sixteen, ThirtyTwo}
-use Rattle.pf_ints.specs.Lanes.{lane_width, bit_count, IsIn}
-use Rattle.pf_ints.specs.Images.{Picture, IsPicture}
-use Rattle.pf_ints.specs.Words.{is_digit}
-use Rattle.pf_images.specs.Pgm.{is_white, number_from, IsNumber, IsField, IsPgm, samples, greatest_sample, pgm_text}
+use Rattle.pf_ints.specs.Meaning.Lanes.{lane_width, bit_count, IsIn}
+use Rattle.pf_ints.specs.Meaning.Images.{Picture, IsPicture}
+use Rattle.pf_text.specs.Meaning.Words.{is_digit}
+use Rattle.pf_images.specs.Meaning.Pgm.{is_white, number_from, IsPgmNumber, IsField, IsPgm, samples, greatest_sample, pgm_text}
 use Rattle.pf_images.proofs.Images.{weaker, out_type}
 
 own : IsNumeralModel (λ ds. list_all is_digit ds ≡ true) (number_from 0)
 own = numerals_by_fold _ (search rules) number_from (search rules)
 
-decimal_is_number : (n : ℕ) → n < 2 ^ 64 → IsNumber (decimal n) n
+decimal_is_number : (n : ℕ) → n < 2 ^ 64 → IsPgmNumber (decimal n) n
 decimal_is_number n h = (decimal_nonempty n h, digits_decimal own n h, digits_value-decimal own n h)
 
 decimal_is_field : (c n : ℕ) → is_white c ≡ true → n < 2 ^ 64 → IsField (c ∷ decimal n) n

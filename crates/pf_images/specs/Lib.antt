@@ -1,6 +1,2 @@
-pub mod Words
-pub mod Pgm
-pub mod Reading
-pub mod Faults
-pub mod Counts
-pub mod Outside
+pub mod Meaning
+pub mod Steps

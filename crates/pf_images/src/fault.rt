@@ -2,7 +2,7 @@
 
 ghost use Rattle.std.specs.Prelude.{◌≡◌, ◌-◌, ◌≤◌, length, codes};
 ghost use Rattle.pf_images.specs.declared.fault.ImageFault.TheVariants.{Memory};
-ghost use Rattle.pf_images.specs.Words.{kind_word};
+ghost use Rattle.pf_images.specs.Meaning.Words.{kind_word};
 
 use std::alloc::{AllocError, AllocFailed};
 use thiserror::Error;

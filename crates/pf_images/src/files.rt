@@ -1,6 +1,6 @@
 ghost use Rattle.std.specs.Prelude.{◌≡◌, ◌≢◌, ℕ, ◌≤◌, List, Option, IfOk, IsErrOf, Err};
-ghost use Rattle.pf_images.specs.Counts.{raised};
-ghost use Rattle.pf_images.specs.Outside.{Contents, SameContents, Changes, IsFront, Lacks, HasCause, Writes};
+ghost use Rattle.pf_images.specs.Meaning.Counts.{raised};
+ghost use Rattle.pf_images.specs.Meaning.Outside.{Contents, SameContents, Changes, IsFrontOfFile, Lacks, HasCause, Writes};
 
 use std::alloc::{AllocError, AllocFailed, Global};
 use thiserror::Error;
@@ -51,7 +51,7 @@ pub trait Files {
     /// The first `most` bytes of the file, or all where there are fewer. `Missing` where there is no
     /// such file; `Failed` only where a fault was counted.
     fn read(&mut self, alloc: Global, name: &str, most: u64) -> Result<Vec<u8>, FilesFault>
-        ensures front { IfOk result (λ bytes. IsFront (held self.old) name.now most bytes.items) }
+        ensures front { IfOk result (λ bytes. IsFrontOfFile (held self.old) name.now most bytes.items) }
         ensures missing { IsErrOf result FilesFault.Missing
             → Lacks (held self.old) name.now (faults self.old) (faults self.new) }
         ensures kept { Changes SameContents (held self.old) (held self.new) }

@@ -1,12 +1,13 @@
 //! The header of a PGM file.
 
 ghost use Rattle.std.specs.Prelude.{◌≡◌, ◌≤◌, ◌+◌, ◌*◌, ◌<◌, ◌^◌, length, false, min, IfOk};
-ghost use Rattle.pf_ints.specs.Images.{IsPixelType};
-ghost use Rattle.pf_images.specs.Pgm.{is_white, ends_comment, number_from, greatest_sample, begins_blank};
-ghost use Rattle.pf_images.specs.Reading.{Gives, at_these, at_number, blank_count, digit_count, begun, digits_at, field_at, side_of, height_of, maxval_of, magic_of, header_of};
+ghost use Rattle.pf_ints.specs.Meaning.Images.{IsPixelType};
+ghost use Rattle.pf_images.specs.Meaning.Pgm.{is_white, ends_comment, number_from, greatest_sample, begins_blank};
+ghost use Rattle.pf_images.specs.Steps.Reading.{GivesRead, at_these, at_number, blank_count, digit_count, begun, digits_at, field_at, side_of, header_height, maxval_of, magic_of, header_of};
 
 use crate::fault::{Fault, PgmKind};
-use pf_ints::{LaneType, MOST_PIXELS, MOST_SIDE, is_digit};
+use pf_ints::{LaneType, MOST_PIXELS, MOST_SIDE};
+use pf_text::is_digit;
 
 /// The numbers of a header.
 #[derive(Clone, Copy, Debug)]
@@ -86,9 +87,9 @@ fn field_fault(digits: &[u8], rest: &[u8], kind: PgmKind) -> Fault
     }
 }
 
-#[tactic(auto, unfolding(crate::specs::Reading::begun))]
+#[tactic(auto, unfolding(crate::specs::Steps::Reading::begun))]
 fn begun(comments: bool, bytes: &[u8]) -> Result<&[u8], Fault>
-    ensures value { Gives (λ x. x.now) result (begun comments bytes.now) }
+    ensures value { GivesRead (λ x. x.now) result (begun comments bytes.now) }
     ensures same { IfOk result (λ x. (x.now ≡ bytes.now) × (1 ≤ length x.now)) }
 {
     match bytes {
@@ -97,9 +98,9 @@ fn begun(comments: bool, bytes: &[u8]) -> Result<&[u8], Fault>
     }
 }
 
-#[tactic(auto, unfolding(crate::specs::Reading::digits_at))]
+#[tactic(auto, unfolding(crate::specs::Steps::Reading::digits_at))]
 fn digits_at(comments: bool, bytes: &[u8]) -> Result<(&[u8], &[u8]), Fault>
-    ensures value { Gives (λ x. (x.0.now, x.1.now)) result (digits_at comments bytes.now) }
+    ensures value { GivesRead (λ x. (x.0.now, x.1.now)) result (digits_at comments bytes.now) }
     ensures within { IfOk result (λ x. length x.0.now + length x.1.now ≤ length bytes.now) }
     ensures ended { IfOk result (λ x. 1 ≤ length x.1.now) }
 {
@@ -112,9 +113,9 @@ fn digits_at(comments: bool, bytes: &[u8]) -> Result<(&[u8], &[u8]), Fault>
     Ok((digits, rest))
 }
 
-#[tactic(auto, unfolding(crate::specs::Reading::field_at))]
+#[tactic(auto, unfolding(crate::specs::Steps::Reading::field_at))]
 fn field_at(comments: bool, bytes: &[u8]) -> Result<(&[u8], &[u8]), Fault>
-    ensures value { Gives (λ x. (x.0.now, x.1.now)) result (field_at comments bytes.now) }
+    ensures value { GivesRead (λ x. (x.0.now, x.1.now)) result (field_at comments bytes.now) }
     ensures within { IfOk result (λ x. length x.0.now + length x.1.now ≤ length bytes.now) }
     ensures ended { IfOk result (λ x. 1 ≤ length x.1.now) }
 {
@@ -134,10 +135,10 @@ fn capped_number(digits: &[u8]) -> u32
     number
 }
 
-#[tactic(auto, unfolding(crate::specs::Reading::side_of))]
+#[tactic(auto, unfolding(crate::specs::Steps::Reading::side_of))]
 fn side_of(digits: &[u8], rest: &[u8]) -> Result<u32, Fault>
     requires { length digits.now + length rest.now < 2 ^ 64 }
-    ensures value { Gives (λ n. n) result (side_of (digits.now, rest.now)) }
+    ensures value { GivesRead (λ n. n) result (side_of (digits.now, rest.now)) }
     ensures within { IfOk result (λ n. (1 ≤ n) × (n ≤ 8192)) }
 {
     let side = capped_number(digits);
@@ -148,11 +149,11 @@ fn side_of(digits: &[u8], rest: &[u8]) -> Result<u32, Fault>
     }
 }
 
-#[tactic(auto, unfolding(crate::specs::Reading::height_of))]
-fn height_of(width: u32, digits: &[u8], rest: &[u8]) -> Result<u32, Fault>
+#[tactic(auto, unfolding(crate::specs::Steps::Reading::header_height))]
+fn header_height(width: u32, digits: &[u8], rest: &[u8]) -> Result<u32, Fault>
     requires wide { width ≤ 8192 }
     requires within { length digits.now + length rest.now < 2 ^ 64 }
-    ensures value { Gives (λ n. n) result (height_of width (digits.now, rest.now)) }
+    ensures value { GivesRead (λ n. n) result (header_height width (digits.now, rest.now)) }
     ensures most { IfOk result (λ n. (1 ≤ n) × (n ≤ 8192) × (width * n ≤ 16777216)) }
 {
     let height = side_of(digits, rest)?;
@@ -163,11 +164,11 @@ fn height_of(width: u32, digits: &[u8], rest: &[u8]) -> Result<u32, Fault>
     }
 }
 
-#[tactic(auto, unfolding(crate::specs::Reading::maxval_of))]
+#[tactic(auto, unfolding(crate::specs::Steps::Reading::maxval_of))]
 fn maxval_of(ty: LaneType, digits: &[u8], rest: &[u8]) -> Result<u32, Fault>
     requires ty { IsPixelType ty }
     requires within { length digits.now + length rest.now < 2 ^ 64 }
-    ensures { Gives (λ n. n) result (maxval_of ty (digits.now, rest.now)) }
+    ensures { GivesRead (λ n. n) result (maxval_of ty (digits.now, rest.now)) }
 {
     let maxval = capped_number(digits);
     if 1 <= maxval && maxval <= u32::from(ty.greatest_pixel()) {
@@ -177,9 +178,9 @@ fn maxval_of(ty: LaneType, digits: &[u8], rest: &[u8]) -> Result<u32, Fault>
     }
 }
 
-#[tactic(auto, unfolding(crate::specs::Reading::magic_of))]
+#[tactic(auto, unfolding(crate::specs::Steps::Reading::magic_of))]
 fn magic_of(bytes: &[u8]) -> Result<&[u8], Fault>
-    ensures { Gives (λ x. x.now) result (magic_of bytes.now) }
+    ensures { GivesRead (λ x. x.now) result (magic_of bytes.now) }
 {
     match bytes {
         [b'P', b'5', rest @ ..] => Ok(rest),
@@ -191,17 +192,17 @@ fn magic_of(bytes: &[u8]) -> Result<&[u8], Fault>
 }
 
 /// The numbers of the header, and the bytes behind it.
-#[tactic(auto, unfolding(crate::specs::Reading::header_of))]
+#[tactic(auto, unfolding(crate::specs::Steps::Reading::header_of))]
 pub fn header_of(bytes: &[u8], ty: LaneType) -> Result<(Header, &[u8]), Fault>
     requires { IsPixelType ty }
-    ensures value { Gives (λ x. (x.0, x.1.now)) result (header_of ty bytes.now) }
+    ensures value { GivesRead (λ x. (x.0, x.1.now)) result (header_of ty bytes.now) }
     ensures within { IfOk result (λ x. x.0.width * x.0.height ≤ 16777216) }
 {
     let start = begun(true, magic_of(bytes)?)?;
     let (digits, rest) = field_at(true, start)?;
     let width = side_of(digits, rest)?;
     let (digits, rest) = field_at(true, rest)?;
-    let height = height_of(width, digits, rest)?;
+    let height = header_height(width, digits, rest)?;
     let (digits, rest) = field_at(false, rest)?;
     let maxval = maxval_of(ty, digits, rest)?;
     let header = Header {

@@ -1,7 +1,7 @@
 ghost use Rattle.std.specs.Prelude.{◌≡◌, ◌≢◌, ◌≤◌, pos, [], take, IfOk, OnErr, IsErrOf, IsTrue, ◌↔◌, Contains, Err, Some};
 ghost use Rattle.std.specs.BTreeMap.{get_by_text, IsEmpty, IsUnchanged};
-ghost use Rattle.pf_images.specs.Counts.{raised};
-ghost use Rattle.pf_images.specs.Outside.{SameContents, Changes, IsFront, Lacks, HasCause, Writes, faults_after};
+ghost use Rattle.pf_images.specs.Meaning.Counts.{raised};
+ghost use Rattle.pf_images.specs.Meaning.Outside.{SameContents, Changes, IsFrontOfFile, Lacks, HasCause, Writes, faults_after};
 
 use crate::files::{Files, FilesFault};
 use pf_ints::{ByteList, NumberList, Sequence};
@@ -59,7 +59,7 @@ impl Files for MemFiles {
     ghost calls = { λ store. store.calls };
 
     fn read(&mut self, alloc: Global, name: &str, most: u64) -> Result<Vec<u8>, FilesFault>
-        ensures front { IfOk result (λ bytes. IsFront (Some (λ name. get_by_text self.old.held name)) name.now most bytes.items) }
+        ensures front { IfOk result (λ bytes. IsFrontOfFile (Some (λ name. get_by_text self.old.held name)) name.now most bytes.items) }
         ensures missing { IsErrOf result FilesFault.Missing
             → Lacks (Some (λ name. get_by_text self.old.held name)) name.now self.old.faults self.new.faults }
         ensures kept { Changes SameContents (Some (λ name. get_by_text self.old.held name))

@@ -1,6 +1,6 @@
 ghost use Rattle.std.specs.Prelude.{◌≡◌, ◌≢◌, ◌≤◌, pos, [], OnErr, IsErrOf, ◌↔◌, Contains, Err, Some};
-ghost use Rattle.pf_images.specs.Counts.{raised};
-ghost use Rattle.pf_images.specs.Outside.{HasCause, Adds, faults_after};
+ghost use Rattle.pf_images.specs.Meaning.Counts.{raised};
+ghost use Rattle.pf_images.specs.Meaning.Outside.{HasCause, Adds, faults_after};
 
 use crate::files::FilesFault;
 use crate::mem_files::is_to_fail;

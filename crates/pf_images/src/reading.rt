@@ -1,11 +1,11 @@
 //! Images of PGM files.
 
 ghost use Rattle.std.specs.Prelude.{◌≡◌, ◌-◌, ◌≤◌, ◌*◌, length, IfOk};
-ghost use Rattle.pf_ints.specs.Images.{IsPixelType};
-ghost use Rattle.pf_text.specs.Answers.{Decides};
-ghost use Rattle.pf_images.specs.Pgm.{IsPgm, sample_bytes};
-ghost use Rattle.pf_images.specs.Faults.{IsFault};
-ghost use Rattle.pf_images.specs.Reading.{Gives, GivesImage, counted, parts_of, pairs, pixels_of, image_of};
+ghost use Rattle.pf_ints.specs.Meaning.Images.{IsPixelType};
+ghost use Rattle.pf_text.specs.Meaning.Answers.{Decides};
+ghost use Rattle.pf_images.specs.Meaning.Pgm.{IsPgm, sample_bytes};
+ghost use Rattle.pf_images.specs.Meaning.Faults.{IsFault};
+ghost use Rattle.pf_images.specs.Steps.Reading.{GivesRead, GivesImage, counted, parts_of, pairs, pixels_of, image_of};
 
 use crate::fault::{Fault, ImageFault, PgmKind};
 use crate::header::{Header, header_of};
@@ -25,10 +25,10 @@ fn sample_bytes(header: Header) -> usize
     }
 }
 
-#[tactic(auto, unfolding(crate::specs::Reading::counted))]
+#[tactic(auto, unfolding(crate::specs::Steps::Reading::counted))]
 fn counted(header: Header, bytes: &[u8]) -> Result<(Header, &[u8]), Fault>
     requires { header.width * header.height ≤ 16777216 }
-    ensures { Gives (λ x. (x.0, x.1.now)) result (counted header bytes.now) }
+    ensures { GivesRead (λ x. (x.0, x.1.now)) result (counted header bytes.now) }
 {
     let wanted = sample_bytes(header);
     if bytes.len() < wanted {
@@ -47,10 +47,10 @@ fn counted(header: Header, bytes: &[u8]) -> Result<(Header, &[u8]), Fault>
 }
 
 /// The numbers of the header, and the samples.
-#[tactic(auto, unfolding(crate::specs::Reading::parts_of))]
+#[tactic(auto, unfolding(crate::specs::Steps::Reading::parts_of))]
 fn parts_of(bytes: &[u8], ty: LaneType) -> Result<(Header, &[u8]), Fault>
     requires { IsPixelType ty }
-    ensures { Gives (λ x. (x.0, x.1.now)) result (parts_of ty bytes.now) }
+    ensures { GivesRead (λ x. (x.0, x.1.now)) result (parts_of ty bytes.now) }
 {
     let (header, samples) = header_of(bytes, ty)?;
     counted(header, samples)
@@ -104,7 +104,7 @@ fn placed(fault: Fault, bytes: &[u8]) -> ImageFault
 }
 
 /// The image, or the first fault.
-#[tactic(auto, unfolding(crate::specs::Reading::image_of))]
+#[tactic(auto, unfolding(crate::specs::Steps::Reading::image_of))]
 fn image_of(alloc: Global, bytes: &[u8], ty: LaneType) -> Result<Image, ImageFault>
     requires { IsPixelType ty }
     ensures { GivesImage bytes.now result (image_of ty bytes.now) }

@@ -1,5 +1,5 @@
 ghost use Rattle.std.specs.Prelude.{◌≡◌, ◌≢◌, Err, None};
-ghost use Rattle.pf_images.specs.Outside.{counted_after};
+ghost use Rattle.pf_images.specs.Meaning.Outside.{counted_after};
 
 use crate::files::{Files, FilesFault};
 use std::alloc::Global;

@@ -1,6 +1,6 @@
 ghost use Rattle.std.specs.Prelude.{◌≡◌, ◌≢◌, ℕ, ◌≤◌, List, Option, Err};
-ghost use Rattle.pf_images.specs.Counts.{raised};
-ghost use Rattle.pf_images.specs.Outside.{HasCause, Adds};
+ghost use Rattle.pf_images.specs.Meaning.Counts.{raised};
+ghost use Rattle.pf_images.specs.Meaning.Outside.{HasCause, Adds};
 
 use crate::files::FilesFault;
 use std::alloc::Global;

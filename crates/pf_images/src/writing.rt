@@ -3,11 +3,12 @@
 ghost use Rattle.std.specs.Prelude.{◌≡◌, ◌++◌, ◌<◌, ◌^◌, All, IfOk, OnOk, codes, decimal};
 ghost use Rattle.std.specs.List.{flat_map};
 ghost use Rattle.std.specs.Int.{w16, to_be_bytes};
-ghost use Rattle.pf_ints.specs.Lanes.{lane_width};
-ghost use Rattle.pf_ints.specs.Images.{IsPicture, IsPixelType};
-ghost use Rattle.pf_images.specs.Pgm.{IsPgm, samples, greatest_sample, header_text, pgm_text};
+ghost use Rattle.pf_ints.specs.Meaning.Lanes.{lane_width};
+ghost use Rattle.pf_ints.specs.Meaning.Images.{IsPicture, IsPixelType};
+ghost use Rattle.pf_images.specs.Meaning.Pgm.{IsPgm, samples, greatest_sample, header_text, pgm_text};
 
-use pf_ints::{Bits, Image, LaneType, Memory, push_number};
+use pf_ints::{Bits, Image, LaneType, Memory};
+use pf_text::push_number;
 use std::alloc::Global;
 
 /// More bytes than the greatest header takes.

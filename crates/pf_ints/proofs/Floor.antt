@@ -4,7 +4,7 @@ use Rattle.std.proofs.lemmas.Int.{ints}
 use Rattle.std.proofs.lemmas.Nat.{same_from_place, mod_below}
 use Rattle.std.proofs.Math.Nat.{div-add-mod}
 use borrow.Author.Differences.{up, down, same_in}
-use Rattle.pf_ints.specs.Whole.{floor_div, floor_mod}
+use Rattle.pf_ints.specs.Meaning.Whole.{floor_div, floor_mod}
 
 -- the rest is below the divisor
 pub floor_mod_below : (z : ℤ) (m : ℕ) → 0 < m → floor_mod z m < m

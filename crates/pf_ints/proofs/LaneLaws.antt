@@ -6,8 +6,8 @@ use Rattle.std.specs.Int.{int_rem_euclid}
 use Rattle.pf_ints.specs.declared.lane.LaneType.{LaneType}
 use Rattle.pf_ints.specs.declared.lane.Bits.{Bits}
 use Rattle.pf_ints.specs.declared.lane.Bits.TheVariants.{Eight, Sixteen, ThirtyTwo}
-use Rattle.pf_ints.specs.Whole.{floor_div, floor_mod}
-use Rattle.pf_ints.specs.Lanes.{modulus, least, greatest, IsIn, wrapped, clamped, IsNearestIn}
+use Rattle.pf_ints.specs.Meaning.Whole.{floor_div, floor_mod}
+use Rattle.pf_ints.specs.Meaning.Lanes.{modulus, least, greatest, IsIn, wrapped, clamped, IsNearestIn}
 use Rattle.pf_ints.proofs.Ring.{distribute_left}
 use Rattle.pf_ints.proofs.Floor.{floor_mod_below, floor_split, division_is}
 

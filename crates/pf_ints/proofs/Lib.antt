@@ -3,4 +3,3 @@ pub mod Floor
 pub mod LaneLaws
 pub mod RangeLaws
 pub mod NameLaws
-pub mod LineLaws

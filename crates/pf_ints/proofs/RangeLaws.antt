@@ -11,9 +11,9 @@ use borrow.Author.Differences.{up, down}
 use Rattle.pf_ints.specs.declared.lane.LaneType.{LaneType}
 use Rattle.pf_ints.specs.declared.lane.Bits.{Bits}
 use Rattle.pf_ints.specs.declared.lane.Bits.TheVariants.{Eight, Sixteen, ThirtyTwo}
-use Rattle.pf_ints.specs.Whole.{floor_div}
-use Rattle.pf_ints.specs.Lanes.{clamped}
-use Rattle.pf_ints.specs.Ranges.{Range, IsRange, Holds, IsLeast, IsLeastWithin, IsImage, IsJointImage, furthest, range, within, sum_range, difference_range, product_range, quotient_range, min_range, max_range, abs_range, join_range, lies_in, lane_range, clamp_range}
+use Rattle.pf_ints.specs.Meaning.Whole.{floor_div}
+use Rattle.pf_ints.specs.Meaning.Lanes.{clamped}
+use Rattle.pf_ints.specs.Meaning.Ranges.{Range, IsRange, Includes, IsLeast, IsLeastWithin, IsImage, IsJointImage, furthest, range, within, sum_range, difference_range, product_range, quotient_range, min_range, max_range, abs_range, join_range, lies_in, lane_range, clamp_range}
 use Rattle.pf_ints.proofs.LaneLaws.{nearest}
 
 pub same_range : (r s : Range) → r.lo ≡ s.lo → r.hi ≡ s.hi → r ≡ s
@@ -58,16 +58,16 @@ least_at is_member r s smallest p q = subst (IsLeast is_member) (sym (same_range
 pub is_range_at : (r s : Range) → IsRange r → s.lo ≡ r.lo → s.hi ≡ r.hi → IsRange s
 is_range_at r s kept p q = subst IsRange (sym (same_range s r p q)) kept
 
-pub at_low : (a : Range) → IsRange a → Holds a a.lo
+pub at_low : (a : Range) → IsRange a → Includes a a.lo
 at_low a p = record { low = omega (arith, ints); high = p.ordered }
 
-pub at_high : (a : Range) → IsRange a → Holds a a.hi
+pub at_high : (a : Range) → IsRange a → Includes a a.hi
 at_high a p = record { low = p.ordered; high = omega (arith, ints) }
 
 -- ---- operations that never fall where their operands rise
 pub rising_image : (f : ℤ → ℤ) → ((x y : ℤ) → x ≤ℤ y → f x ≤ℤ f y) → (a : Range) → IsRange a → IsLeast (IsImage f a) (range (f a.lo) (f a.hi))
 rising_image f rises a p = record {
-  all = λ n m. subst (Holds (range (f a.lo) (f a.hi))) m.is (record { low = rises a.lo m.of m.inside.low; high = rises m.of a.hi m.inside.high });
+  all = λ n m. subst (Includes (range (f a.lo) (f a.hi))) m.is (record { low = rises a.lo m.of m.inside.low; high = rises m.of a.hi m.inside.high });
   low_met = record { of = a.lo; inside = at_low a p; is = refl };
   high_met = record { of = a.hi; inside = at_high a p; is = refl };
 }
@@ -75,7 +75,7 @@ rising_image f rises a p = record {
 pub rising_joint : (f : ℤ → ℤ → ℤ) → ((x y u v : ℤ) → x ≤ℤ u → y ≤ℤ v → f x y ≤ℤ f u v) → (a b : Range) → IsRange a → IsRange b → IsLeast (IsJointImage f a b) (range (f a.lo b.lo) (f a.hi b.hi))
 rising_joint f rises a b p q = record {
   all = λ n m.
-      subst (Holds (range (f a.lo b.lo) (f a.hi b.hi))) m.is
+      subst (Includes (range (f a.lo b.lo) (f a.hi b.hi))) m.is
       (record { low = rises a.lo b.lo m.left m.right m.in_left.low m.in_right.low; high = rises m.left m.right a.hi b.hi m.in_left.high m.in_right.high });
   low_met = record { left = a.lo; right = b.lo; in_left = at_low a p; in_right = at_low b q; is = refl };
   high_met = record { left = a.hi; right = b.hi; in_left = at_high a p; in_right = at_high b q; is = refl };
@@ -130,7 +130,7 @@ least_abs a p = record {
     further false e = record { of = a.lo; inside = at_low a p; is = distance_is a.lo ∙ omega (arith, ints, clamps, e, p.ordered) }
 
 -- ---- the interval round two others
-pub least_join : (a b : Range) → IsRange a → IsRange b → IsLeast (λ n. Holds a n ⊎ Holds b n) (join_range a b)
+pub least_join : (a b : Range) → IsRange a → IsRange b → IsLeast (λ n. Includes a n ⊎ Includes b n) (join_range a b)
 least_join a b p q = record {
   all = λ n m. elim m [
     | inl h ↦ record { low = omega (arith, ints, clamps, h.low); high = omega (arith, ints, clamps, h.high) }
@@ -140,11 +140,11 @@ least_join a b p q = record {
   high_met = upper (int_lt b.hi a.hi);
 }
   where
-    lower : (t : Bool) → Holds a (cond t b.lo a.lo) ⊎ Holds b (cond t b.lo a.lo)
+    lower : (t : Bool) → Includes a (cond t b.lo a.lo) ⊎ Includes b (cond t b.lo a.lo)
     lower true = inr (at_low b q)
     lower false = inl (at_low a p)
 
-    upper : (t : Bool) → Holds a (cond t a.hi b.hi) ⊎ Holds b (cond t a.hi b.hi)
+    upper : (t : Bool) → Includes a (cond t a.hi b.hi) ⊎ Includes b (cond t a.hi b.hi)
     upper true = inl (at_high a p)
     upper false = inr (at_high b q)
 
@@ -161,7 +161,7 @@ record IsBetween (v w n : ℤ) : Type 0 where
   high : n ≤ℤ int_max v w
 
 -- a product by a fixed number lies between the products at the ends
-between : (c : ℤ) (b : Range) (y : ℤ) → Holds b y → IsBetween (c *ℤ b.lo) (c *ℤ b.hi) (c *ℤ y)
+between : (c : ℤ) (b : Range) (y : ℤ) → Includes b y → IsBetween (c *ℤ b.lo) (c *ℤ b.hi) (c *ℤ y)
 between (pos n) b y h =
     let p = times_pos n b.lo y h.low in
     let q = times_pos n y b.hi h.high in
@@ -171,11 +171,11 @@ between (negsuc n) b y h =
     let q = times_negsuc n y b.hi h.high in
     record { low = omega (arith, ints, clamps, p, q); high = omega (arith, ints, clamps, p, q) }
 
-between_left : (c : ℤ) (a : Range) (x : ℤ) → Holds a x → IsBetween (a.lo *ℤ c) (a.hi *ℤ c) (x *ℤ c)
+between_left : (c : ℤ) (a : Range) (x : ℤ) → Includes a x → IsBetween (a.lo *ℤ c) (a.hi *ℤ c) (x *ℤ c)
 between_left c a x h = rw (*ℤ_comm a.lo c, *ℤ_comm a.hi c, *ℤ_comm x c) (between c a x h)
 
 -- what is between two numbers, each of which is between two others, is between all four
-among : (n v w ll hl lh hh : ℤ) → IsBetween v w n → IsBetween ll hl v → IsBetween lh hh w → Holds (range (int_min (int_min ll hl) (int_min lh hh)) (int_max (int_max ll hl) (int_max lh hh))) n
+among : (n v w ll hl lh hh : ℤ) → IsBetween v w n → IsBetween ll hl v → IsBetween lh hh w → Includes (range (int_min (int_min ll hl) (int_min lh hh)) (int_max (int_max ll hl) (int_max lh hh))) n
 among n v w ll hl lh hh p q r = record {
   low = omega (arith, ints, clamps, p.low, q.low, r.low);
   high = omega (arith, ints, clamps, p.high, q.high, r.high);
@@ -195,12 +195,12 @@ module _ (is_member : ℤ → Type 0) where
   greatest_of_four ll hl lh hh p q r s = member_max _ _ (member_max ll hl p q) (member_max lh hh r s)
 
 -- a product lies between the least and the greatest of two ends
-pub holds_product : (a b : Range) (x y : ℤ) → Holds a x → Holds b y → Holds (product_range a b) (x *ℤ y)
+pub holds_product : (a b : Range) (x y : ℤ) → Includes a x → Includes b y → Includes (product_range a b) (x *ℤ y)
 holds_product a b x y h k = among _ _ _ _ _ _ _ (between x b y k) (between_left b.lo a x h) (between_left b.hi a x h)
 
 pub least_product : (a b : Range) → IsRange a → IsRange b → IsLeast (IsJointImage (λ x y. x *ℤ y) a b) (product_range a b)
 least_product a b p q = record {
-  all = λ n m. subst (Holds (product_range a b)) m.is (holds_product a b m.left m.right m.in_left m.in_right);
+  all = λ n m. subst (Includes (product_range a b)) m.is (holds_product a b m.left m.right m.in_left m.in_right);
   low_met = least_of_four is_product _ _ _ _ (corner _ _ (at_low a p) (at_low b q)) (corner _ _ (at_high a p) (at_low b q)) (corner _ _ (at_low a p) (at_high b q)) (corner _ _ (at_high a p) (at_high b q));
   high_met = greatest_of_four is_product _ _ _ _ (corner _ _ (at_low a p) (at_low b q)) (corner _ _ (at_high a p) (at_low b q)) (corner _ _ (at_low a p) (at_high b q)) (corner _ _ (at_high a p) (at_high b q));
 }
@@ -208,11 +208,11 @@ least_product a b p q = record {
     is_product : ℤ → Type 0
     is_product = IsJointImage (λ x y. x *ℤ y) a b
 
-    corner : (x y : ℤ) → Holds a x → Holds b y → is_product (x *ℤ y)
+    corner : (x y : ℤ) → Includes a x → Includes b y → is_product (x *ℤ y)
     corner x y h k = record { left = x; right = y; in_left = h; in_right = k; is = refl }
 
 -- a corner that fits no i128 leaves the limits. The code has its factors as v and w
-pub no_product : (a b : Range) (x y v w : ℤ) → IsRange a → IsRange b → Holds a x → Holds b y → v ≡ x → w ≡ y → (FitsSigned w128 (v *ℤ w) → ⊥) → within (product_range a b) ≡ None
+pub no_product : (a b : Range) (x y v w : ℤ) → IsRange a → IsRange b → Includes a x → Includes b y → v ≡ x → w ≡ y → (FitsSigned w128 (v *ℤ w) → ⊥) → within (product_range a b) ≡ None
 no_product a b x y v w p q h k e d wide =
     within_none (product_range a b)
     (λ r.
@@ -306,7 +306,7 @@ is_range_clamp t a p =
       high = omega (arith, ints, near.high, high.high);
     }
 
-pub inside_holds : (a b : Range) (n : ℤ) → lies_in a b ≡ true → Holds a n → Holds b n
+pub inside_holds : (a b : Range) (n : ℤ) → lies_in a b ≡ true → Includes a n → Includes b n
 inside_holds a b n e h =
     let p = both (le_z b.lo a.lo) (le_z a.hi b.hi) e in
     record { low = omega (arith, ints, p.0, h.low); high = omega (arith, ints, p.1, h.high) }

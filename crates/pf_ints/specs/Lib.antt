@@ -1,7 +1,2 @@
-pub mod Whole
-pub mod Lanes
-pub mod Ranges
-pub mod Names
-pub mod Images
-pub mod Targets
-pub mod Words
+pub mod Meaning
+pub mod Steps

@@ -1,5 +1,5 @@
 ghost use Rattle.std.specs.Prelude.{◌≡◌, ◌<◌, ◌*◌, ◌+◌, ◌≤◌, length, slice_index, ℕ, All, false, IfOk};
-ghost use Rattle.pf_ints.specs.Images.{Picture, IsPicture};
+ghost use Rattle.pf_ints.specs.Meaning.Images.{Picture, IsPicture};
 
 use crate::lane::LaneType;
 use crate::sequence::{Duplicate, PixelList, Sequence};
@@ -25,7 +25,7 @@ pub struct Image {
 pub type ImageSet = Sequence<Image>;
 
 impl Model for Image {
-    ghost use Rattle.pf_ints.specs.Images.{Picture, IsPicture};
+    ghost use Rattle.pf_ints.specs.Meaning.Images.{Picture, IsPicture};
 
     ghost Value = { Picture };
 

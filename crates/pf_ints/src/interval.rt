@@ -1,8 +1,8 @@
 ghost use Rattle.std.specs.Prelude.{◌≡◌, ◌↔◌, ◌⊎◌, ℤ, pos, ◌≤ℤ◌, ◌+ℤ◌, ◌-ℤ◌, ◌*ℤ◌, IsSome, unsigned_abs};
 ghost use Rattle.std.specs.Int.{int_max, int_min};
-ghost use Rattle.pf_ints.specs.Whole.{floor_div};
-ghost use Rattle.pf_ints.specs.Lanes.{clamped};
-ghost use Rattle.pf_ints.specs.Ranges.{range, IsRange, Holds, IsLeast, IsLeastWithin, IsImage, IsJointImage, within, sum_range, difference_range, product_range, quotient_range, min_range, max_range, abs_range, lane_range, lies_in, wrap_range, clamp_range, join_range, choice_range};
+ghost use Rattle.pf_ints.specs.Meaning.Whole.{floor_div};
+ghost use Rattle.pf_ints.specs.Meaning.Lanes.{clamped};
+ghost use Rattle.pf_ints.specs.Meaning.Ranges.{range, IsRange, Includes, IsLeast, IsLeastWithin, IsImage, IsJointImage, within, sum_range, difference_range, product_range, quotient_range, min_range, max_range, abs_range, lane_range, lies_in, wrap_range, clamp_range, join_range, choice_range};
 
 use crate::lane::{LaneType, sat};
 use crate::sequence::{Duplicate, Sequence};
@@ -23,7 +23,7 @@ pub struct Interval {
 pub type IntervalList = Sequence<Interval>;
 
 impl Model for Interval {
-    ghost use Rattle.pf_ints.specs.Ranges.{Range, range, IsRange};
+    ghost use Rattle.pf_ints.specs.Meaning.Ranges.{Range, range, IsRange};
 
     ghost Value = { Range };
 
@@ -37,7 +37,7 @@ impl Model for Interval {
 impl Interval {
     /// The interval of these bounds, or None where `lo` is above `hi` or a bound is too far
     /// from 0.
-    #[tactic(auto, unfolding(crate::specs::Ranges::within))]
+    #[tactic(auto, unfolding(crate::specs::Meaning::Ranges::within))]
     pub fn new(lo: i128, hi: i128) -> Option<Interval>
         ensures some { IsSome result ↔ IsRange (range lo hi) }
         ensures value { result ≡ within (range lo hi) }
@@ -186,7 +186,7 @@ impl Interval {
 
     /// The least interval that holds all of both.
     pub fn join(self, o: Interval) -> Interval
-        ensures least { IsLeast (λ n. Holds self n ⊎ Holds o n) result }
+        ensures least { IsLeast (λ n. Includes self n ⊎ Includes o n) result }
         ensures value { result ≡ join_range self o }
     {
         Interval {

@@ -1,6 +1,6 @@
 ghost use Rattle.std.specs.Prelude.{◌≡◌, ◌≢◌, ℤ, pos, ◌*◌, ◌/◌, ◌-◌, ◌^◌, ◌≤◌, ◌+ℤ◌, ◌*ℤ◌, IsTrue, ◌↔◌, IfSome, MatchOption};
-ghost use Rattle.pf_ints.specs.Images.{IsPixelType, is_pixel};
-ghost use Rattle.pf_ints.specs.Lanes.{lane_width, modulus, least, greatest, is_in, IsIn, wrapped, clamped, IsNearestIn};
+ghost use Rattle.pf_ints.specs.Meaning.Images.{IsPixelType, is_pixel};
+ghost use Rattle.pf_ints.specs.Meaning.Lanes.{lane_width, modulus, least, greatest, is_in, IsIn, wrapped, clamped, IsNearestIn};
 
 /// How many bits a lane has.
 #[derive(Clone, Copy, Debug, PartialEq, Eq)]

@@ -14,7 +14,7 @@ impl Model for Name {
 
     ghost Value = { List ℕ };
 
-    ghost use Rattle.pf_ints.specs.Names.{padded, IsPadded, padded_back};
+    ghost use Rattle.pf_ints.specs.Steps.Names.{padded, IsPadded, padded_back};
 
     ghost view = { λ n. take n.count n.bytes };
 

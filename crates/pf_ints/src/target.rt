@@ -1,5 +1,5 @@
 ghost use Rattle.std.specs.Prelude.{◌≡◌};
-ghost use Rattle.pf_ints.specs.Targets.{target_word};
+ghost use Rattle.pf_ints.specs.Meaning.Targets.{target_word};
 
 /// A set of vector instructions that code is selected for.
 #[derive(Clone, Copy, Debug, PartialEq, Eq)]

@@ -13,15 +13,15 @@ use Rattle.std.proofs.lemmas.List.Quantifiers.{all_pairs_push}
 use Rattle.std.proofs.lemmas.Map.Views.{Contains-from_any, list_any-from_Contains}
 use Rattle.std.proofs.lemmas.Cmp.{nat_list_eq_equiv}
 use Rattle.std.proofs.lemmas.Slice.Eq.{bytes_eq-Decides}
-use Rattle.pf_isa.specs.declared.code.Line.{Line}
+use Rattle.pf_machine.specs.declared.code.Line.{Line}
 use Rattle.pf_isa.specs.declared.fault.TextFault.{TextFault}
 use Rattle.pf_isa.specs.declared.fault.TextFault.TheVariants.{At, Memory}
-use Rattle.pf_isa.specs.declared.read_code.Reading.{Reading}
-use Rattle.pf_isa.specs.Tables.{Table}
-use Rattle.pf_isa.specs.Texts.{Said, Nothing, Named, Does, code_of, labels_of}
-use Rattle.pf_isa.specs.TextFaults.{SaysKnown, texts, label_names}
-use Rattle.pf_isa.proofs.PlaceLaws.{take_item, split_item}
-use Rattle.pf_isa.specs.CodeReading.{jump_of, jumps_of, has_name, IsReading, AddsLabel, AddsInstruction, IsTaken, IsLineRefusal}
+use Rattle.pf_isa.specs.declared.read_code.CodeReading.{CodeReading}
+use Rattle.pf_machine.specs.Meaning.Tables.{Table}
+use Rattle.pf_isa.specs.Meaning.Texts.{CodeMeaning, Nothing, Named, Does, code_of, labels_of}
+use Rattle.pf_isa.specs.Meaning.TextFaults.{SaysKnown, texts, label_names}
+use Rattle.pf_machine.proofs.PlaceLaws.{take_item, split_item}
+use Rattle.pf_isa.specs.Steps.CodeReading.{jump_of, jumps_of, has_name, IsCodeReading, AddsLabel, AddsInstruction, IsTaken, IsLineRefusal}
 
 zip_push : {A B : Type 0} (R : A → B → Type 0) (xs : List A) (ys : List B) (x : A) (y : B) → AllZip R xs ys → R x y → AllZip R (xs ++ x ∷ []) (ys ++ y ∷ [])
 zip_push R [] [] x y z r = (r, tt)
@@ -35,19 +35,19 @@ zip_length R [] (b ∷ ys) z = absurd z
 zip_length R (a ∷ xs) [] z = absurd z
 zip_length R (a ∷ xs) (b ∷ ys) z = ap suc (zip_length R xs ys z.1)
 
-code_of-push : {I O : Type 0} (said : List (Said I O)) (s : Said I O) → code_of (said ++ s ∷ []) ≡ code_of said ++ code_of (s ∷ [])
+code_of-push : {I O : Type 0} (said : List (CodeMeaning I O)) (s : CodeMeaning I O) → code_of (said ++ s ∷ []) ≡ code_of said ++ code_of (s ∷ [])
 code_of-push [] s = refl
 code_of-push (Nothing ∷ said) s = code_of-push said s
 code_of-push (Named name ∷ said) s = code_of-push said s
 code_of-push (Does line ∷ said) s = ap (λ ls. line ∷ ls) (code_of-push said s)
 
-label_names-push : {I O : Type 0} (said : List (Said I O)) (s : Said I O) → label_names (said ++ s ∷ []) ≡ label_names said ++ label_names (s ∷ [])
+label_names-push : {I O : Type 0} (said : List (CodeMeaning I O)) (s : CodeMeaning I O) → label_names (said ++ s ∷ []) ≡ label_names said ++ label_names (s ∷ [])
 label_names-push [] s = refl
 label_names-push (Nothing ∷ said) s = label_names-push said s
 label_names-push (Named name ∷ said) s = ap (λ ls. name ∷ ls) (label_names-push said s)
 label_names-push (Does line ∷ said) s = label_names-push said s
 
-labels_of-push : {I O : Type 0} (n : ℕ) (said : List (Said I O)) (s : Said I O) → labels_of n (said ++ s ∷ []) ≡ labels_of n said ++ labels_of (n + length (code_of said)) (s ∷ [])
+labels_of-push : {I O : Type 0} (n : ℕ) (said : List (CodeMeaning I O)) (s : CodeMeaning I O) → labels_of n (said ++ s ∷ []) ≡ labels_of n said ++ labels_of (n + length (code_of said)) (s ∷ [])
 labels_of-push n [] s =
     let none : n + 0 ≡ n = omega arith in
     rw none refl
@@ -57,7 +57,7 @@ labels_of-push n (Does line ∷ said) s =
     let count : n + 1 + length (code_of said) ≡ n + suc (length (code_of said)) = omega arith in
     subst (λ m. labels_of (n + 1) (said ++ s ∷ []) ≡ labels_of (n + 1) said ++ labels_of m (s ∷ [])) count (labels_of-push (n + 1) said s)
 
-jumps_of-push : {I O : Type 0} (n : ℕ) (said : List (Said I O)) (s : Said I O) → jumps_of n (said ++ s ∷ []) ≡ jumps_of n said ++ jump_of (n + length said + 1) s
+jumps_of-push : {I O : Type 0} (n : ℕ) (said : List (CodeMeaning I O)) (s : CodeMeaning I O) → jumps_of n (said ++ s ∷ []) ≡ jumps_of n said ++ jump_of (n + length said + 1) s
 jumps_of-push n [] s =
     let count : n + 0 + 1 ≡ n + 1 = omega arith in
     rw count (append-nil (jump_of (n + 1) s))
@@ -75,23 +75,23 @@ pub contains_has : (names : List (List ℕ)) (name : List ℕ) → Contains name
 contains_has names name h = list_any-from_Contains nat_list_eq_equiv name names h
 
 -- what is said is no label that stands before
-abbrev pub IsFresh : {I O : Type 0} → List (List ℕ) → Said I O → Type 0
+abbrev pub IsFresh : {I O : Type 0} → List (List ℕ) → CodeMeaning I O → Type 0
 IsFresh names (Named name) = Contains names name → ⊥
 IsFresh names _ = Unit {0}
 
-distinct_push : {I O : Type 0} (names : List (List ℕ)) (s : Said I O) → AllPairs (λ a b. a ≢ b) names → IsFresh names s → AllPairs (λ a b. a ≢ b) (names ++ label_names (s ∷ []))
+distinct_push : {I O : Type 0} (names : List (List ℕ)) (s : CodeMeaning I O) → AllPairs (λ a b. a ≢ b) names → IsFresh names s → AllPairs (λ a b. a ≢ b) (names ++ label_names (s ∷ []))
 distinct_push names Nothing pairs fresh = subst (λ ns. AllPairs (λ a b. a ≢ b) ns) (sym (append-nil names)) pairs
 distinct_push names (Does line) pairs fresh = subst (λ ns. AllPairs (λ a b. a ≢ b) ns) (sym (append-nil names)) pairs
 distinct_push names (Named name) pairs fresh = all_pairs_push (λ a b. a ≢ b) names name pairs (λ k d within e. fresh (subst (λ n. Contains names n) e (Contains-get_or names k d within)))
 
 -- one line more
-pub reading_more : {I O : Type 0} (t : Table O) (is_op : O → Type 0) (start : ℕ) (ls : List (List ℕ)) (said : List (Said I O)) (line : List ℕ) (s : Said I O) (number : ℕ) (old new : Reading I O)
-    → number ≡ start + length ls + 1 → IsReading t is_op start ls said old → SaysKnown t is_op line s → IsFresh (label_names said) s
+pub reading_more : {I O : Type 0} (t : Table O) (is_op : O → Type 0) (start : ℕ) (ls : List (List ℕ)) (said : List (CodeMeaning I O)) (line : List ℕ) (s : CodeMeaning I O) (number : ℕ) (old new : CodeReading I O)
+    → number ≡ start + length ls + 1 → IsCodeReading t is_op start ls said old → SaysKnown t is_op line s → IsFresh (label_names said) s
     → new.code ≡ old.code ++ code_of (s ∷ [])
     → new.labels ≡ old.labels ++ labels_of (length old.code) (s ∷ [])
     → ((name : List ℕ) → has_name new.names name ≡ (has_name old.names name || list_any (bytes_eq name) (label_names (s ∷ []))))
     → new.jumps.items ≡ old.jumps.items ++ jump_of number s
-    → IsReading t is_op start (ls ++ line ∷ []) (said ++ s ∷ []) new
+    → IsCodeReading t is_op start (ls ++ line ∷ []) (said ++ s ∷ []) new
 reading_more t is_op start ls said line s number old new numbered r says fresh code labels names jumps =
     let names_pushed = label_names-push said s in
     let same : length ls ≡ length said = zip_length (SaysKnown t is_op) ls said r.read.each in
@@ -125,14 +125,14 @@ pub added_new : (b added : Bool) → added ≡ not b → added ≡ true → b �
 added_new true added is known = sym known ∙ is
 added_new false added is known = refl
 
-pub blank_taken : {I O : Type 0} (t : Table O) (is_op : O → Type 0) (start : ℕ) (ls : List (List ℕ)) (said : List (Said I O)) (line : List ℕ) (number : ℕ) (old : Reading I O)
-    → number ≡ start + length ls + 1 → IsReading t is_op start ls said old → SaysKnown {I = I} t is_op line Nothing
-    → (s : Said I O) × IsReading t is_op start (ls ++ line ∷ []) (said ++ s ∷ []) old
+pub blank_taken : {I O : Type 0} (t : Table O) (is_op : O → Type 0) (start : ℕ) (ls : List (List ℕ)) (said : List (CodeMeaning I O)) (line : List ℕ) (number : ℕ) (old : CodeReading I O)
+    → number ≡ start + length ls + 1 → IsCodeReading t is_op start ls said old → SaysKnown {I = I} t is_op line Nothing
+    → (s : CodeMeaning I O) × IsCodeReading t is_op start (ls ++ line ∷ []) (said ++ s ∷ []) old
 blank_taken t is_op start ls said line number old numbered r says =
     (Nothing, reading_more t is_op start ls said line Nothing number old old numbered r says tt (sym (append-nil old.code)) (sym (append-nil old.labels)) (λ name. or_false (has_name old.names name)) (sym (append-nil old.jumps.items)))
 
-pub instruction_taken : {I O : Type 0} (t : Table O) (is_op : O → Type 0) (start : ℕ) (ls : List (List ℕ)) (said : List (Said I O)) (line : List ℕ) (l : Line I O) (number : ℕ) (old new : Reading I O) (result : Result (Unit {0}) TextFault)
-    → number ≡ start + length ls + 1 → IsReading t is_op start ls said old → SaysKnown t is_op line (Does l) → AddsInstruction l number old new result → IsTaken t is_op start ls said line number new result
+pub instruction_taken : {I O : Type 0} (t : Table O) (is_op : O → Type 0) (start : ℕ) (ls : List (List ℕ)) (said : List (CodeMeaning I O)) (line : List ℕ) (l : Line I O) (number : ℕ) (old new : CodeReading I O) (result : Result (Unit {0}) TextFault)
+    → number ≡ start + length ls + 1 → IsCodeReading t is_op start ls said old → SaysKnown t is_op line (Does l) → AddsInstruction l number old new result → IsTaken t is_op start ls said line number new result
 instruction_taken t is_op start ls said line l number old new (Ok done) numbered r says adds =
     (Does l, reading_more t is_op start ls said line (Does l) number old new numbered r says tt adds.code_is (adds.labels_are ∙ sym (append-nil old.labels)) (λ name. adds.names_are name ∙ or_false (has_name old.names name)) adds.jumps_are)
 instruction_taken t is_op start ls said line l number old new (Err (At at kind)) numbered r says adds = absurd adds
@@ -151,8 +151,8 @@ more_names name other old new is =
     rw (back) (rw apart at is ∙ or_false old))
     (cases_Bool (bytes_eq name other))
 
-pub label_taken : {I O : Type 0} (t : Table O) (is_op : O → Type 0) (start : ℕ) (ls : List (List ℕ)) (said : List (Said I O)) (line name : List ℕ) (number : ℕ) (old new : Reading I O) (result : Result (Unit {0}) TextFault)
-    → number ≡ start + length ls + 1 → IsReading t is_op start ls said old → SaysKnown {I = I} t is_op line (Named name) → AddsLabel name number old new result → IsTaken t is_op start ls said line number new result
+pub label_taken : {I O : Type 0} (t : Table O) (is_op : O → Type 0) (start : ℕ) (ls : List (List ℕ)) (said : List (CodeMeaning I O)) (line name : List ℕ) (number : ℕ) (old new : CodeReading I O) (result : Result (Unit {0}) TextFault)
+    → number ≡ start + length ls + 1 → IsCodeReading t is_op start ls said old → SaysKnown {I = I} t is_op line (Named name) → AddsLabel name number old new result → IsTaken t is_op start ls said line number new result
 label_taken t is_op start ls said line name number old new (Ok done) numbered r says adds =
     let unknown : list_any (bytes_eq name) (label_names said) ≡ false = sym (r.names_are name) ∙ adds.unknown in (
       Named name,
@@ -189,23 +189,23 @@ number_at start n back within =
     let size : length (take n back) ≡ n = length-take-le n back inside in
     rw size refl
 
-pub reading_on : {I O : Type 0} (t : Table O) (is_op : O → Type 0) (start : ℕ) (back : List (List ℕ)) (n : ℕ) (line : List ℕ) (said : List (Said I O)) (new : Reading I O)
-    → n < length back → line ≡ slice_index_or back n line → (s : Said I O) × IsReading t is_op start (take n back ++ line ∷ []) (said ++ s ∷ []) new
-    → (more : List (Said I O)) × IsReading t is_op start (take (n + 1) back) more new
+pub reading_on : {I O : Type 0} (t : Table O) (is_op : O → Type 0) (start : ℕ) (back : List (List ℕ)) (n : ℕ) (line : List ℕ) (said : List (CodeMeaning I O)) (new : CodeReading I O)
+    → n < length back → line ≡ slice_index_or back n line → (s : CodeMeaning I O) × IsCodeReading t is_op start (take n back ++ line ∷ []) (said ++ s ∷ []) new
+    → (more : List (CodeMeaning I O)) × IsCodeReading t is_op start (take (n + 1) back) more new
 reading_on t is_op start back n line said new within is on =
-    (said ++ on.0 ∷ [], subst (λ ls. IsReading t is_op start ls (said ++ on.0 ∷ []) new) (sym (take_item back n line within is)) on.1)
+    (said ++ on.0 ∷ [], subst (λ ls. IsCodeReading t is_op start ls (said ++ on.0 ∷ []) new) (sym (take_item back n line within is)) on.1)
 
-pub line_refused : {I O : Type 0} (t : Table O) (is_op : O → Type 0) (start : ℕ) (back : List (List ℕ)) (n : ℕ) (line : List ℕ) (said : List (Said I O)) (old new : Reading I O) (fault : TextFault)
-    → n < length back → line ≡ slice_index_or back n line → IsReading t is_op start (take n back) said old
+pub line_refused : {I O : Type 0} (t : Table O) (is_op : O → Type 0) (start : ℕ) (back : List (List ℕ)) (n : ℕ) (line : List ℕ) (said : List (CodeMeaning I O)) (old new : CodeReading I O) (fault : TextFault)
+    → n < length back → line ≡ slice_index_or back n line → IsCodeReading t is_op start (take n back) said old
     → IsTaken t is_op start (take n back) said line (start + n + 1) new (Err fault) → IsLineRefusal I t is_op start back fault
 line_refused t is_op start back n line said old new (At at kind) within is r h =
     let inside : n ≤ length back = omega arith in
     (n, record { front = take n back; line = line; rest = drop (n + 1) back; said = said; parts = split_item back n line within is; count = sym (length-take-le n back inside); before = r.read; fault = h.1 }, h.0)
 line_refused t is_op start back n line said old new Memory within is r h = tt
 
-pub all_read : {I O : Type 0} (t : Table O) (is_op : O → Type 0) (start n : ℕ) (back : List (List ℕ)) (r : Reading I O) → length back ≤ n
-    → (said : List (Said I O)) × IsReading t is_op start (take n back) said r → (said : List (Said I O)) × IsReading t is_op start back said r
-all_read t is_op start n back r many on = (on.0, subst (λ ls. IsReading t is_op start ls on.0 r) (take_all n back many) on.1)
+pub all_read : {I O : Type 0} (t : Table O) (is_op : O → Type 0) (start n : ℕ) (back : List (List ℕ)) (r : CodeReading I O) → length back ≤ n
+    → (said : List (CodeMeaning I O)) × IsCodeReading t is_op start (take n back) said r → (said : List (CodeMeaning I O)) × IsCodeReading t is_op start back said r
+all_read t is_op start n back r many on = (on.0, subst (λ ls. IsCodeReading t is_op start ls on.0 r) (take_all n back many) on.1)
 
 -- ---- the last instruction
 

@@ -6,15 +6,15 @@ use Rattle.std.specs.Prelude.{IsTrue}
 use Rattle.std.proofs.lemmas.Bool.{and_parts, cases_Bool}
 use Rattle.std.proofs.lemmas.Bool.Decides.{nat_tests}
 use Rattle.std.proofs.lemmas.List.{take_more, append-nil}
-use Rattle.pf_ints.specs.Words.{is_letter, is_name_byte, is_spelled, is_reserved, is_name}
-use Rattle.pf_isa.specs.Lines.{is_blank, tight_on, tight_pending, tight}
-use Rattle.pf_isa.specs.declared.code.Line.{Line}
-use Rattle.pf_isa.specs.declared.code.Line.TheVariants.{Vector, Control as Controls}
-use Rattle.pf_isa.specs.Tables.{Table}
-use Rattle.pf_isa.specs.Texts.{Said, Nothing, Named, Does, uncommented, label_text, MeansLine}
-use Rattle.pf_isa.specs.TextFaults.{IsKnown, SaysKnown}
-use Rattle.pf_isa.specs.CodeReading.{BeginsPlain, EndsPlain}
-use Rattle.pf_isa.proofs.TightLaws.{IsSolid, tight_on-solid, solid_name}
+use Rattle.pf_text.specs.Meaning.Words.{is_letter, is_name_byte, is_spelled, is_reserved, is_name}
+use Rattle.pf_text.specs.Meaning.Lines.{is_blank, tight_on, tight_pending, tight}
+use Rattle.pf_machine.specs.declared.code.Line.{Line}
+use Rattle.pf_machine.specs.declared.code.Line.TheVariants.{Vector, Control as Controls}
+use Rattle.pf_machine.specs.Meaning.Tables.{Table}
+use Rattle.pf_isa.specs.Meaning.Texts.{CodeMeaning, Nothing, Named, Does, uncommented_code, label_text, MeansLine}
+use Rattle.pf_isa.specs.Meaning.TextFaults.{IsOperation, SaysKnown}
+use Rattle.pf_isa.specs.Steps.CodeReading.{BeginsPlain, EndsPlain}
+use Rattle.pf_text.proofs.TightLaws.{IsSolid, tight_on-solid, solid_name}
 
 -- ---- blanks at the ends
 
@@ -180,21 +180,21 @@ label_back xs name begins ends h is =
 
 -- ---- comments
 
-no_comment : (c : ℕ) (cs : List ℕ) → starts_with nat_eq (c ∷ cs) (47 ∷ 47 ∷ []) ≡ false → uncommented (c ∷ cs) ≡ c ∷ uncommented cs
+no_comment : (c : ℕ) (cs : List ℕ) → starts_with nat_eq (c ∷ cs) (47 ∷ 47 ∷ []) ≡ false → uncommented_code (c ∷ cs) ≡ c ∷ uncommented_code cs
 no_comment c [] none = refl
 no_comment c (d ∷ cs) none =
     let other : (c == 47 && d == 47) ≡ false = grind (arith, nat_tests) in
     rw other refl
 
 pub uncommented_more : (line : List ℕ) (i : ℕ) → i < length line → starts_with nat_eq (drop i line) (47 ∷ 47 ∷ []) ≡ false
-    → take (i + 1) line ++ uncommented (drop (i + 1) line) ≡ take i line ++ uncommented (drop i line)
+    → take (i + 1) line ++ uncommented_code (drop (i + 1) line) ≡ take i line ++ uncommented_code (drop i line)
 uncommented_more line i within none =
     let next : i + 1 ≡ suc i = omega arith in
     let parts : drop i line ≡ get_or line i 0 ∷ drop (suc i) line = drop-cons line i 0 within in
     let more : take (i + 1) line ≡ take i line ++ get_or line i 0 ∷ [] = take_more line i 0 within in
     let here : starts_with nat_eq (get_or line i 0 ∷ drop (suc i) line) (47 ∷ 47 ∷ []) ≡ false = rw parts at none in
-    let one : uncommented (drop i line) ≡ get_or line i 0 ∷ uncommented (drop (suc i) line) = rw parts (no_comment (get_or line i 0) (drop (suc i) line) here) in
-    let joined : (take i line ++ get_or line i 0 ∷ []) ++ uncommented (drop (suc i) line) ≡ take i line ++ get_or line i 0 ∷ uncommented (drop (suc i) line) = append_assoc (take i line) (get_or line i 0 ∷ []) (uncommented (drop (suc i) line)) in
+    let one : uncommented_code (drop i line) ≡ get_or line i 0 ∷ uncommented_code (drop (suc i) line) = rw parts (no_comment (get_or line i 0) (drop (suc i) line) here) in
+    let joined : (take i line ++ get_or line i 0 ∷ []) ++ uncommented_code (drop (suc i) line) ≡ take i line ++ get_or line i 0 ∷ uncommented_code (drop (suc i) line) = append_assoc (take i line) (get_or line i 0 ∷ []) (uncommented_code (drop (suc i) line)) in
     rw (more, one, next) joined
 
 -- no carriage return is in a line
@@ -231,12 +231,12 @@ means_same t (Vector op) line other same m = (m.0, m.1, same ∙ m.2)
 means_same t (Controls c) line other same m = same ∙ m
 
 -- a line that isn't blank, is no label and is no instruction says nothing
-pub nothing_said : {I O : Type 0} (t : Table O) (is_op : O → Type 0) (line bare : List ℕ) → tight bare ≡ tight (uncommented line) → BeginsPlain bare → EndsPlain bare → 1 ≤ length bare
-    → ((name : List ℕ) → IsTrue (is_name name) → bare ≡ label_text name → ⊥) → ((l : Line I O) → IsKnown t is_op (Does l) → MeansLine t bare l → ⊥)
-    → (said : Said I O) → SaysKnown t is_op line said → ⊥
+pub nothing_said : {I O : Type 0} (t : Table O) (is_op : O → Type 0) (line bare : List ℕ) → tight bare ≡ tight (uncommented_code line) → BeginsPlain bare → EndsPlain bare → 1 ≤ length bare
+    → ((name : List ℕ) → IsTrue (is_name name) → bare ≡ label_text name → ⊥) → ((l : Line I O) → IsOperation t is_op (Does l) → MeansLine t bare l → ⊥)
+    → (said : CodeMeaning I O) → SaysKnown t is_op line said → ⊥
 nothing_said t is_op line bare same begins ends some no_label no_instruction Nothing says = some_line bare begins some (same ∙ says.0.1)
 nothing_said t is_op line bare same begins ends some no_label no_instruction (Named name) says = no_label name says.0.1.0 (label_back bare name begins ends says.0.1.0 (same ∙ says.0.1.1))
-nothing_said t is_op line bare same begins ends some no_label no_instruction (Does l) says = no_instruction l says.1 (means_same t l bare (uncommented line) same says.0.1)
+nothing_said t is_op line bare same begins ends some no_label no_instruction (Does l) says = no_instruction l says.1 (means_same t l bare (uncommented_code line) same says.0.1)
 
 -- a name has 1 to 32 bytes
 pub name_size : (name : List ℕ) → is_name name ≡ true → (1 ≤ length name) × (length name ≤ 32)

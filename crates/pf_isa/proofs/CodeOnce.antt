@@ -7,18 +7,18 @@ use Rattle.std.proofs.Math.ListN.{get_or-append, get_or-map}
 use Rattle.std.proofs.Math.Seq.{get_or-append_seam}
 use Rattle.std.proofs.lemmas.List.{append_cancel_right, length-append, length-map}
 use Rattle.std.proofs.lemmas.List.Elements.{All-nil, All-cons, All-head, All-tail}
-use Rattle.pf_isa.specs.declared.code.Label.{Label}
-use Rattle.pf_isa.specs.declared.code.Line.{Line}
-use Rattle.pf_isa.specs.declared.code.Line.TheVariants.{Vector, Control as Controls}
+use Rattle.pf_machine.specs.declared.code.Label.{Label}
+use Rattle.pf_machine.specs.declared.code.Line.{Line}
+use Rattle.pf_machine.specs.declared.code.Line.TheVariants.{Vector, Control as Controls}
 use Rattle.pf_isa.specs.declared.fault.TextFault.{TextFault}
 use Rattle.pf_isa.specs.declared.fault.TextFault.TheVariants.{At, Memory}
 use Rattle.pf_isa.specs.declared.fault.TextKind.{TextKind}
 use Rattle.pf_isa.specs.declared.fault.TextKind.TheVariants.{Target, Directive, Instruction, Label as LabelFault, NoEnd}
-use Rattle.pf_isa.specs.Programs.{jumps_to, IsThere, IsInstructionOf, IsLast}
-use Rattle.pf_isa.specs.Lines.{tight, IsLine, IsInstruction}
-use Rattle.pf_isa.specs.Tables.{Table, IsTable}
-use Rattle.pf_isa.specs.Texts.{Said, Nothing, Named, Does, Says, code_of, labels_of, label_text, MeansLine, IsOpOf, IsCodeText}
-use Rattle.pf_isa.specs.TextFaults.{IsKnown, SaysKnown, label_names, IsNamed, HasPlace, IsLineFault, IsBadLine, IsBadJump, IsCodeFaultAt, IsCodeRefusal, IsCodeOr}
+use Rattle.pf_machine.specs.Meaning.Programs.{jumps_to, IsThere, IsInstructionOf, IsLast}
+use Rattle.pf_text.specs.Meaning.Lines.{tight, IsLine, IsInstruction}
+use Rattle.pf_machine.specs.Meaning.Tables.{Table, IsTable}
+use Rattle.pf_isa.specs.Meaning.Texts.{CodeMeaning, Nothing, Named, Does, SaysCode, code_of, labels_of, label_text, MeansLine, IsOpOf, IsCodeText}
+use Rattle.pf_isa.specs.Meaning.TextFaults.{IsOperation, SaysKnown, label_names, IsNamed, HasPlace, IsCodeLineFault, IsBadLine, IsBadJump, IsCodeFaultAt, IsCodeRefusal, IsCodeOr}
 use Rattle.pf_isa.proofs.CodeTexts.{names_of_labels}
 
 -- ---- one line
@@ -32,26 +32,26 @@ no_empty_label [] e = cc
 no_empty_label (c ∷ cs) e = cc
 
 -- a line that means an instruction is an instruction's, up to blanks, and so neither blank nor a label
-instruction_line : {I O : Type 0} (t : Table O) (is_op : O → Type 0) → IsTable t is_op → (l : Line I O) (bare : List ℕ) → IsKnown t is_op (Does l) → MeansLine t bare l → (s : List ℕ) × IsInstruction s × IsLine bare s
+instruction_line : {I O : Type 0} (t : Table O) (is_op : O → Type 0) → IsTable t is_op → (l : Line I O) (bare : List ℕ) → IsOperation t is_op (Does l) → MeansLine t bare l → (s : List ℕ) × IsInstruction s × IsLine bare s
 instruction_line t is_op laws (Vector op) bare k m = (m.0, laws.instruction op m.0 k.0 k.1 m.1, m.2)
 instruction_line t is_op laws (Controls c) bare k m = (t.control_text c, laws.control_instruction c k, m)
 
-no_blank : {I O : Type 0} (t : Table O) (is_op : O → Type 0) → IsTable t is_op → (l : Line I O) (bare : List ℕ) → IsKnown t is_op (Does l) → MeansLine t bare l → tight bare ≡ [] → ⊥
+no_blank : {I O : Type 0} (t : Table O) (is_op : O → Type 0) → IsTable t is_op → (l : Line I O) (bare : List ℕ) → IsOperation t is_op (Does l) → MeansLine t bare l → tight bare ≡ [] → ⊥
 no_blank t is_op laws l bare k m is = let i = instruction_line t is_op laws l bare k m in i.1.some (sym i.2 ∙ is)
 
-no_label : {I O : Type 0} (t : Table O) (is_op : O → Type 0) → IsTable t is_op → (l : Line I O) (name bare : List ℕ) → IsKnown t is_op (Does l) → MeansLine t bare l → tight bare ≡ label_text name → ⊥
+no_label : {I O : Type 0} (t : Table O) (is_op : O → Type 0) → IsTable t is_op → (l : Line I O) (name bare : List ℕ) → IsOperation t is_op (Does l) → MeansLine t bare l → tight bare ≡ label_text name → ⊥
 no_label t is_op laws l name bare k m is =
     let i = instruction_line t is_op laws l bare k m in
     let same : tight i.0 ≡ label_text name = sym i.2 ∙ is in
     i.1.no_label (rw same (last_pushed name 58 None))
 
-one_line : {I O : Type 0} (t : Table O) (is_op : O → Type 0) → IsTable t is_op → (l m : Line I O) (bare : List ℕ) → IsKnown t is_op (Does l) → IsKnown t is_op (Does m) → MeansLine t bare l → MeansLine t bare m → l ≡ m
+one_line : {I O : Type 0} (t : Table O) (is_op : O → Type 0) → IsTable t is_op → (l m : Line I O) (bare : List ℕ) → IsOperation t is_op (Does l) → IsOperation t is_op (Does m) → MeansLine t bare l → MeansLine t bare m → l ≡ m
 one_line t is_op laws (Vector op) (Vector other) bare k n a b = ap (λ o. Vector o) (laws.one_op op other a.0 k.0 n.0 k.1 n.1 a.1 (b.0, b.1, sym a.2 ∙ b.2))
 one_line t is_op laws (Vector op) (Controls c) bare k n a b = absurd (laws.apart op c a.0 k.0 k.1 n a.1 (sym a.2 ∙ b))
 one_line t is_op laws (Controls c) (Vector op) bare k n a b = absurd (laws.apart op c b.0 n.0 n.1 k b.1 (sym b.2 ∙ a))
 one_line t is_op laws (Controls c) (Controls d) bare k n a b = ap (λ o. Controls o) (laws.one_control c d k n (sym a ∙ b))
 
-one_said : {I O : Type 0} (t : Table O) (is_op : O → Type 0) → IsTable t is_op → (line : List ℕ) (s u : Said I O) → SaysKnown t is_op line s → SaysKnown t is_op line u → s ≡ u
+one_said : {I O : Type 0} (t : Table O) (is_op : O → Type 0) → IsTable t is_op → (line : List ℕ) (s u : CodeMeaning I O) → SaysKnown t is_op line s → SaysKnown t is_op line u → s ≡ u
 one_said t is_op laws line Nothing Nothing a b = refl
 one_said t is_op laws line Nothing (Named name) a b = absurd (no_empty_label name (sym a.0.1 ∙ b.0.1.1))
 one_said t is_op laws line Nothing (Does l) a b = absurd (no_blank t is_op laws l _ b.1 b.0.1 a.0.1)
@@ -64,7 +64,7 @@ one_said t is_op laws line (Does l) (Does m) a b = ap (λ l. Does l) (one_line t
 
 -- ---- all lines
 
-pub all_said : {I O : Type 0} (t : Table O) (is_op : O → Type 0) → IsTable t is_op → (ls : List (List ℕ)) (s u : List (Said I O)) → AllZip (SaysKnown t is_op) ls s → AllZip (SaysKnown t is_op) ls u → s ≡ u
+pub all_said : {I O : Type 0} (t : Table O) (is_op : O → Type 0) → IsTable t is_op → (ls : List (List ℕ)) (s u : List (CodeMeaning I O)) → AllZip (SaysKnown t is_op) ls s → AllZip (SaysKnown t is_op) ls u → s ≡ u
 all_said t is_op laws [] [] [] a b = refl
 all_said t is_op laws [] (s ∷ ss) u a b = absurd a
 all_said t is_op laws [] [] (u ∷ us) a b = absurd b
@@ -75,12 +75,12 @@ all_said t is_op laws (l ∷ ls) (s ∷ ss) (u ∷ us) a b =
     let rest : ss ≡ us = all_said t is_op laws ls ss us a.1 b.1 in
     cc
 
-known_line : {I O : Type 0} (t : Table O) (is_op : O → Type 0) (labels : List Label) (l : Line I O) → IsOpOf is_op l → IsInstructionOf t labels l → IsKnown t is_op (Does l)
+known_line : {I O : Type 0} (t : Table O) (is_op : O → Type 0) (labels : List Label) (l : Line I O) → IsOpOf is_op l → IsInstructionOf t labels l → IsOperation t is_op (Does l)
 known_line t is_op labels (Vector op) o i = (o, i)
 known_line t is_op labels (Controls c) o i = i.0
 
 -- what a program's lines say is known
-known_zip : {I O : Type 0} (t : Table O) (is_op : O → Type 0) (labels : List Label) (ls : List (List ℕ)) (said : List (Said I O)) → AllZip (Says t) ls said
+known_zip : {I O : Type 0} (t : Table O) (is_op : O → Type 0) (labels : List Label) (ls : List (List ℕ)) (said : List (CodeMeaning I O)) → AllZip (SaysCode t) ls said
     → All (λ l. IsOpOf is_op l) (code_of said) → All (λ l. IsInstructionOf t labels l) (code_of said) → AllZip (SaysKnown t is_op) ls said
 known_zip t is_op labels [] [] z ops lines = tt
 known_zip t is_op labels [] (s ∷ said) z ops lines = absurd z
@@ -88,7 +88,7 @@ known_zip t is_op labels (l ∷ ls) [] z ops lines = absurd z
 known_zip t is_op labels (l ∷ ls) (Nothing ∷ said) z ops lines = ((z.0, tt), known_zip t is_op labels ls said z.1 ops lines)
 known_zip t is_op labels (l ∷ ls) (Named name ∷ said) z ops lines = ((z.0, tt), known_zip t is_op labels ls said z.1 ops lines)
 known_zip t is_op labels (l ∷ ls) (Does line ∷ said) z ops lines =
-    let here : IsKnown t is_op (Does line) = known_line t is_op labels line (All-head (λ l. IsOpOf is_op l) line (code_of said) ops) (All-head (λ l. IsInstructionOf t labels l) line (code_of said) lines) in
+    let here : IsOperation t is_op (Does line) = known_line t is_op labels line (All-head (λ l. IsOpOf is_op l) line (code_of said) ops) (All-head (λ l. IsInstructionOf t labels l) line (code_of said) lines) in
     ((z.0, here), known_zip t is_op labels ls said z.1 (All-tail (λ l. IsOpOf is_op l) line (code_of said) ops) (All-tail (λ l. IsInstructionOf t labels l) line (code_of said) lines))
 
 known_text : {I O : Type 0} (t : Table O) (is_op : O → Type 0) (ls : List (List ℕ)) (code : List (Line I O)) (labels : List Label) → (c : IsCodeText t is_op ls code labels) → AllZip (SaysKnown t is_op) ls c.said
@@ -112,7 +112,7 @@ zip_front R (a ∷ front) x rest (b ∷ ys) z =
     let more = zip_front R front x rest ys z.1 in
     (b ∷ more.0, more.1, more.2, ap (λ l. b ∷ l) more.3, (z.0, more.4), more.5)
 
-label_names-append : {I O : Type 0} (xs ys : List (Said I O)) → label_names (xs ++ ys) ≡ label_names xs ++ label_names ys
+label_names-append : {I O : Type 0} (xs ys : List (CodeMeaning I O)) → label_names (xs ++ ys) ≡ label_names xs ++ label_names ys
 label_names-append [] ys = refl
 label_names-append (Nothing ∷ xs) ys = label_names-append xs ys
 label_names-append (Named name ∷ xs) ys = ap (λ l. name ∷ l) (label_names-append xs ys)
@@ -125,11 +125,11 @@ not_twice names name rest pairs there =
     pairs there.0 (length names) name there.1 inside (get_or-append names (name ∷ rest) name there.0 there.1 ∙ there.2 ∙ sym (get_or-append_seam names name rest name))
 
 -- no line says nothing or a label twice
-no_line_fault : {I O : Type 0} (t : Table O) (is_op : O → Type 0) → IsTable t is_op → (front : List (List ℕ)) (before known : List (Said I O)) (line : List ℕ) (s : Said I O) (after : List (Said I O)) (kind : TextKind)
-    → AllZip (SaysKnown t is_op) front before → AllZip (SaysKnown t is_op) front known → SaysKnown t is_op line s → AllPairs (λ a b. a ≢ b) (label_names (before ++ s ∷ after)) → IsLineFault t is_op known line kind → ⊥
+no_line_fault : {I O : Type 0} (t : Table O) (is_op : O → Type 0) → IsTable t is_op → (front : List (List ℕ)) (before known : List (CodeMeaning I O)) (line : List ℕ) (s : CodeMeaning I O) (after : List (CodeMeaning I O)) (kind : TextKind)
+    → AllZip (SaysKnown t is_op) front before → AllZip (SaysKnown t is_op) front known → SaysKnown t is_op line s → AllPairs (λ a b. a ≢ b) (label_names (before ++ s ∷ after)) → IsCodeLineFault t is_op known line kind → ⊥
 no_line_fault t is_op laws front before known line s after Instruction z y says distinct fault = fault s says
 no_line_fault {I} {O} t is_op laws front before known line s after LabelFault z y says distinct fault =
-    let named : Said I O = Named fault.0 in
+    let named : CodeMeaning I O = Named fault.0 in
     let same : s ≡ named = one_said t is_op laws line s named says (fault.1, tt) in
     let first : before ≡ known = all_said t is_op laws front before known z y in
     let all : label_names (before ++ s ∷ after) ≡ label_names known ++ fault.0 ∷ label_names after = rw (first, same) (label_names-append known (named ∷ after)) in
@@ -138,7 +138,7 @@ no_line_fault t is_op laws front before known line s after Target z y says disti
 no_line_fault t is_op laws front before known line s after Directive z y says distinct fault = fault
 no_line_fault t is_op laws front before known line s after NoEnd z y says distinct fault = fault
 
-pub no_bad_line : {I O : Type 0} (t : Table O) (is_op : O → Type 0) → IsTable t is_op → (ls : List (List ℕ)) (said : List (Said I O)) → AllZip (SaysKnown t is_op) ls said → AllPairs (λ a b. a ≢ b) (label_names said)
+pub no_bad_line : {I O : Type 0} (t : Table O) (is_op : O → Type 0) → IsTable t is_op → (ls : List (List ℕ)) (said : List (CodeMeaning I O)) → AllZip (SaysKnown t is_op) ls said → AllPairs (λ a b. a ≢ b) (label_names said)
     → (n : ℕ) (kind : TextKind) → IsBadLine I t is_op ls n kind → ⊥
 no_bad_line t is_op laws ls said z distinct n kind bad =
     let split = zip_front (SaysKnown t is_op) bad.front bad.line bad.rest said (subst (λ l. AllZip (SaysKnown t is_op) l said) bad.parts z) in
@@ -152,7 +152,7 @@ place_line : {I O : Type 0} (t : Table O) (labels : List Label) (names : List (L
 place_line t labels names same (Vector op) i = tt
 place_line t labels names same (Controls c) i = named_there labels names same (jumps_to c) i.1
 
-place_back : {I O : Type 0} (t : Table O) (labels : List Label) (names : List (List ℕ)) → map (λ (l : Label). l.name) labels ≡ names → (said : List (Said I O)) → All (λ l. IsInstructionOf t labels l) (code_of said) → All (λ s. HasPlace names s) said
+place_back : {I O : Type 0} (t : Table O) (labels : List Label) (names : List (List ℕ)) → map (λ (l : Label). l.name) labels ≡ names → (said : List (CodeMeaning I O)) → All (λ l. IsInstructionOf t labels l) (code_of said) → All (λ s. HasPlace names s) said
 place_back t labels names same [] lines = All-nil (λ s. HasPlace names s)
 place_back t labels names same (Nothing ∷ said) lines = All-cons (λ s. HasPlace names s) Nothing said tt (place_back t labels names same said lines)
 place_back t labels names same (Named name ∷ said) lines = All-cons (λ s. HasPlace names s) (Named name) said tt (place_back t labels names same said lines)
@@ -172,13 +172,13 @@ names_apart labels pairs = λ i j d low high e.
     let inside : j < length labels = rw length-map at high in
     (pairs i j x low inside).0 (sym (get_or-map (λ (l : Label). l.name) labels i x) ∙ e ∙ get_or-map (λ (l : Label). l.name) labels j x)
 
-pub no_bad_jump : {I O : Type 0} (t : Table O) (is_op : O → Type 0) → IsTable t is_op → (ls : List (List ℕ)) (said : List (Said I O)) → AllZip (SaysKnown t is_op) ls said → All (λ s. HasPlace (label_names said) s) said
+pub no_bad_jump : {I O : Type 0} (t : Table O) (is_op : O → Type 0) → IsTable t is_op → (ls : List (List ℕ)) (said : List (CodeMeaning I O)) → AllZip (SaysKnown t is_op) ls said → All (λ s. HasPlace (label_names said) s) said
     → (n : ℕ) → IsBadJump I t is_op ls n → ⊥
 no_bad_jump t is_op laws ls said z places n bad =
     let same : said ≡ bad.front ++ bad.jump ∷ bad.rest = all_said t is_op laws ls said (bad.front ++ bad.jump ∷ bad.rest) z bad.read.each in
     bad.missing (middle (λ s. HasPlace (label_names (bad.front ++ bad.jump ∷ bad.rest)) s) bad.front bad.jump bad.rest (subst (λ s. All (λ x. HasPlace (label_names s) x) s) same places))
 
-by_kind : {I O : Type 0} (t : Table O) (is_op : O → Type 0) → IsTable t is_op → (start : ℕ) (ls : List (List ℕ)) (said : List (Said I O)) → AllZip (SaysKnown t is_op) ls said
+by_kind : {I O : Type 0} (t : Table O) (is_op : O → Type 0) → IsTable t is_op → (start : ℕ) (ls : List (List ℕ)) (said : List (CodeMeaning I O)) → AllZip (SaysKnown t is_op) ls said
     → AllPairs (λ a b. a ≢ b) (label_names said) → All (λ s. HasPlace (label_names said) s) said → IsLast (last_or None (code_of said)) → (at : ℕ) (kind : TextKind) → IsCodeFaultAt I t is_op start ls at kind → ⊥
 by_kind t is_op laws start ls said z distinct places last at Instruction fault = no_bad_line t is_op laws ls said z distinct fault.0 Instruction fault.1
 by_kind t is_op laws start ls said z distinct places last at LabelFault fault =

@@ -8,20 +8,20 @@ use Rattle.std.proofs.lemmas.Slice.Eq.{bytes_eq-Decides}
 use Rattle.std.proofs.lemmas.List.{append-nil, map-append, map_push}
 use Rattle.pf_text.proofs.OneFault.{steps_on}
 use Rattle.pf_ints.specs.declared.target.Target.{Target}
-use Rattle.pf_ints.specs.Words.{is_name, is_reserved}
-use Rattle.pf_terms.specs.declared.kernel.Definition.{Definition}
-use Rattle.pf_terms.specs.declared.kernel.ImageDecl.{ImageDecl}
-use Rattle.pf_terms.specs.declared.names.Tap.{Tap}
-use Rattle.pf_terms.specs.Terms.{node_count}
-use Rattle.pf_terms.specs.TermTexts.{no_type}
-use Rattle.pf_isa.specs.declared.program.Head.{Head}
+use Rattle.pf_text.specs.Meaning.Words.{is_name, is_reserved}
+use Rattle.pf_values.specs.declared.kernel.Definition.{Definition}
+use Rattle.pf_values.specs.declared.kernel.ImageDecl.{ImageDecl}
+use Rattle.pf_values.specs.declared.names.Tap.{Tap}
+use Rattle.pf_values.specs.Meaning.Terms.{node_count}
+use Rattle.pf_values.specs.Meaning.NamedTerms.{no_type}
+use Rattle.pf_machine.specs.declared.program.Head.{Head}
 use Rattle.pf_isa.specs.declared.so_far.Stage.TheVariants.{Declarations, Scratch, Lifted, Cost}
-use Rattle.pf_isa.specs.Heads.{image_name, def_name, with_def, IsDecl, IsTap, IsLifted, AreLifted, AreLiftedNames, IsHead}
-use Rattle.pf_isa.specs.Lines.{IsLine}
-use Rattle.pf_isa.specs.Texts.{IsHeadText, AreLiftedLines, target_line, image_line, tap_line, out_line, scratch_line, declaration_lines}
-use Rattle.pf_isa.specs.TextFaults.{SoFar, nothing, names_so_far, nodes_so_far, stage_behind, IsNextImage, IsNextTap, IsNextLifted, GoesOn, GoOn}
-use Rattle.pf_isa.specs.HeadSteps.{whole}
-use Rattle.pf_isa.proofs.ListLaws.{item_at, fresh, sum_split, zip_split}
+use Rattle.pf_machine.specs.Meaning.Heads.{image_name, def_name, with_def, IsDecl, IsTap, IsLifted, AreLifted, AreLiftedNames, IsHead}
+use Rattle.pf_text.specs.Meaning.Lines.{IsLine}
+use Rattle.pf_isa.specs.Meaning.Texts.{IsHeadText, AreLiftedLines, target_line, image_line, tap_line, out_line, scratch_line, declaration_lines}
+use Rattle.pf_isa.specs.Meaning.TextFaults.{SoFar, empty_head, names_so_far, nodes_so_far, stage_behind, IsNextImage, IsNextTap, IsNextLifted, GoesOn, GoOn}
+use Rattle.pf_isa.specs.Steps.HeadSteps.{whole}
+use Rattle.pf_text.proofs.ListLaws.{item_at, fresh, sum_split, zip_split}
 
 pub go_on : (a b c : SoFar) (xs ys : List (List ℕ)) → GoOn a xs b → GoOn b ys c → GoOn a (xs ++ ys) c
 go_on a b c xs ys h k = steps_on SoFar (List ℕ) GoesOn a b c xs ys h k
@@ -138,7 +138,7 @@ pub record IsChain (target : Target) (ls : List (List ℕ)) (h : Head) : Type 0 
   pub rest : List (List ℕ)
   pub parts : ls ≡ first ∷ rest
   pub for_target : IsLine first (target_line target)
-  pub says : GoOn nothing rest (whole h)
+  pub says : GoOn empty_head rest (whole h)
 
 last_two : (h : Head) (o s : List ℕ) → IsHead h → IsLine o (out_line h.out_ty) → IsLine s (scratch_line h.scratch) → GoOn (declaring (with_images h.images h.taps)) (o ∷ s ∷ []) (record { stage = Lifted; head = with_terms h [] })
 last_two h o s is out scratch = (
@@ -154,7 +154,7 @@ two_lines (o ∷ s ∷ []) a b h = (o, s, refl, h.0, h.1.0)
 two_lines (o ∷ s ∷ t ∷ ls) a b h = absurd h.1.1
 
 declared_chain : (h : Head) → IsHead h → (ls : List (List ℕ)) → AllZip IsLine ls (map image_line h.images ++ (map (tap_line (map image_name h.images)) h.taps ++ (out_line h.out_ty ∷ scratch_line h.scratch ∷ [])))
-    → GoOn nothing ls (record { stage = Lifted; head = with_terms h [] })
+    → GoOn empty_head ls (record { stage = Lifted; head = with_terms h [] })
 declared_chain h is ls zip =
     let one = zip_split IsLine ls (map image_line h.images) (map (tap_line (map image_name h.images)) h.taps ++ (out_line h.out_ty ∷ scratch_line h.scratch ∷ [])) zip in
     let two = zip_split IsLine one.back (map (tap_line (map image_name h.images)) h.taps) (out_line h.out_ty ∷ scratch_line h.scratch ∷ []) one.right in
@@ -163,7 +163,7 @@ declared_chain h is ls zip =
     let taps = taps_chain h is [] h.taps two.front refl two.left in
     let last = subst (λ l. GoOn (declaring (with_images h.images h.taps)) l (record { stage = Lifted; head = with_terms h [] })) (sym end.2) (last_two h end.0 end.1 is end.3 end.4) in
     let behind = go_on _ _ _ two.front two.back taps last in
-    subst (λ l. GoOn nothing l (record { stage = Lifted; head = with_terms h [] })) (sym one.parts) (go_on _ _ _ one.front one.back images (subst (λ l. GoOn (declaring (with_images h.images [])) l (record { stage = Lifted; head = with_terms h [] })) (sym two.parts) behind))
+    subst (λ l. GoOn empty_head l (record { stage = Lifted; head = with_terms h [] })) (sym one.parts) (go_on _ _ _ one.front one.back images (subst (λ l. GoOn (declaring (with_images h.images [])) l (record { stage = Lifted; head = with_terms h [] })) (sym two.parts) behind))
 
 chain_of : (target : Target) (ls : List (List ℕ)) (h : Head) → IsHead h → (text : IsHeadText target ls h) (decls : List (List ℕ)) → text.declarations ≡ decls → IsChain target ls h
 chain_of target ls h is text [] same = absurd (subst (λ d. AllZip IsLine d (declaration_lines target h)) same text.declared)

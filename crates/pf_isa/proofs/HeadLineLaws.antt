@@ -11,27 +11,28 @@ use Rattle.std.proofs.lemmas.Bool.{lt-ltb, ne_eqb}
 use Rattle.std.proofs.lemmas.Bool.Decides.{nat_tests}
 use Rattle.std.proofs.lemmas.Int.{ints}
 use Rattle.pf_ints.specs.declared.lane.LaneType.{LaneType}
-use Rattle.pf_ints.specs.Images.{IsPixelType}
+use Rattle.pf_ints.specs.Meaning.Images.{IsPixelType}
 use Rattle.pf_ints.specs.declared.lane.Bits.{Bits}
 use Rattle.pf_ints.specs.declared.lane.Bits.TheVariants.{Eight, Sixteen, ThirtyTwo}
-use Rattle.pf_ints.specs.Lanes.{IsIn}
-use Rattle.pf_ints.specs.Words.{is_name}
-use Rattle.pf_terms.specs.declared.kernel.Definition.{Definition}
-use Rattle.pf_terms.specs.declared.kernel.ImageDecl.{ImageDecl}
-use Rattle.pf_terms.specs.declared.names.ImageName.{ImageName}
-use Rattle.pf_terms.specs.declared.names.Tap.{Tap}
-use Rattle.pf_terms.specs.KernelNames.{IsNames}
-use Rattle.pf_terms.specs.Meanings.{IsTermText}
-use Rattle.pf_terms.specs.TermTexts.{type_word, no_image}
-use Rattle.pf_isa.specs.declared.program.Head.{Head}
+use Rattle.pf_ints.specs.Meaning.Lanes.{IsIn}
+use Rattle.pf_text.specs.Meaning.Words.{is_name}
+use Rattle.pf_values.specs.declared.kernel.Definition.{Definition}
+use Rattle.pf_values.specs.declared.kernel.ImageDecl.{ImageDecl}
+use Rattle.pf_values.specs.declared.names.ImageName.{ImageName}
+use Rattle.pf_values.specs.declared.names.Tap.{Tap}
+use Rattle.pf_terms.specs.Meaning.KernelNames.{IsNames}
+use Rattle.pf_terms.specs.Meaning.Meanings.{IsTermText}
+use Rattle.pf_terms.specs.Meaning.TermTexts.{type_word}
+use Rattle.pf_values.specs.Meaning.NamedTerms.{no_image}
+use Rattle.pf_machine.specs.declared.program.Head.{Head}
 use Rattle.pf_isa.specs.declared.so_far.Stage.{Stage}
 use Rattle.pf_isa.specs.declared.so_far.Stage.TheVariants.{Declarations, Scratch, Lifted, Cost, Code}
-use Rattle.pf_isa.specs.Heads.{image_name, def_name, IsDecl, IsTap}
-use Rattle.pf_isa.specs.HeadWords.{IsTheOne, IsLiftedName, is_sign, words_in, image_words, tap_words, out_words, scratch_words, cost_words, lifted_words}
-use Rattle.pf_isa.specs.HeadSteps.{ImageGoesOn, TapGoesOn, OutWordsGoOn, TapOrOutGoesOn, DeclarationGoesOn, WordsGoOn, LiftedGoesOn, IsReadyAt}
-use Rattle.pf_isa.specs.Lines.{IsLine}
-use Rattle.pf_isa.specs.Texts.{image_line, tap_line, out_line, scratch_line, cost_line, lifted_front}
-use Rattle.pf_isa.specs.TextFaults.{SoFar, names_in, names_so_far, with_lifted, stage_behind, GoesOn, GoesOnAt}
+use Rattle.pf_machine.specs.Meaning.Heads.{image_name, def_name, IsDecl, IsTap}
+use Rattle.pf_isa.specs.Steps.HeadWords.{IsTheOne, IsLiftedName, is_sign, words_in, image_words, tap_words, out_words, scratch_words, cost_words, lifted_words}
+use Rattle.pf_isa.specs.Steps.HeadSteps.{ImageGoesOn, TapGoesOn, OutWordsGoOn, TapOrOutGoesOn, DeclarationGoesOn, WordsGoOn, LiftedGoesOn, HasTermNamesAt}
+use Rattle.pf_text.specs.Meaning.Lines.{IsLine}
+use Rattle.pf_isa.specs.Meaning.Texts.{image_line, tap_line, out_line, scratch_line, cost_line, lifted_front}
+use Rattle.pf_isa.specs.Meaning.TextFaults.{SoFar, head_names, names_so_far, head_with_lifted, stage_behind, GoesOn, GoesOnAt}
 use Rattle.pf_isa.proofs.WordLines.{IsWord, AreWords, spaced_line, words_of_line, line_of_words, key_word, name_word, type_word_is, number_word, offset_word}
 
 one_along : {A : Type 0} (P Q : A → Type 0) (o : Option A) → ((x : A) → P x → Q x) → ((x : A) → Q x → P x) → IsTheOne P o → IsTheOne Q o
@@ -146,7 +147,7 @@ declared_back h line names next k = ⊎_elim
     (λ t. inl (t.0, (tap_both line h t.0 names t.2.tap).there t.1, (t.2, t.3)))
     (λ e. inr (e.0, (out_both line e.0).there e.1, (e.2, e.3, e.4))) o)) k
 
-pub words_line_goes : {E : Type 0} (st : Stage) (h : Head) (line : List ℕ) (ws : List (List ℕ)) (r : Result (Option SoFar) E) → st ≢ Lifted → IsReadyAt st h → ws ≡ words_in line → IfOk r (IsTheOne (WordsGoOn st h ws)) → IfOk r (IsTheOne (GoesOnAt st h line))
+pub words_line_goes : {E : Type 0} (st : Stage) (h : Head) (line : List ℕ) (ws : List (List ℕ)) (r : Result (Option SoFar) E) → st ≢ Lifted → HasTermNamesAt st h → ws ≡ words_in line → IfOk r (IsTheOne (WordsGoOn st h ws)) → IfOk r (IsTheOne (GoesOnAt st h line))
 words_line_goes Declarations h line ws r other ready is told =
     ok_along (DeclarationGoesOn h (words_in line)) (GoesOnAt Declarations h line) r (declared_there h line ready) (declared_back h line ready) (subst (λ l. IfOk r (IsTheOne (DeclarationGoesOn h l))) is told)
 words_line_goes Scratch h line ws r other ready is told =
@@ -211,8 +212,8 @@ lifted_there h line i name ty next found named words (new, room, (d, is, made)) 
     let printed : IsLine (take (i + 1) line) (lifted_front d) = (lifted_both (take (i + 1) line) d (subst IsLiftedName (sym is.0) named)).back same_words in (
       d,
       record { front = take i line; term = drop (i + 1) line; parts = p.parts; first = p.first; printed = subst (λ l. IsLine l (lifted_front d)) p.front printed; means = is.2 },
-      record { lifted = is.3; name = subst (λ n. (n ≡ codes "out") ⊎ (IsTrue (is_name n) × (length h.lifted < 64))) (sym is.0) room; new = subst (λ n. Contains (names_in h) n → ⊥) (sym is.0) new; nodes = is.4 },
-      made ∙ ap (λ n. record { stage = stage_behind n; head = with_lifted h d }) (sym is.0),
+      record { lifted = is.3; name = subst (λ n. (n ≡ codes "out") ⊎ (IsTrue (is_name n) × (length h.lifted < 64))) (sym is.0) room; new = subst (λ n. Contains (head_names h) n → ⊥) (sym is.0) new; nodes = is.4 },
+      made ∙ ap (λ n. record { stage = stage_behind n; head = head_with_lifted h d }) (sym is.0),
     )
 
 -- what a line of a lifted term says by its words

@@ -8,24 +8,24 @@ use Rattle.std.proofs.lemmas.List.Elements.{All-nil, All-cons, All-head, All-tai
 use Rattle.std.proofs.lemmas.List.Quantifiers.{all_pairs_push}
 use Rattle.std.proofs.lemmas.Slice.Eq.{bytes_eq-Decides}
 use Rattle.pf_ints.specs.declared.target.Target.{Target}
-use Rattle.pf_ints.specs.Images.{IsPixelType}
-use Rattle.pf_ints.specs.Words.{is_name}
-use Rattle.pf_terms.specs.declared.kernel.Definition.{Definition}
-use Rattle.pf_terms.specs.declared.kernel.ImageDecl.{ImageDecl}
-use Rattle.pf_terms.specs.declared.names.Names.{Names}
-use Rattle.pf_terms.specs.declared.names.ImageName.{ImageName}
-use Rattle.pf_terms.specs.declared.names.Tap.{Tap}
-use Rattle.pf_terms.specs.KernelNames.{IsNames, IsNearTap}
-use Rattle.pf_terms.specs.Terms.{node_count}
-use Rattle.pf_isa.specs.declared.program.Head.{Head}
+use Rattle.pf_ints.specs.Meaning.Images.{IsPixelType}
+use Rattle.pf_text.specs.Meaning.Words.{is_name}
+use Rattle.pf_values.specs.declared.kernel.Definition.{Definition}
+use Rattle.pf_values.specs.declared.kernel.ImageDecl.{ImageDecl}
+use Rattle.pf_values.specs.declared.names.Names.{Names}
+use Rattle.pf_values.specs.declared.names.ImageName.{ImageName}
+use Rattle.pf_values.specs.declared.names.Tap.{Tap}
+use Rattle.pf_terms.specs.Meaning.KernelNames.{IsNames, IsNearTap}
+use Rattle.pf_values.specs.Meaning.Terms.{node_count}
+use Rattle.pf_machine.specs.declared.program.Head.{Head}
 use Rattle.pf_isa.specs.declared.so_far.Stage.{Stage}
 use Rattle.pf_isa.specs.declared.so_far.Stage.TheVariants.{Declarations, Scratch, Lifted, Cost, Code}
-use Rattle.pf_isa.specs.Heads.{image_name, def_name, names_of, with_def, IsDecl, IsTap, IsLifted, AreLifted, AreLiftedNames, IsHead}
-use Rattle.pf_isa.specs.Lines.{IsLine}
-use Rattle.pf_isa.specs.Texts.{IsHeadText, IsLiftedLine, AreLiftedLines, target_line, image_line, tap_line, out_line, scratch_line, cost_line}
-use Rattle.pf_isa.specs.TextFaults.{SoFar, nothing, names_in, names_so_far, nodes_so_far, with_image, with_tap, with_lifted, IsNextImage, IsNextTap, IsNextLifted, GoesOnAt, GoOn}
-use Rattle.pf_isa.specs.HeadSteps.{whole, IsReached, IsReady, IsReadyAt}
-use Rattle.pf_isa.proofs.ListLaws.{different, sum_split, zip_more}
+use Rattle.pf_machine.specs.Meaning.Heads.{image_name, def_name, names_of_taps, with_def, IsDecl, IsTap, IsLifted, AreLifted, AreLiftedNames, IsHead}
+use Rattle.pf_text.specs.Meaning.Lines.{IsLine}
+use Rattle.pf_isa.specs.Meaning.Texts.{IsHeadText, IsLiftedLine, AreLiftedLines, target_line, image_line, tap_line, out_line, scratch_line, cost_line}
+use Rattle.pf_isa.specs.Meaning.TextFaults.{SoFar, empty_head, head_names, names_so_far, nodes_so_far, head_with_image, head_with_tap, head_with_lifted, IsNextImage, IsNextTap, IsNextLifted, GoesOnAt, GoOn}
+use Rattle.pf_isa.specs.Steps.HeadSteps.{whole, IsReached, HasTermNames, HasTermNamesAt}
+use Rattle.pf_text.proofs.ListLaws.{different, sum_split, zip_more}
 
 abbrev images_lines : Head → List (List ℕ)
 images_lines h = map image_line h.images
@@ -46,7 +46,7 @@ record AreTerms (h : Head) (ls : List (List ℕ)) : Type 0 where
   terms : List (List ℕ)
   parts : ls ≡ front ++ terms
   said : AllZip IsLine front (declared h ++ out_line h.out_ty ∷ scratch_line h.scratch ∷ [])
-  lifted : AreLiftedLines (names_of h.images h.taps) terms h.lifted
+  lifted : AreLiftedLines (names_of_taps h.images h.taps) terms h.lifted
 
 record IsInLifted (h : Head) (ls : List (List ℕ)) : Type 0 where
   start : IsStart h
@@ -83,8 +83,8 @@ record IsValid (h : Head) : Type 0 where
   taps : All (IsTap (length h.images)) h.taps
   few_taps : length h.taps ≤ 64
   distinct_taps : AllPairs (λ t u. t ≢ u) h.taps
-  names : AllPairs (λ n m. n ≢ m) (names_in h)
-  lifted : AreLifted (names_of h.images h.taps) h.lifted
+  names : AllPairs (λ n m. n ≢ m) (head_names h)
+  lifted : AreLifted (names_of_taps h.images h.taps) h.lifted
   nodes : nodes_so_far h ≤ 1536
 
 record IsSaid (s : SoFar) (ls : List (List ℕ)) : Type 0 where
@@ -117,19 +117,19 @@ names_end (n ∷ []) last h is = (h 0 n (omega arith), is)
 names_end (n ∷ m ∷ names) last h is = (h 0 n (omega arith), names_end (m ∷ names) last (λ k d lt. h (suc k) d (omega arith)) is)
 
 -- ---- each step
-named_apart : (h : Head) (x : List ℕ) → AllPairs (λ n m. n ≢ m) (names_in h) → (Contains (names_in h) x → ⊥) → AllPairs (λ n m. n ≢ m) (names_in h ++ x ∷ [])
-named_apart h x distinct new = all_pairs_push (λ n m. n ≢ m) (names_in h) x distinct (different (names_in h) x new)
+named_apart : (h : Head) (x : List ℕ) → AllPairs (λ n m. n ≢ m) (head_names h) → (Contains (head_names h) x → ⊥) → AllPairs (λ n m. n ≢ m) (head_names h ++ x ∷ [])
+named_apart h x distinct new = all_pairs_push (λ n m. n ≢ m) (head_names h) x distinct (different (head_names h) x new)
 
-step_image : (h : Head) (ls : List (List ℕ)) (line : List ℕ) (d : ImageDecl) → IsSaid (record { stage = Declarations; head = h }) ls → IsLine line (image_line d) → IsNextImage h d → IsSaid (record { stage = Declarations; head = with_image h d }) (ls ++ line ∷ [])
+step_image : (h : Head) (ls : List (List ℕ)) (line : List ℕ) (d : ImageDecl) → IsSaid (record { stage = Declarations; head = h }) ls → IsLine line (image_line d) → IsNextImage h d → IsSaid (record { stage = Declarations; head = head_with_image h d }) (ls ++ line ∷ [])
 step_image h ls line d said is next =
     let none : h.lifted ≡ [] = said.at.0 in
-    let in_h : names_in h ≡ map (λ e. e.name) h.images = ap (λ l. map (λ e. e.name) h.images ++ map (λ e. e.name) l) none ∙ append-nil (map (λ e. e.name) h.images) in
-    let more : names_in (with_image h d) ≡ names_in h ++ d.name ∷ [] =
+    let in_h : head_names h ≡ map (λ e. e.name) h.images = ap (λ l. map (λ e. e.name) h.images ++ map (λ e. e.name) l) none ∙ append-nil (map (λ e. e.name) h.images) in
+    let more : head_names (head_with_image h d) ≡ head_names h ++ d.name ∷ [] =
     ap (λ l. map (λ e. e.name) (h.images ++ d ∷ []) ++ map (λ e. e.name) l) none ∙ append-nil (map (λ e. e.name) (h.images ++ d ∷ [])) ∙ map_push (λ (e : ImageDecl). e.name) h.images d ∙ ap (λ l. l ++ d.name ∷ []) (sym in_h) in
     let no_taps : taps_lines h ≡ [] = ap (λ l. map (tap_line (map image_name h.images)) l) next.early in
-    let no_taps_then : taps_lines (with_image h d) ≡ [] = ap (λ l. map (tap_line (map image_name (h.images ++ d ∷ []))) l) next.early in
+    let no_taps_then : taps_lines (head_with_image h d) ≡ [] = ap (λ l. map (tap_line (map image_name (h.images ++ d ∷ []))) l) next.early in
     let before : declared h ≡ images_lines h = ap (λ l. images_lines h ++ l) no_taps ∙ append-nil (images_lines h) in
-    let after : declared (with_image h d) ≡ images_lines h ++ image_line d ∷ [] = ap (λ l. images_lines (with_image h d) ++ l) no_taps_then ∙ append-nil (images_lines (with_image h d)) ∙ map_push image_line h.images d in
+    let after : declared (head_with_image h d) ≡ images_lines h ++ image_line d ∷ [] = ap (λ l. images_lines (head_with_image h d) ++ l) no_taps_then ∙ append-nil (images_lines (head_with_image h d)) ∙ map_push image_line h.images d in
     record {
       valid = record {
         images = All-push IsDecl h.images d said.valid.images next.decl;
@@ -138,16 +138,16 @@ step_image h ls line d said is next =
         few_taps = said.valid.few_taps;
         distinct_taps = said.valid.distinct_taps;
         names = subst (λ l. AllPairs (λ n m. n ≢ m) l) (sym more) (named_apart h d.name said.valid.names next.new);
-        lifted = subst (λ l. AreLifted (names_of (h.images ++ d ∷ []) h.taps) l) (sym none) tt;
+        lifted = subst (λ l. AreLifted (names_of_taps (h.images ++ d ∷ []) h.taps) l) (sym none) tt;
         nodes = said.valid.nodes;
       };
       at = (none, subst (λ l. AllZip IsLine (ls ++ line ∷ []) l) (sym after) (zip_more IsLine ls (images_lines h) line (image_line d) (subst (λ l. AllZip IsLine ls l) before said.at.1) is));
     }
 
-step_tap : (h : Head) (ls : List (List ℕ)) (line : List ℕ) (t : Tap) → IsSaid (record { stage = Declarations; head = h }) ls → IsLine line (tap_line (map image_name h.images) t) → IsNextTap h t → IsSaid (record { stage = Declarations; head = with_tap h t }) (ls ++ line ∷ [])
+step_tap : (h : Head) (ls : List (List ℕ)) (line : List ℕ) (t : Tap) → IsSaid (record { stage = Declarations; head = h }) ls → IsLine line (tap_line (map image_name h.images) t) → IsNextTap h t → IsSaid (record { stage = Declarations; head = head_with_tap h t }) (ls ++ line ∷ [])
 step_tap h ls line t said is next =
     let none : h.lifted ≡ [] = said.at.0 in
-    let after : declared (with_tap h t) ≡ declared h ++ tap_line (map image_name h.images) t ∷ [] =
+    let after : declared (head_with_tap h t) ≡ declared h ++ tap_line (map image_name h.images) t ∷ [] =
     ap (λ l. images_lines h ++ l) (map_push (tap_line (map image_name h.images)) h.taps t) ∙ sym (append_assoc (images_lines h) (taps_lines h) (tap_line (map image_name h.images) t ∷ [])) in
     record {
       valid = record {
@@ -157,7 +157,7 @@ step_tap h ls line t said is next =
         few_taps = omega (arith, next.few, length_push h.taps t);
         distinct_taps = all_pairs_push (λ u v. u ≢ v) h.taps t said.valid.distinct_taps (different h.taps t next.new);
         names = said.valid.names;
-        lifted = subst (λ l. AreLifted (names_of h.images (h.taps ++ t ∷ [])) l) (sym none) tt;
+        lifted = subst (λ l. AreLifted (names_of_taps h.images (h.taps ++ t ∷ [])) l) (sym none) tt;
         nodes = said.valid.nodes;
       };
       at = (none, subst (λ l. AllZip IsLine (ls ++ line ∷ []) l) (sym after) (zip_more IsLine ls (declared h) line (tap_line (map image_name h.images) t) said.at.1 is));
@@ -171,15 +171,15 @@ same_valid h g images taps lifted v = record {
   few_taps = subst (λ (l : List Tap). length l ≤ 64) taps v.few_taps;
   distinct_taps = subst (λ l. AllPairs (λ t u. t ≢ u) l) taps v.distinct_taps;
   names = subst (λ l. AllPairs (λ n m. n ≢ m) (map (λ d. d.name) g.images ++ map (λ d. d.name) l)) lifted (subst (λ l. AllPairs (λ n m. n ≢ m) (map (λ d. d.name) l ++ map (λ d. d.name) h.lifted)) images v.names);
-  lifted = subst (λ l. AreLifted (names_of g.images g.taps) l) lifted (subst (λ l. AreLifted (names_of g.images l) h.lifted) taps (subst (λ l. AreLifted (names_of l h.taps) h.lifted) images v.lifted));
+  lifted = subst (λ l. AreLifted (names_of_taps g.images g.taps) l) lifted (subst (λ l. AreLifted (names_of_taps g.images l) h.lifted) taps (subst (λ l. AreLifted (names_of_taps l h.taps) h.lifted) images v.lifted));
   nodes = subst (λ l. sum (map (λ d. node_count d.term) l) ≤ 1536) lifted v.nodes;
 }
 
-step_lifted : (h : Head) (ls : List (List ℕ)) (line : List ℕ) (d : Definition) → IsSaid (record { stage = Lifted; head = h }) ls → IsLiftedLine (names_so_far h) line d → IsNextLifted h d → IsValid (with_lifted h d) × AreTerms (with_lifted h d) (ls ++ line ∷ [])
+step_lifted : (h : Head) (ls : List (List ℕ)) (line : List ℕ) (d : Definition) → IsSaid (record { stage = Lifted; head = h }) ls → IsLiftedLine (names_so_far h) line d → IsNextLifted h d → IsValid (head_with_lifted h d) × AreTerms (head_with_lifted h d) (ls ++ line ∷ [])
 step_lifted h ls line d said is next =
-    let more : names_in (with_lifted h d) ≡ names_in h ++ d.name ∷ [] =
+    let more : head_names (head_with_lifted h d) ≡ head_names h ++ d.name ∷ [] =
     ap (λ l. map (λ e. e.name) h.images ++ l) (map_push (λ (e : Definition). e.name) h.lifted d) ∙ sym (append_assoc (map (λ e. e.name) h.images) (map (λ e. e.name) h.lifted) (d.name ∷ [])) in
-    let nodes : nodes_so_far (with_lifted h d) ≡ nodes_so_far h + (node_count d.term + 0) = ap sum (map_push (λ (e : Definition). node_count e.term) h.lifted d) ∙ sum_split (map (λ e. node_count e.term) h.lifted) (node_count d.term) [] in
+    let nodes : nodes_so_far (head_with_lifted h d) ≡ nodes_so_far h + (node_count d.term + 0) = ap sum (map_push (λ (e : Definition). node_count e.term) h.lifted d) ∙ sum_split (map (λ e. node_count e.term) h.lifted) (node_count d.term) [] in
     let terms = said.at.terms in (
       record {
         images = said.valid.images;
@@ -188,7 +188,7 @@ step_lifted h ls line d said is next =
         few_taps = said.valid.few_taps;
         distinct_taps = said.valid.distinct_taps;
         names = subst (λ l. AllPairs (λ n m. n ≢ m) l) (sym more) (named_apart h d.name said.valid.names next.new);
-        lifted = lifted_more (names_of h.images h.taps) h.lifted d said.valid.lifted next.lifted;
+        lifted = lifted_more (names_of_taps h.images h.taps) h.lifted d said.valid.lifted next.lifted;
         nodes = omega (arith, nodes, next.nodes);
       },
       record {
@@ -196,13 +196,13 @@ step_lifted h ls line d said is next =
         terms = terms.terms ++ line ∷ [];
         parts = ap (λ l. l ++ line ∷ []) terms.parts ∙ append_assoc terms.front terms.terms (line ∷ []);
         said = terms.said;
-        lifted = lines_more (names_of h.images h.taps) terms.terms h.lifted line d terms.lifted is;
+        lifted = lines_more (names_of_taps h.images h.taps) terms.terms h.lifted line d terms.lifted is;
       },
     )
 
 -- the stage behind a lifted term
 step_named : (h : Head) (ls : List (List ℕ)) (line : List ℕ) (d : Definition) → IsSaid (record { stage = Lifted; head = h }) ls → IsLiftedLine (names_so_far h) line d → IsNextLifted h d
-    → (b : Bool) → bytes_eq d.name (codes "out") ≡ b → IsSaid (record { stage = if b then Cost else Lifted; head = with_lifted h d }) (ls ++ line ∷ [])
+    → (b : Bool) → bytes_eq d.name (codes "out") ≡ b → IsSaid (record { stage = if b then Cost else Lifted; head = head_with_lifted h d }) (ls ++ line ∷ [])
 step_named h ls line d said is next true same =
     let both = step_lifted h ls line d said is next in
     let out : d.name ≡ codes "out" = (bytes_eq-Decides d.name (codes "out")).0 same in
@@ -261,7 +261,7 @@ step_scratch h ls line n said is few =
           terms = [];
           parts = sym (append-nil (ls ++ line ∷ []));
           said = scratch_front h n ls line said.at.2 is;
-          lifted = subst (λ l. AreLiftedLines (names_of h.images h.taps) [] l) (sym none) tt;
+          lifted = subst (λ l. AreLiftedLines (names_of_taps h.images h.taps) [] l) (sym none) tt;
         };
       };
     }
@@ -298,7 +298,7 @@ step_at Lifted h ls line next said k = subst (λ s. IsSaid s (ls ++ line ∷ [])
 step_at Cost h ls line next said k = subst (λ s. IsSaid s (ls ++ line ∷ [])) (sym k.3) (step_cost h ls line k.0 said k.1 k.2)
 step_at Code h ls line next said k = absurd k
 
-nothing_said : IsSaid nothing []
+nothing_said : IsSaid empty_head []
 nothing_said = record {
   valid = record {
     images = All-nil IsDecl;
@@ -318,8 +318,8 @@ said_on s end before [] said k = subst (λ l. IsSaid end l) (sym (append-nil bef
 said_on s end before (line ∷ ls) said k =
     subst (λ l. IsSaid end l) (append_assoc before (line ∷ []) ls) (said_on k.0 end (before ++ line ∷ []) ls (step_at s.stage s.head before line k.0 said k.1) k.2)
 
-said_of : (end : SoFar) (ls : List (List ℕ)) → GoOn nothing ls end → IsSaid end ls
-said_of end ls k = said_on nothing end [] ls nothing_said k
+said_of : (end : SoFar) (ls : List (List ℕ)) → GoOn empty_head ls end → IsSaid end ls
+said_of end ls k = said_on empty_head end [] ls nothing_said k
 
 -- ---- names while terms may come
 map_images : (ds : List ImageDecl) → map (λ (i : ImageName). i.name) (map image_name ds) ≡ map (λ d. d.name) ds
@@ -338,7 +338,7 @@ named_of : (ds : List ImageDecl) → All IsDecl ds → All (λ s. is_name s ≡ 
 named_of [] h = All-nil (λ s. is_name s ≡ true)
 named_of (d ∷ ds) h = All-cons (λ s. is_name s ≡ true) d.name (map (λ e. e.name) ds) (All-head IsDecl d ds h).name (named_of ds (All-tail IsDecl d ds h))
 
-pub names_from : (h : Head) → length h.images ≤ 8 → All IsDecl h.images → length h.taps ≤ 64 → All (IsTap (length h.images)) h.taps → AllPairs (λ t u. t ≢ u) h.taps → AllPairs (λ n m. n ≢ m) (names_in h)
+pub names_from : (h : Head) → length h.images ≤ 8 → All IsDecl h.images → length h.taps ≤ 64 → All (IsTap (length h.images)) h.taps → AllPairs (λ t u. t ≢ u) h.taps → AllPairs (λ n m. n ≢ m) (head_names h)
     → All (λ s. is_name s ≡ true) (map (λ d. d.name) h.lifted) → length h.lifted ≤ 64 → IsNames (names_so_far h)
 names_from h few_images decls few_taps taps distinct_taps distinct named few =
     let images : map (λ (i : ImageName). i.name) (map image_name h.images) ≡ map (λ d. d.name) h.images = map_images h.images in
@@ -359,18 +359,18 @@ names_from h few_images decls few_taps taps distinct_taps distinct named few =
 names_ready : (h : Head) → IsValid h → All (λ s. is_name s ≡ true) (map (λ d. d.name) h.lifted) → length h.lifted ≤ 64 → IsNames (names_so_far h)
 names_ready h v named few = names_from h v.few_images v.images v.few_taps v.taps v.distinct_taps v.names named few
 
-ready_at : (st : Stage) (h : Head) (ls : List (List ℕ)) → IsSaid (record { stage = st; head = h }) ls → IsReadyAt st h
+ready_at : (st : Stage) (h : Head) (ls : List (List ℕ)) → IsSaid (record { stage = st; head = h }) ls → HasTermNamesAt st h
 ready_at Declarations h ls said = names_ready h said.valid (subst (λ l. All (λ s. is_name s ≡ true) (map (λ (d : Definition). d.name) l)) (sym said.at.0) (All-nil (λ s. is_name s ≡ true))) (subst (λ (l : List Definition). length l ≤ 64) (sym said.at.0) (omega arith))
 ready_at Scratch h ls said = names_ready h said.valid (subst (λ l. All (λ s. is_name s ≡ true) (map (λ (d : Definition). d.name) l)) (sym said.at.0) (All-nil (λ s. is_name s ≡ true))) (subst (λ (l : List Definition). length l ≤ 64) (sym said.at.0) (omega arith))
 ready_at Lifted h ls said = names_ready h said.valid said.at.named said.at.few
 ready_at Cost h ls said = tt
 ready_at Code h ls said = tt
 
-pub reached_ready : (s : SoFar) → IsReached s → IsReady s
+pub reached_ready : (s : SoFar) → IsReached s → HasTermNames s
 reached_ready s (before, k) = ready_at s.stage s.head before (said_of s before k)
 
 -- ---- the whole head
-pub chain_is_head : (h : Head) (ls : List (List ℕ)) → GoOn nothing ls (whole h) → IsHead h
+pub chain_is_head : (h : Head) (ls : List (List ℕ)) → GoOn empty_head ls (whole h) → IsHead h
 chain_is_head h ls k =
     let said = said_of (whole h) ls k in
     let v = said.valid in
@@ -392,7 +392,7 @@ chain_is_head h ls k =
       cost = said.at.cost;
     }
 
-pub chain_is_text : (target : Target) (first : List ℕ) (h : Head) (ls : List (List ℕ)) → IsLine first (target_line target) → GoOn nothing ls (whole h) → IsHeadText target (first ∷ ls) h
+pub chain_is_text : (target : Target) (first : List ℕ) (h : Head) (ls : List (List ℕ)) → IsLine first (target_line target) → GoOn empty_head ls (whole h) → IsHeadText target (first ∷ ls) h
 chain_is_text target first h ls is k =
     let said = said_of (whole h) ls k in
     let at = said.at in

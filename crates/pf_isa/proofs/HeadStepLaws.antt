@@ -4,23 +4,23 @@ use Rattle.std.specs.Prelude.{Result, Ok, Err, IfOk, IfSome, Contains, codes}
 use Rattle.std.specs.List.{list_any}
 use Rattle.std.proofs.lemmas.List.{length-map}
 use Rattle.pf_ints.specs.declared.lane.LaneType.{LaneType}
-use Rattle.pf_ints.specs.Images.{IsPixelType}
-use Rattle.pf_terms.specs.declared.kernel.Definition.{Definition}
-use Rattle.pf_terms.specs.declared.kernel.ImageDecl.{ImageDecl}
-use Rattle.pf_terms.specs.declared.names.Names.{Names}
-use Rattle.pf_terms.specs.declared.names.ImageName.{ImageName}
-use Rattle.pf_terms.specs.declared.names.Tap.{Tap}
+use Rattle.pf_ints.specs.Meaning.Images.{IsPixelType}
+use Rattle.pf_values.specs.declared.kernel.Definition.{Definition}
+use Rattle.pf_values.specs.declared.kernel.ImageDecl.{ImageDecl}
+use Rattle.pf_values.specs.declared.names.Names.{Names}
+use Rattle.pf_values.specs.declared.names.ImageName.{ImageName}
+use Rattle.pf_values.specs.declared.names.Tap.{Tap}
 use Rattle.pf_terms.specs.declared.meaning.ReadFault.{ReadFault}
 use Rattle.pf_terms.specs.declared.meaning.ReadFault.TheVariants.{Syntax, Name, Types, Amount, Limit, Memory}
-use Rattle.pf_terms.specs.declared.term.Term.{Term}
-use Rattle.pf_terms.specs.Meanings.{IsTermText, IsTermOr, with_taps, tap_uses, same_tap}
-use Rattle.pf_terms.specs.Terms.{IsWellTyped}
-use Rattle.pf_terms.specs.TermTexts.{is_named}
-use Rattle.pf_isa.specs.declared.program.Head.{Head}
-use Rattle.pf_isa.specs.Heads.{image_name, IsDecl, IsTap}
-use Rattle.pf_isa.specs.HeadWords.{IsTheOne, image_words, tap_words, out_words}
-use Rattle.pf_isa.specs.HeadSteps.{ImageGoesOn, TapGoesOn, OutGoesOn, OutWordsGoOn, TapOrOutGoesOn, DeclarationGoesOn, IsFitting, IsDefinitionOf, IsRoom, TermGoesOn, LiftedGoesOn}
-use Rattle.pf_isa.specs.TextFaults.{SoFar, names_in, names_so_far, nodes_so_far, with_lifted, stage_behind}
+use Rattle.pf_values.specs.declared.term.Term.{Term}
+use Rattle.pf_terms.specs.Meaning.Meanings.{IsTermText, IsTermOr, with_taps, tap_uses, same_tap}
+use Rattle.pf_values.specs.Meaning.Terms.{IsWellTyped}
+use Rattle.pf_values.specs.Meaning.NamedTerms.{is_named}
+use Rattle.pf_machine.specs.declared.program.Head.{Head}
+use Rattle.pf_machine.specs.Meaning.Heads.{image_name, IsDecl, IsTap}
+use Rattle.pf_isa.specs.Steps.HeadWords.{IsTheOne, image_words, tap_words, out_words}
+use Rattle.pf_isa.specs.Steps.HeadSteps.{ImageGoesOn, TapGoesOn, OutGoesOn, OutWordsGoOn, TapOrOutGoesOn, DeclarationGoesOn, IsFitting, IsDefinitionOf, IsRoom, TermGoesOn, LiftedGoesOn}
+use Rattle.pf_isa.specs.Meaning.TextFaults.{SoFar, head_names, names_so_far, nodes_so_far, head_with_lifted, stage_behind}
 
 -- the first word of a line
 first_of : List (List ℕ) → List ℕ
@@ -117,7 +117,7 @@ kept_taps taps (t ∷ ts) = elim (list_any (same_tap t) taps) as (λ b. length (
 pub kept_names : (names after : Names) (text : List ℕ) (t : Term) → IsTermText names text t after → length after.taps ≤ length names.taps → after ≡ names
 kept_names names after text t is few =
     let made = is.means.made in
-    let same : with_taps names.taps (tap_uses names.images is.draft) ≡ names.taps = kept_taps names.taps (tap_uses names.images is.draft) (subst (λ (n : Names). length n.taps ≤ length names.taps) made few) in
+    let same : with_taps names.taps (tap_uses names.images is.tree) ≡ names.taps = kept_taps names.taps (tap_uses names.images is.tree) (subst (λ (n : Names). length n.taps ≤ length names.taps) made few) in
     made ∙ ap (λ taps. record names { taps = taps }) same
 
 other_refused : (names after : Names) (t : Term) (e : ReadFault) (now : Names) → (e ≢ Memory) → IsTermOr t after (Err e) now → ⊥
@@ -164,13 +164,13 @@ unfitting names name ty text before t only never e k =
 
 pub term_goes : (h : Head) (name : List ℕ) (ty : LaneType) (text : List ℕ) (d : Definition) (s : SoFar)
     → IsDefinitionOf (names_so_far h) name ty text (nodes_so_far h) d × ((e : Definition) → IsDefinitionOf (names_so_far h) name ty text (nodes_so_far h) e → e ≡ d)
-    → s ≡ record { stage = stage_behind name; head = with_lifted h d } → IsTheOne (TermGoesOn h name ty text) (Some s)
-term_goes h name ty text d s (is, only) made = ((d, is, made), λ next k. k.2 ∙ ap (λ e. record { stage = stage_behind name; head = with_lifted h e }) (only k.0 k.1) ∙ sym made)
+    → s ≡ record { stage = stage_behind name; head = head_with_lifted h d } → IsTheOne (TermGoesOn h name ty text) (Some s)
+term_goes h name ty text d s (is, only) made = ((d, is, made), λ next k. k.2 ∙ ap (λ e. record { stage = stage_behind name; head = head_with_lifted h e }) (only k.0 k.1) ∙ sym made)
 
 pub no_term_goes : (h : Head) (name : List ℕ) (ty : LaneType) (text : List ℕ) → ((e : Definition) → IsDefinitionOf (names_so_far h) name ty text (nodes_so_far h) e → ⊥) → (next : SoFar) → TermGoesOn h name ty text next → ⊥
 no_term_goes h name ty text none next k = none k.0 k.1
 
-pub lifted_goes : {E : Type 0} (h : Head) (name : List ℕ) (ty : LaneType) (text : List ℕ) (r : Result (Option SoFar) E) → (Contains (names_in h) name → ⊥) → IsRoom h name → IfOk r (IsTheOne (TermGoesOn h name ty text)) → IfOk r (IsTheOne (LiftedGoesOn h name ty text))
+pub lifted_goes : {E : Type 0} (h : Head) (name : List ℕ) (ty : LaneType) (text : List ℕ) (r : Result (Option SoFar) E) → (Contains (head_names h) name → ⊥) → IsRoom h name → IfOk r (IsTheOne (TermGoesOn h name ty text)) → IfOk r (IsTheOne (LiftedGoesOn h name ty text))
 lifted_goes h name ty text (Err e) new room is = is
 lifted_goes h name ty text (Ok None) new room is = λ next k. is next k.2
 lifted_goes h name ty text (Ok (Some s)) new room is = ((new, room, is.0), λ next k. is.1 next k.2)

@@ -16,18 +16,19 @@ use Rattle.std.proofs.lemmas.Bool.Decides.{nat_tests}
 use Rattle.pf_ints.specs.declared.lane.LaneType.{LaneType}
 use Rattle.pf_ints.specs.declared.lane.Bits.{Bits}
 use Rattle.pf_ints.specs.declared.lane.Bits.TheVariants.{Eight, Sixteen, ThirtyTwo}
-use Rattle.pf_ints.specs.Images.{IsPixelType}
-use Rattle.pf_ints.specs.Lanes.{IsIn}
-use Rattle.pf_ints.specs.Words.{is_digit, is_name, is_spelled, is_reserved}
-use Rattle.pf_terms.specs.declared.kernel.ImageDecl.{ImageDecl}
-use Rattle.pf_terms.specs.declared.names.ImageName.{ImageName}
-use Rattle.pf_terms.specs.declared.names.Tap.{Tap}
-use Rattle.pf_terms.specs.TermTexts.{type_word, no_image}
-use Rattle.pf_isa.specs.Heads.{IsDecl, IsTap}
-use Rattle.pf_isa.specs.HeadWords.{IsTheOne, image_words, tap_words, lifted_words, IsLiftedName, IsOffset, is_space}
-use Rattle.pf_isa.specs.Scan.{number_on, behind}
-use Rattle.pf_isa.specs.TextFaults.{texts}
-use Rattle.pf_isa.proofs.ScanLaws.{number_on-decimal}
+use Rattle.pf_ints.specs.Meaning.Images.{IsPixelType}
+use Rattle.pf_ints.specs.Meaning.Lanes.{IsIn}
+use Rattle.pf_text.specs.Meaning.Words.{is_digit, is_name, is_spelled, is_reserved}
+use Rattle.pf_values.specs.declared.kernel.ImageDecl.{ImageDecl}
+use Rattle.pf_values.specs.declared.names.ImageName.{ImageName}
+use Rattle.pf_values.specs.declared.names.Tap.{Tap}
+use Rattle.pf_terms.specs.Meaning.TermTexts.{type_word}
+use Rattle.pf_values.specs.Meaning.NamedTerms.{no_image}
+use Rattle.pf_machine.specs.Meaning.Heads.{IsDecl, IsTap}
+use Rattle.pf_isa.specs.Steps.HeadWords.{IsTheOne, image_words, tap_words, lifted_words, IsLiftedName, IsOffset, is_space}
+use Rattle.pf_text.specs.Steps.Scan.{number_on, behind}
+use Rattle.pf_isa.specs.Meaning.TextFaults.{texts}
+use Rattle.pf_text.proofs.ScanLaws.{number_on-decimal}
 use Rattle.pf_isa.proofs.TextLaws.{decimal_digits}
 
 -- ---- types

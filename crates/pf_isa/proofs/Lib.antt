@@ -1,12 +1,3 @@
-pub mod Fronts
-pub mod ScanLaws
-pub mod TightLaws
-pub mod QuietLaws
-pub mod ByteLaws
-pub mod EffectLaws
-pub mod MemoryLaws
-pub mod StepLaws
-pub mod RowLaws
 pub mod TextLaws
 pub mod LineLaws
 pub mod HeadWordLaws
@@ -15,16 +6,12 @@ pub mod WordLines
 pub mod NodeLaws
 pub mod HeadStepLaws
 pub mod HeadLineLaws
-pub mod ListLaws
 pub mod HeadChains
 pub mod HeadSaid
 pub mod ReadingLaws
 pub mod TermLaws
 mod WrittenHeads
 pub mod WrittenLaws
-pub mod MachineLaws
-pub mod RunLaws
-pub mod PlaceLaws
 pub mod CodeLineLaws
 pub mod CodeLaws
 pub mod CodeTexts

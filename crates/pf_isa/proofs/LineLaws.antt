@@ -2,8 +2,8 @@
 use Rattle.std.proofs.Common.{ap, ℕ, ◌-◌, ◌<◌, ◌≤◌, List, length, arith, lit≤}
 use Rattle.pf_ints.specs.declared.target.Target.{Target}
 use Rattle.pf_ints.specs.declared.target.Target.TheVariants.{Neon, Avx2, Hvx}
-use Rattle.pf_isa.specs.Lines.{tight, IsLine}
-use Rattle.pf_isa.specs.Texts.{target_line}
+use Rattle.pf_text.specs.Meaning.Lines.{tight, IsLine}
+use Rattle.pf_isa.specs.Meaning.Texts.{target_line}
 
 -- no long line is the one of a target
 short_target : (target : Target) → length (tight (target_line target)) ≤ 80

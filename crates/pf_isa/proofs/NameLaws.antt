@@ -7,11 +7,11 @@ use Rattle.std.proofs.lemmas.List.Folds.{Any-from_list_any, list_any_at}
 use Rattle.std.proofs.lemmas.Slice.Eq.{bytes_eq-Decides}
 use Rattle.std.proofs.lemmas.List.{get_or-map, length-map, get_or_append_left}
 use Rattle.std.proofs.lemmas.List.Elements.{Contains-append_cases, Contains-append_left, Contains-append_right}
-use Rattle.pf_terms.specs.declared.names.ImageName.{ImageName}
-use Rattle.pf_terms.specs.KernelNames.{IsNames}
-use Rattle.pf_isa.specs.declared.program.Head.{Head}
-use Rattle.pf_isa.specs.Heads.{image_name}
-use Rattle.pf_isa.specs.TextFaults.{names_so_far}
+use Rattle.pf_values.specs.declared.names.ImageName.{ImageName}
+use Rattle.pf_terms.specs.Meaning.KernelNames.{IsNames}
+use Rattle.pf_machine.specs.declared.program.Head.{Head}
+use Rattle.pf_machine.specs.Meaning.Heads.{image_name}
+use Rattle.pf_isa.specs.Meaning.TextFaults.{names_so_far}
 
 -- a name in the second of two lists that isn't in the first
 in_second : (xs ys : List (List ℕ)) (x : List ℕ) → (Contains xs x → ⊥) → Contains (xs ++ ys) x → Contains ys x

@@ -5,24 +5,24 @@ use Rattle.std.specs.Str.Lines.{lines}
 use Rattle.std.proofs.lemmas.List.{drop_at}
 use Rattle.pf_text.proofs.Lists.{IsFurther, fork_at}
 use Rattle.pf_ints.specs.declared.target.Target.{Target}
-use Rattle.pf_isa.specs.declared.code.Label.{Label}
-use Rattle.pf_isa.specs.declared.code.Line.{Line}
+use Rattle.pf_machine.specs.declared.code.Label.{Label}
+use Rattle.pf_machine.specs.declared.code.Line.{Line}
 use Rattle.pf_isa.specs.declared.fault.TextFault.{TextFault}
 use Rattle.pf_isa.specs.declared.fault.TextFault.TheVariants.{At, Memory}
 use Rattle.pf_isa.specs.declared.fault.TextKind.{TextKind}
 use Rattle.pf_isa.specs.declared.fault.TextKind.TheVariants.{Target as TargetFault, Directive, Instruction, Label as LabelFault, NoEnd}
-use Rattle.pf_isa.specs.declared.program.Head.{Head}
-use Rattle.pf_isa.specs.Heads.{IsHead}
-use Rattle.pf_isa.specs.Programs.{Text}
-use Rattle.pf_isa.specs.Tables.{Table, IsTable}
-use Rattle.pf_isa.specs.Texts.{Said, Named, IsHeadText, IsCodeText}
-use Rattle.pf_isa.specs.TextFaults.{IsHeadFaultAt, label_names, HasPlace, IsLineFault, IsBadLine, IsBadJump, IsOpenEnd, IsCodeFaultAt, IsCodeRefusal, IsTextFault, IsHeadOr, IsTextFaultOr}
+use Rattle.pf_machine.specs.declared.program.Head.{Head}
+use Rattle.pf_machine.specs.Meaning.Heads.{IsHead}
+use Rattle.pf_machine.specs.Meaning.Programs.{ProgramOf}
+use Rattle.pf_machine.specs.Meaning.Tables.{Table, IsTable}
+use Rattle.pf_isa.specs.Meaning.Texts.{CodeMeaning, Named, IsHeadText, IsCodeText}
+use Rattle.pf_isa.specs.Meaning.TextFaults.{IsHeadFaultAt, label_names, HasPlace, IsCodeLineFault, IsBadLine, IsBadJump, IsOpenEnd, IsCodeFaultAt, IsCodeRefusal, IsTextFault, IsHeadOr, IsTextFaultOr}
 use Rattle.pf_isa.proofs.CodeOnce.{all_said, middle, no_bad_line, no_bad_jump, no_fault}
 
 -- ---- the lines behind the head
 
 module _ (I O : Type 0) (t : Table O) (is_op : O → Type 0) (laws : IsTable t is_op) where
-  one_kind : (said other : List (Said I O)) (line : List ℕ) (k l : TextKind) → IsLineFault t is_op said line k → IsLineFault t is_op other line l → k ≡ l
+  one_kind : (said other : List (CodeMeaning I O)) (line : List ℕ) (k l : TextKind) → IsCodeLineFault t is_op said line k → IsCodeLineFault t is_op other line l → k ≡ l
   one_kind said other line Instruction Instruction h i = refl
   one_kind said other line Instruction LabelFault h i = absurd (h (Named i.0) (i.1, tt))
   one_kind said other line Instruction TargetFault h i = absurd i
@@ -47,7 +47,7 @@ module _ (I O : Type 0) (t : Table O) (is_op : O → Type 0) (laws : IsTable t i
     one_line : (m n : ℕ) (k l : TextKind) → IsBadLine I t is_op ls m k → IsBadLine I t is_op ls n l → (m ≡ n) × (k ≡ l)
     one_line m n k l h i = by (fork_at h.front i.front h.line i.line h.rest i.rest (sym h.parts ∙ i.parts)) where
       by : ((h.front ≡ i.front) × (h.line ≡ i.line)) ⊎ (IsFurther h.front h.line i.front ⊎ IsFurther i.front i.line h.front) → (m ≡ n) × (k ≡ l)
-      by (inl same) = (h.count ∙ ap (λ (l : List (List ℕ)). length l) same.0 ∙ sym i.count, one_kind h.said i.said i.line k l (subst (λ x. IsLineFault t is_op h.said x k) same.1 h.fault) i.fault)
+      by (inl same) = (h.count ∙ ap (λ (l : List (List ℕ)). length l) same.0 ∙ sym i.count, one_kind h.said i.said i.line k l (subst (λ x. IsCodeLineFault t is_op h.said x k) same.1 h.fault) i.fault)
       by (inr (inl more)) = absurd (not_before m n k l h i more)
       by (inr (inr more)) = absurd (not_before n m l k i h more)
 
@@ -64,7 +64,7 @@ module _ (I O : Type 0) (t : Table O) (is_op : O → Type 0) (laws : IsTable t i
       all = all_said t is_op laws ls (h.front ++ h.jump ∷ h.rest) (i.front ++ i.jump ∷ i.rest) h.read.each i.read.each
 
       by : ((h.front ≡ i.front) × (h.jump ≡ i.jump)) ⊎ (IsFurther h.front h.jump i.front ⊎ IsFurther i.front i.jump h.front) → m ≡ n
-      by (inl same) = h.count ∙ ap (λ (l : List (Said I O)). length l) same.0 ∙ sym i.count
+      by (inl same) = h.count ∙ ap (λ (l : List (CodeMeaning I O)). length l) same.0 ∙ sym i.count
       by (inr (inl more)) = absurd (jump_before m n h i all more)
       by (inr (inr more)) = absurd (jump_before n m i h (sym all) more)
 
@@ -117,15 +117,15 @@ told_as : (A B : Type 0) (f : TextFault) (at : ℕ) (kind : TextKind) → IsText
 told_as A B (At line other) at kind h = h
 told_as A B Memory at kind h = tt
 
-refused_or : (I O : Type 0) (f : TextFault) (h : Head) (n at : ℕ) (kind : TextKind) → IsHeadOr h n (Err f) → IsTextFaultOr {A = Text I O} at kind (Err f)
+refused_or : (I O : Type 0) (f : TextFault) (h : Head) (n at : ℕ) (kind : TextKind) → IsHeadOr h n (Err f) → IsTextFaultOr {A = ProgramOf I O} at kind (Err f)
 refused_or I O (At line other) h n at kind only = absurd only
 refused_or I O Memory h n at kind only = tt
 
 module _ (I O : Type 0) (t : Table O) (is_op : O → Type 0) (target : Target) (bytes : List ℕ) where
   pub head_refused : (ls : List (List ℕ)) (f : TextFault) → ls ≡ lines bytes → t.target ≡ target → ((at : ℕ) (kind : TextKind) → IsHeadFaultAt target ls at kind → IsTextFaultOr {A = Head × ℕ} at kind (Err f))
       → ((h : Head) (front back : List (List ℕ)) → ls ≡ front ++ back → IsHeadText target front h → IsHead h → IsHeadOr h (length front) (Err f))
-      → (at : ℕ) (kind : TextKind) → IsTextFault I t is_op bytes at kind → IsTextFaultOr {A = Text I O} at kind (Err f)
-  head_refused ls f is for told only at kind (inl h) = told_as (Head × ℕ) (Text I O) f at kind (told at kind (subst (λ l. IsHeadFaultAt target l at kind) (sym is) (subst (λ x. IsHeadFaultAt x (lines bytes) at kind) for h)))
+      → (at : ℕ) (kind : TextKind) → IsTextFault I t is_op bytes at kind → IsTextFaultOr {A = ProgramOf I O} at kind (Err f)
+  head_refused ls f is for told only at kind (inl h) = told_as (Head × ℕ) (ProgramOf I O) f at kind (told at kind (subst (λ l. IsHeadFaultAt target l at kind) (sym is) (subst (λ x. IsHeadFaultAt x (lines bytes) at kind) for h)))
   head_refused ls f is for told only at kind (inr h) = refused_or I O f h.head (length h.front) at kind (only h.head h.front h.back (is ∙ h.parts) (subst (λ x. IsHeadText x h.front h.head) for h.says) h.is_head)
 
   -- behind a head that is read the fault is the code's
@@ -141,5 +141,5 @@ module _ (I O : Type 0) (t : Table O) (is_op : O → Type 0) (target : Target) (
       code at kind (subst (λ l. IsCodeFaultAt I t is_op start l at kind) (sym behind) (subst (λ n. IsCodeFaultAt I t is_op n h.back at kind) (sym same.1) h.fault))
 
   pub code_refused : (f : TextFault) → ((at : ℕ) (kind : TextKind) → IsTextFault I t is_op bytes at kind → IsTextFaultOr {A = List (Line I O) × List Label} at kind (Err f))
-      → (at : ℕ) (kind : TextKind) → IsTextFault I t is_op bytes at kind → IsTextFaultOr {A = Text I O} at kind (Err f)
-  code_refused f told at kind h = told_as (List (Line I O) × List Label) (Text I O) f at kind (told at kind h)
+      → (at : ℕ) (kind : TextKind) → IsTextFault I t is_op bytes at kind → IsTextFaultOr {A = ProgramOf I O} at kind (Err f)
+  code_refused f told at kind h = told_as (List (Line I O) × List Label) (ProgramOf I O) f at kind (told at kind h)

@@ -10,12 +10,12 @@ use Rattle.std.proofs.lemmas.Grind.{flat_map-append}
 use Rattle.std.proofs.lemmas.List.Folds.{list_all-append}
 use Rattle.std.proofs.lemmas.List.Sums.{AllPass-from_list_all}
 use Rattle.std.proofs.lemmas.List.Splits.{slice_split_at}
-use Rattle.pf_ints.specs.Words.{is_name_byte, is_letter, is_digit, is_spelled, is_reserved, is_name}
-use Rattle.pf_isa.specs.declared.code.Line.{Line}
-use Rattle.pf_isa.specs.declared.code.Label.{Label}
-use Rattle.pf_isa.specs.Lines.{is_blank, tight_on}
-use Rattle.pf_isa.specs.Tables.{Table}
-use Rattle.pf_isa.specs.Texts.{Said, Nothing, Named, Does, printed, line_text, label_lines, labels_at, labels_behind, named, code_lines, code_of, labels_of, said_from, uncommented}
+use Rattle.pf_text.specs.Meaning.Words.{is_name_byte, is_letter, is_digit, is_spelled, is_reserved, is_name}
+use Rattle.pf_machine.specs.declared.code.Line.{Line}
+use Rattle.pf_machine.specs.declared.code.Label.{Label}
+use Rattle.pf_text.specs.Meaning.Lines.{is_blank, tight_on}
+use Rattle.pf_machine.specs.Meaning.Tables.{Table}
+use Rattle.pf_isa.specs.Meaning.Texts.{CodeMeaning, Nothing, Named, Does, printed, line_text, label_lines, labels_at, labels_behind, named, code_lines, code_of, labels_of, said_from, uncommented_code}
 
 pub printed-append : (a b : List (List ℕ)) → printed (a ++ b) ≡ printed a ++ printed b
 printed-append a b = flat_map-append (λ l. l ++ 10 ∷ []) a b
@@ -159,7 +159,7 @@ inner_signed (negsuc n) = inner_decimal (suc n)
 
 -- ---- what the lines of code say
 
-code_of-append : {I O : Type 0} (a b : List (Said I O)) → code_of (a ++ b) ≡ code_of a ++ code_of b
+code_of-append : {I O : Type 0} (a b : List (CodeMeaning I O)) → code_of (a ++ b) ≡ code_of a ++ code_of b
 code_of-append [] b = refl
 code_of-append (Nothing ∷ a) b = code_of-append a b
 code_of-append (Named name ∷ a) b = code_of-append a b
@@ -180,7 +180,7 @@ abbrev pub Ascend : ℕ → ℕ → List Label → Type 0
 Ascend low high [] = Unit {0}
 Ascend low high (l ∷ ls) = (low ≤ l.before) × (l.before ≤ high) × Ascend l.before high ls
 
-pub labels_of-named : {I O : Type 0} (n : ℕ) (labels : List Label) (more : List (Said I O)) → Ascend n n labels → labels_of n (named labels ++ more) ≡ labels ++ labels_of n more
+pub labels_of-named : {I O : Type 0} (n : ℕ) (labels : List Label) (more : List (CodeMeaning I O)) → Ascend n n labels → labels_of n (named labels ++ more) ≡ labels ++ labels_of n more
 labels_of-named n [] more h = refl
 labels_of-named n (l ∷ ls) more h =
     let here : l.before ≡ n = omega (arith, h.0, h.1) in
@@ -215,7 +215,7 @@ tight-solid free (c ∷ cs) h =
 abbrev pub no_slash : ℕ → Bool
 no_slash c = not (c == 47)
 
-pub uncommented-no_slash : (cs : List ℕ) → list_all no_slash cs ≡ true → uncommented cs ≡ cs
+pub uncommented-no_slash : (cs : List ℕ) → list_all no_slash cs ≡ true → uncommented_code cs ≡ cs
 uncommented-no_slash [] h = refl
 uncommented-no_slash (c ∷ []) h = refl
 uncommented-no_slash (c ∷ d ∷ cs) h =

@@ -12,13 +12,13 @@ use Rattle.std.proofs.lemmas.Fmt.{decimal_nonempty}
 use Rattle.pf_ints.specs.declared.lane.LaneType.{LaneType}
 use Rattle.pf_ints.specs.declared.lane.Bits.{Bits}
 use Rattle.pf_ints.specs.declared.lane.Bits.TheVariants.{Eight, Sixteen, ThirtyTwo}
-use Rattle.pf_ints.specs.Words.{is_name}
-use Rattle.pf_terms.specs.TermTexts.{type_word}
-use Rattle.pf_isa.specs.Lines.{is_blank, tight, tight_on, tight_pending, IsLine}
-use Rattle.pf_isa.specs.HeadWords.{is_space, words_in, IsOffset}
+use Rattle.pf_text.specs.Meaning.Words.{is_name}
+use Rattle.pf_terms.specs.Meaning.TermTexts.{type_word}
+use Rattle.pf_text.specs.Meaning.Lines.{is_blank, tight, tight_on, tight_pending, IsLine}
+use Rattle.pf_isa.specs.Steps.HeadWords.{is_space, words_in, IsOffset}
 use Rattle.pf_isa.proofs.TextLaws.{name_bytes}
-use Rattle.pf_isa.proofs.TightLaws.{IsSolid, solid_name, solid_digits, front_kept}
-use Rattle.pf_isa.proofs.ScanLaws.{digits-decimal}
+use Rattle.pf_text.proofs.TightLaws.{IsSolid, solid_name, solid_digits, front_kept}
+use Rattle.pf_text.proofs.ScanLaws.{digits-decimal}
 use Rattle.pf_isa.proofs.HeadWordLaws.{name_size}
 
 -- a word has no blank and no comma, and it is not empty

@@ -7,26 +7,25 @@ use Rattle.std.proofs.lemmas.List.Elements.{All-nil, All-push}
 use Rattle.std.proofs.lemmas.List.Sums.{AllPass-from_list_all}
 use Rattle.pf_ints.specs.declared.lane.LaneType.{LaneType}
 use Rattle.pf_ints.specs.declared.target.Target.{Target}
-use Rattle.pf_ints.specs.Lanes.{lane_width}
-use Rattle.pf_ints.specs.Words.{is_name_byte, is_digit, is_name}
-use Rattle.pf_terms.specs.declared.kernel.Definition.{Definition}
-use Rattle.pf_terms.specs.declared.names.Names.{Names}
-use Rattle.pf_terms.specs.declared.term.Term.{Term}
+use Rattle.pf_ints.specs.Meaning.Lanes.{lane_width}
+use Rattle.pf_text.specs.Meaning.Words.{is_name_byte, is_digit, is_name}
+use Rattle.pf_values.specs.declared.kernel.Definition.{Definition}
+use Rattle.pf_values.specs.declared.names.Names.{Names}
+use Rattle.pf_values.specs.declared.term.Term.{Term}
 use Rattle.pf_terms.specs.declared.token.Token.{Token}
-use Rattle.pf_terms.specs.Drafts.{IsShallow}
-use Rattle.pf_terms.specs.Grammar.{Spells, Whole}
-use Rattle.pf_terms.specs.KernelNames.{IsNames}
-use Rattle.pf_terms.specs.Meanings.{IsTermText}
-use Rattle.pf_terms.specs.Parsing.{kinds}
-use Rattle.pf_terms.specs.Tokens.{IsLexed, ended, blank, token}
+use Rattle.pf_terms.specs.Meaning.SyntaxTrees.{IsShallow}
+use Rattle.pf_terms.specs.Meaning.Grammar.{Spells, Whole}
+use Rattle.pf_terms.specs.Meaning.KernelNames.{IsNames}
+use Rattle.pf_terms.specs.Meaning.Meanings.{IsTermText}
+use Rattle.pf_terms.specs.Meaning.Tokens.{kinds, IsLexed, at_end, blank, token}
 use Rattle.pf_terms.proofs.ReadBackTexts.{IsReadAt}
 use Rattle.pf_terms.proofs.ReadBackMeanings.{printed_is_read}
-use Rattle.pf_terms.specs.TermTexts.{type_word, sign_letter, term_text}
-use Rattle.pf_isa.specs.declared.program.Head.{Head}
-use Rattle.pf_isa.specs.Lines.{tight, IsLine}
-use Rattle.pf_isa.specs.Heads.{IsHead, IsLifted, AreLifted, AreLiftedNames, names_of, with_def, image_name}
-use Rattle.pf_isa.specs.Texts.{IsHeadText, IsLiftedLine, AreLiftedLines, lifted_line, lifted_lines, declaration_lines, head_lines, target_line, image_line, tap_line, out_line, scratch_line, cost_line}
-use Rattle.pf_isa.specs.TextFaults.{names_so_far}
+use Rattle.pf_terms.specs.Meaning.TermTexts.{type_word, sign_letter, term_text}
+use Rattle.pf_machine.specs.declared.program.Head.{Head}
+use Rattle.pf_text.specs.Meaning.Lines.{tight, IsLine}
+use Rattle.pf_machine.specs.Meaning.Heads.{IsHead, IsLifted, AreLifted, AreLiftedNames, names_of_taps, with_def, image_name}
+use Rattle.pf_isa.specs.Meaning.Texts.{IsHeadText, IsLiftedLine, AreLiftedLines, lifted_line, lifted_lines, declaration_lines, head_lines, target_line, image_line, tap_line, out_line, scratch_line, cost_line}
+use Rattle.pf_isa.specs.Meaning.TextFaults.{names_so_far}
 use Rattle.pf_isa.proofs.HeadSaid.{names_from}
 use Rattle.pf_isa.proofs.HeadChains.{with_terms, names_more}
 use Rattle.pf_isa.proofs.TextLaws.{all-append, all-weaker, name_bytes, decimal_digits, digit_name_byte, apart_from}
@@ -71,7 +70,7 @@ sign_between a ty term =
 
 -- the tokens of a text stand at any place in the same order
 lexed_anywhere : (n : ℕ) (text : List ℕ) (ts : List Token) → IsLexed n text ts → (m : ℕ) → IsReadAt m text (kinds ts)
-lexed_anywhere n text ts (ended i) m = record { tokens = []; lexed = ended m; told = refl }
+lexed_anywhere n text ts (at_end i) m = record { tokens = []; lexed = at_end m; told = refl }
 lexed_anywhere n text ts (blank i b rest us is h) m =
     let x = lexed_anywhere (i + 1) rest us h (m + 1) in
     record { tokens = x.tokens; lexed = blank m b rest x.tokens is x.lexed; told = x.told }
@@ -85,11 +84,11 @@ behind_blank names after text t is =
     let s = is.spelled in
     let x = lexed_anywhere 0 text s.tokens s.lexed 1 in
     record {
-      draft = is.draft;
+      tree = is.tree;
       spelled = record {
         tokens = x.tokens;
         lexed = blank 0 32 text x.tokens refl x.lexed;
-        spelled = subst (λ ks. Spells Whole ks is.draft) (sym x.told) s.spelled;
+        spelled = subst (λ ks. Spells Whole ks is.tree) (sym x.told) s.spelled;
         shallow = subst (λ ks. IsShallow 0 ks) (sym x.told) s.shallow;
       };
       means = is.means;
@@ -143,10 +142,10 @@ regrouped first a b c d = ap (λ k. first ∷ k) (rw (append_assoc a (b ++ c) d,
 pub head_is_read : (target : Target) (h : Head) → IsHead h → IsHeadText target (head_lines target h) h
 head_is_read target h is = record {
   declarations = declaration_lines target h;
-  terms = lifted_lines (names_of h.images h.taps) h.lifted;
+  terms = lifted_lines (names_of_taps h.images h.taps) h.lifted;
   last = cost_line h.cost;
-  parts = regrouped (target_line target) (map image_line h.images) (map (tap_line (map image_name h.images)) h.taps) (out_line h.out_ty ∷ scratch_line h.scratch ∷ []) (lifted_lines (names_of h.images h.taps) h.lifted ++ cost_line h.cost ∷ []);
+  parts = regrouped (target_line target) (map image_line h.images) (map (tap_line (map image_name h.images)) h.taps) (out_line h.out_ty ∷ scratch_line h.scratch ∷ []) (lifted_lines (names_of_taps h.images h.taps) h.lifted ++ cost_line h.cost ∷ []);
   declared = lines_themselves (declaration_lines target h);
-  lifted = lifted_are_read h is [] h.lifted refl (All-nil (λ s. is_name s ≡ true)) (names_of h.images h.taps) refl is.lifted is.lifted_names;
+  lifted = lifted_are_read h is [] h.lifted refl (All-nil (λ s. is_name s ≡ true)) (names_of_taps h.images h.taps) refl is.lifted is.lifted_names;
   cost = refl;
 }

@@ -8,23 +8,23 @@ use Rattle.std.proofs.lemmas.List.{append-nil}
 use Rattle.std.proofs.lemmas.List.Elements.{recursion_from_All}
 use Rattle.pf_ints.specs.declared.target.Target.{Target}
 use Rattle.pf_ints.specs.declared.target.Target.TheVariants.{Neon, Avx2, Hvx}
-use Rattle.pf_ints.specs.Words.{is_name}
-use Rattle.pf_terms.specs.declared.kernel.Definition.{Definition}
-use Rattle.pf_terms.specs.declared.kernel.ImageDecl.{ImageDecl}
-use Rattle.pf_terms.specs.declared.names.Names.{Names}
-use Rattle.pf_terms.specs.declared.names.Tap.{Tap}
-use Rattle.pf_terms.specs.declared.names.ImageName.{ImageName}
-use Rattle.pf_terms.specs.declared.names.DefName.{DefName}
-use Rattle.pf_terms.specs.TermTexts.{no_image, no_def}
-use Rattle.pf_isa.specs.declared.program.Head.{Head}
-use Rattle.pf_isa.specs.declared.code.Line.{Line}
-use Rattle.pf_isa.specs.declared.code.Line.TheVariants.{Vector, Control as Controls}
-use Rattle.pf_isa.specs.declared.code.Label.{Label}
-use Rattle.pf_isa.specs.Lines.{tight, IsPlain, IsInstruction}
-use Rattle.pf_isa.specs.Tables.{Table, IsTable}
-use Rattle.pf_isa.specs.Heads.{IsHead, IsDecl, AreLiftedNames, image_name, def_name, names_of, with_def}
-use Rattle.pf_isa.specs.Programs.{Text, IsProgram, IsInstructionOf, IsLabel}
-use Rattle.pf_isa.specs.Texts.{Named, Does, printed, line_text, label_text, label_lines, labels_at, labels_behind, named, code_lines, labels_of, said_from, uncommented, MeansLine, Says, IsOpOf, IsText, head_lines, target_line, image_line, range_text, tap_line, offsets_text, typed_term_text, lifted_lines, cost_line}
+use Rattle.pf_text.specs.Meaning.Words.{is_name}
+use Rattle.pf_values.specs.declared.kernel.Definition.{Definition}
+use Rattle.pf_values.specs.declared.kernel.ImageDecl.{ImageDecl}
+use Rattle.pf_values.specs.declared.names.Names.{Names}
+use Rattle.pf_values.specs.declared.names.Tap.{Tap}
+use Rattle.pf_values.specs.declared.names.ImageName.{ImageName}
+use Rattle.pf_values.specs.declared.names.DefName.{DefName}
+use Rattle.pf_values.specs.Meaning.NamedTerms.{no_image, no_def}
+use Rattle.pf_machine.specs.declared.program.Head.{Head}
+use Rattle.pf_machine.specs.declared.code.Line.{Line}
+use Rattle.pf_machine.specs.declared.code.Line.TheVariants.{Vector, Control as Controls}
+use Rattle.pf_machine.specs.declared.code.Label.{Label}
+use Rattle.pf_text.specs.Meaning.Lines.{tight, IsPlain, IsInstruction}
+use Rattle.pf_machine.specs.Meaning.Tables.{Table, IsTable}
+use Rattle.pf_machine.specs.Meaning.Heads.{IsHead, IsDecl, AreLiftedNames, image_name, def_name, names_of_taps, with_def}
+use Rattle.pf_machine.specs.Meaning.Programs.{ProgramOf, IsProgram, IsInstructionOf, IsLabel}
+use Rattle.pf_isa.specs.Meaning.Texts.{Named, Does, printed, line_text, label_text, label_lines, labels_at, labels_behind, named, code_lines, labels_of, said_from, uncommented_code, MeansLine, SaysCode, IsOpOf, IsText, head_lines, target_line, image_line, range_text, tap_line, offsets_text, typed_term_text, lifted_lines, cost_line}
 use Rattle.pf_isa.proofs.TextLaws.{inner, is_inner, solid, all-append, all-weaker, inner_name, lines-printed, code_of-said_from, Ascend, ascend_at, labels_of-named, is_solid_name, tight-solid, uncommented-no_slash, solid_no_slash, no_slash}
 use Rattle.pf_isa.proofs.WrittenHeads.{head_is_read}
 use Rattle.pf_isa.proofs.TermLaws.{IsInner, Inner, literal, inner_append, decimal_inner, signed_inner, inner_type, inner_term, InnerNames}
@@ -97,13 +97,13 @@ head_inner : (target : Target) (h : Head) → IsHead h → Inner (head_lines tar
 head_inner target h is =
     let decls = recursion_from_All IsDecl h.images is.images in
     let images = image_named h.images decls in
-    let names : InnerNames (names_of h.images h.taps) = record { images = images; defs = λ n. literal [] refl } in (
+    let names : InnerNames (names_of_taps h.images h.taps) = record { images = images; defs = λ n. literal [] refl } in (
       target_inner target,
       inner_lines (map image_line h.images) _ (images_inner h.images decls) (inner_lines (map (tap_line (map image_name h.images)) h.taps) _ (taps_inner (map image_name h.images) images h.taps) (
         inner_append (literal (codes ".out ") refl) (inner_type h.out_ty),
         (
           inner_append (literal (codes ".scratch ") refl) (decimal_inner h.scratch),
-          inner_lines (lifted_lines (names_of h.images h.taps) h.lifted) (cost_line h.cost ∷ []) (lifted_inner (names_of h.images h.taps) h.lifted names (lifted_named h.lifted is.lifted_names)) (inner_append (literal (codes ".cost ") refl) (decimal_inner h.cost), tt),
+          inner_lines (lifted_lines (names_of_taps h.images h.taps) h.lifted) (cost_line h.cost ∷ []) (lifted_inner (names_of_taps h.images h.taps) h.lifted names (lifted_named h.lifted is.lifted_names)) (inner_append (literal (codes ".cost ") refl) (decimal_inner h.cost), tt),
         ),
       )),
     )
@@ -135,7 +135,7 @@ printed_means : {I O : Type 0} (t : Table O) (line : Line I O) (bare : List ℕ)
 printed_means t (Vector op) bare same = (t.text op, inl refl, same)
 printed_means t (Controls c) bare same = same
 
-line_says : {I O : Type 0} (t : Table O) (line : Line I O) → IsInstruction (line_text t line) → Says t (line_text t line) (Does line)
+line_says : {I O : Type 0} (t : Table O) (line : Line I O) → IsInstruction (line_text t line) → SaysCode t (line_text t line) (Does line)
 line_says t line h =
     let plain = recursion_from_All IsPlain (line_text t line) h.plain in
     (no_return (line_text t line) (plain_inner (line_text t line) plain), printed_means t line _ (ap tight (uncommented-no_slash (line_text t line) (plain_no_slash (line_text t line) plain))))
@@ -143,16 +143,16 @@ line_says t line h =
 label_solid : (name : List ℕ) → is_name name ≡ true → list_all solid (label_text name) ≡ true
 label_solid name h = all-append solid name (codes ":") (is_solid_name name h) refl
 
-label_says : {O : Type 0} (I : Type 0) (t : Table O) (name : List ℕ) → IsTrue (is_name name) → Says {I = I} t (label_text name) (Named name)
+label_says : {O : Type 0} (I : Type 0) (t : Table O) (name : List ℕ) → IsTrue (is_name name) → SaysCode {I = I} t (label_text name) (Named name)
 unfolding tight
 label_says I t name h =
     let is : is_name name ≡ true = search rules in
     let solid_label = label_solid name is in
-    let whole : uncommented (label_text name) ≡ label_text name = uncommented-no_slash (label_text name) (all-weaker solid no_slash solid_no_slash (label_text name) solid_label) in
+    let whole : uncommented_code (label_text name) ≡ label_text name = uncommented-no_slash (label_text name) (all-weaker solid no_slash solid_no_slash (label_text name) solid_label) in
     let inside : is_inner (label_text name) ≡ true = all-append inner name (codes ":") (inner_name name is) refl in
     (no_return (label_text name) inside, (h, ap tight whole ∙ tight-solid true (label_text name) solid_label))
 
-labels_say : {O : Type 0} (I : Type 0) (t : Table O) (ls : List Label) → AreNames ls → AllZip (Says {I = I} t) (label_lines ls) (named ls)
+labels_say : {O : Type 0} (I : Type 0) (t : Table O) (ls : List Label) → AreNames ls → AllZip (SaysCode {I = I} t) (label_lines ls) (named ls)
 labels_say I t [] h = tt
 labels_say I t (l ∷ ls) h = (label_says I t l.name h.0, labels_say I t ls h.1)
 
@@ -168,11 +168,11 @@ names_at n (l ∷ ls) h =
       | false ↦ (tt, h)
     ]
 
-code_says : {I O : Type 0} (t : Table O) (n : ℕ) (code : List (Line I O)) (ls : List Label) → AreInstructions t code → AreNames ls → AllZip (Says t) (code_lines t n code ls) (said_from n code ls)
+code_says : {I O : Type 0} (t : Table O) (n : ℕ) (code : List (Line I O)) (ls : List Label) → AreInstructions t code → AreNames ls → AllZip (SaysCode t) (code_lines t n code ls) (said_from n code ls)
 code_says {I = I} t n [] ls h k = labels_say I t ls k
 code_says {I = I} t n (line ∷ more) ls h k =
     let parts = names_at n ls k in
-    zip_append (Says t) (label_lines (labels_at n ls)) _ (named (labels_at n ls)) _ (labels_say I t (labels_at n ls) parts.0) (line_says t line h.0, code_says t (n + 1) more (labels_behind n ls) h.1 parts.1)
+    zip_append (SaysCode t) (label_lines (labels_at n ls)) _ (named (labels_at n ls)) _ (labels_say I t (labels_at n ls) parts.0) (line_says t line h.0, code_says t (n + 1) more (labels_behind n ls) h.1 parts.1)
 
 code_inner : {I O : Type 0} (t : Table O) (n : ℕ) (code : List (Line I O)) (ls : List Label) → AreInstructions t code → AreNames ls → Inner (code_lines t n code ls)
 code_inner t n [] ls h k = labels_inner ls k
@@ -211,7 +211,7 @@ label_names count [] h = tt
 label_names count (l ∷ ls) h = (h.0.name, label_names count ls h.1)
 
 -- the head's lines and then the lines of the code are a text of the program
-pub written_is_text : {I O : Type 0} (t : Table O) (is_op : O → Type 0) (laws : IsTable t is_op) (p : Text I O) (text : List ℕ)
+pub written_is_text : {I O : Type 0} (t : Table O) (is_op : O → Type 0) (laws : IsTable t is_op) (p : ProgramOf I O) (text : List ℕ)
     → text ≡ printed (head_lines t.target p.head ++ code_lines t 0 p.code p.labels) → All (λ line. IsOpOf is_op line) p.code → IsProgram t p → IsText t is_op text p
 written_is_text t is_op laws p text is ops program =
     let instructions = instructions_of t is_op laws p.labels p.code (recursion_from_All (λ line. IsOpOf is_op line) p.code ops) (recursion_from_All (λ line. IsInstructionOf t p.labels line) p.code program.code) in
@@ -233,7 +233,7 @@ written_is_text t is_op laws p text is ops program =
     }
 
 -- the same, where target, head, code and labels are told by equations
-pub text_from : {I O : Type 0} (t : Table O) (is_op : O → Type 0) (laws : IsTable t is_op) (p : Text I O) (text : List ℕ) (target : Target) (head : Head) (code : List (Line I O)) (labels : List Label)
+pub text_from : {I O : Type 0} (t : Table O) (is_op : O → Type 0) (laws : IsTable t is_op) (p : ProgramOf I O) (text : List ℕ) (target : Target) (head : Head) (code : List (Line I O)) (labels : List Label)
     → t.target ≡ target → head ≡ p.head → code ≡ p.code → labels ≡ p.labels → text ≡ printed (head_lines target head ++ code_lines t 0 code labels) → All (λ line. IsOpOf is_op line) code → IsProgram t p → IsText t is_op text p
 text_from t is_op laws p text target head code labels same_target same_head same_code same_labels is ops program =
     let whole : text ≡ printed (head_lines t.target p.head ++ code_lines t 0 p.code p.labels) = rw (same_target, ← same_head, ← same_code, ← same_labels) is in

@@ -1,15 +1,13 @@
 ghost use Rattle.std.specs.Prelude.{◌≡◌, List, ℕ, ◌++◌, IsTrue, MatchOption, length, take, true, false, not};
-ghost use Rattle.pf_ints.specs.Words.{is_name};
-ghost use Rattle.pf_isa.specs.Lines.{tight};
-ghost use Rattle.pf_isa.specs.Texts.{Said, Does, uncommented, label_text, MeansLine};
-ghost use Rattle.pf_isa.specs.TextFaults.{IsKnown, SaysKnown};
-ghost use Rattle.pf_isa.specs.declared.code.Line.{Line};
-ghost use Rattle.pf_isa.specs.CodeReading.{said_by, BeginsPlain, EndsPlain};
+ghost use Rattle.pf_text.specs.Meaning.Words.{is_name};
+ghost use Rattle.pf_text.specs.Meaning.Lines.{tight};
+ghost use Rattle.pf_isa.specs.Meaning.Texts.{CodeMeaning, Does, uncommented_code, label_text, MeansLine};
+ghost use Rattle.pf_isa.specs.Meaning.TextFaults.{IsOperation, SaysKnown};
+ghost use Rattle.pf_machine.specs.declared.code.Line.{Line};
+ghost use Rattle.pf_isa.specs.Steps.CodeReading.{said_by, BeginsPlain, EndsPlain};
 
-use crate::code::Line;
-use crate::isa::Isa;
-use crate::tight::is_blank;
-use pf_ints::is_name;
+use pf_machine::{Isa, Line};
+use pf_text::{is_blank, is_name};
 
 /// What a line behind the head says.
 #[derive(Drop)]
@@ -23,12 +21,12 @@ pub enum CodeLine<'a, I: Isa> {
 
 /// What the line says, or None where it is no line of code.
 pub fn code_line<I: Isa>(line: &[u8]) -> Option<CodeLine<'_, I>>
-    ensures { MatchOption result ((said : Said I I.Op) → SaysKnown I.table I.is_op line.now said → ⊥) (λ l. SaysKnown I.table I.is_op line.now (said_by l)) }
+    ensures { MatchOption result ((said : CodeMeaning I I.Op) → SaysKnown I.table I.is_op line.now said → ⊥) (λ l. SaysKnown I.table I.is_op line.now (said_by l)) }
 {
     if line.contains(&b'\r') {
         return None;
     }
-    let bare = trimmed(uncommented(line));
+    let bare = trimmed(uncommented_code(line));
     if bare.len() < 1 {
         return Some(CodeLine::Blank);
     }
@@ -43,7 +41,7 @@ pub fn code_line<I: Isa>(line: &[u8]) -> Option<CodeLine<'_, I>>
 
 /// The instruction that the line is, up to blanks, or None where it is none.
 fn instruction_of<I: Isa>(line: &[u8]) -> Option<Line<I>>
-    ensures { MatchOption result ((l : Line I I.Op) → IsKnown I.table I.is_op (Does l) → MeansLine I.table line.now l → ⊥) (λ l. IsKnown I.table I.is_op (Does l) × MeansLine I.table line.now l) }
+    ensures { MatchOption result ((l : Line I I.Op) → IsOperation I.table I.is_op (Does l) → MeansLine I.table line.now l → ⊥) (λ l. IsOperation I.table I.is_op (Does l) × MeansLine I.table line.now l) }
 {
     if let Some(op) = I::parse(line) {
         I::known(&op);
@@ -56,8 +54,8 @@ fn instruction_of<I: Isa>(line: &[u8]) -> Option<Line<I>>
 }
 
 /// The line without its comment.
-fn uncommented(line: &[u8]) -> &[u8]
-    ensures { result.now ≡ uncommented line.now }
+fn uncommented_code(line: &[u8]) -> &[u8]
+    ensures { result.now ≡ uncommented_code line.now }
 {
     for i in 0..line.len() {
         if line[i..].starts_with(b"//") {

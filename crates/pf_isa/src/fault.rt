@@ -1,6 +1,6 @@
 ghost use Rattle.std.specs.Prelude.{◌≡◌};
 ghost use Rattle.pf_isa.specs.declared.fault.TextFault.TheVariants.{Memory};
-ghost use Rattle.pf_isa.specs.TextFaults.{kind_word};
+ghost use Rattle.pf_isa.specs.Meaning.TextFaults.{text_kind_word};
 
 use std::alloc::{AllocError, AllocFailed};
 use thiserror::Error;
@@ -28,7 +28,7 @@ pub enum TextKind {
 impl TextKind {
     /// The kind in one word of small letters.
     pub fn word(self) -> &'static [u8]
-        ensures { result.now ≡ kind_word self }
+        ensures { result.now ≡ text_kind_word self }
     {
         match self {
             TextKind::Target => b"target",

@@ -1,18 +1,19 @@
 ghost use Rattle.std.specs.Prelude.{◌≡◌, ◌≢◌, neg_ℤ, slice_index_or, ℕ, List, [], ◌∷◌, ◌<◌, ◌≤◌, ◌^◌, pos, length, MatchOption, IsTrue, ◌↔◌, decimal};
 ghost use Rattle.std.specs.List.{list_all, AllPairs};
 ghost use Rattle.std.specs.Fmt.{signed_decimal};
-ghost use Rattle.pf_ints.specs.Images.{IsPixelType};
-ghost use Rattle.pf_ints.specs.Lanes.{IsIn};
-ghost use Rattle.pf_ints.specs.Words.{is_name, is_digit};
-ghost use Rattle.pf_terms.specs.TermTexts.{type_word, no_image};
-ghost use Rattle.pf_isa.specs.Heads.{IsDecl, IsTap};
-ghost use Rattle.pf_isa.specs.HeadWords.{IsTheOne, IsOffset, image_words, tap_words, lifted_words, IsLiftedName, out_words, scratch_words, cost_words};
-ghost use Rattle.pf_isa.specs.TextFaults.{texts};
+ghost use Rattle.pf_ints.specs.Meaning.Images.{IsPixelType};
+ghost use Rattle.pf_ints.specs.Meaning.Lanes.{IsIn};
+ghost use Rattle.pf_text.specs.Meaning.Words.{is_name, is_digit};
+ghost use Rattle.pf_terms.specs.Meaning.TermTexts.{type_word};
+ghost use Rattle.pf_values.specs.Meaning.NamedTerms.{no_image};
+ghost use Rattle.pf_machine.specs.Meaning.Heads.{IsDecl, IsTap};
+ghost use Rattle.pf_isa.specs.Steps.HeadWords.{IsTheOne, IsOffset, image_words, tap_words, lifted_words, IsLiftedName, out_words, scratch_words, cost_words};
+ghost use Rattle.pf_isa.specs.Meaning.TextFaults.{texts};
 
-use crate::scan::{behind, value_of_digits};
 use itoa::Buffer;
-use pf_ints::{LaneType, Name, is_digit, is_name};
+use pf_ints::{LaneType, Name};
 use pf_terms::{ImageDecl, ImageName, Tap, type_of_word};
+use pf_text::{behind, is_digit, is_name, value_of_digits};
 
 /// The number that the word writes, or None where it writes none below 2^64.
 pub fn number_of_word(word: &[u8]) -> Option<u64>

@@ -1,9 +1,6 @@
 ghost use Rattle.std.specs.Prelude.{◌≡◌, MatchOption, true, All};
-ghost use Rattle.pf_isa.specs.CodeReading.{has_name, jump_label, IsFirstMissing};
+ghost use Rattle.pf_isa.specs.Steps.CodeReading.{has_name, IsFirstMissing};
 
-use crate::code::Line;
-use crate::control::Control;
-use crate::isa::Isa;
 use pf_ints::Name;
 use std::collections::BTreeSet;
 
@@ -28,17 +25,4 @@ pub fn first_missing(jumps: &[Jump], names: &LabelNames<'_>) -> Option<u64>
         }
     }
     None
-}
-
-/// The label that the instruction may jump to, or None where it is no jump.
-pub fn jump_label<I: Isa>(line: &Line<I>) -> Option<Name>
-    ensures { result ≡ jump_label line.now }
-{
-    match line {
-        Line::Vector(_) => None,
-        Line::Control(c) => match c.control() {
-            Control::Below { label } | Control::Jump { label } => Some(label),
-            _ => None,
-        },
-    }
 }

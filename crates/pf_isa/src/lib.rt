@@ -1,45 +1,24 @@
-//! Instruction sets, control instructions, programs and their texts, and the machine that they mean.
+//! The texts of programs: written and read. Programs and their machine are pf_machine's, which is passed on.
 #![tactic(auto)]
 
-mod access;
-mod block;
-mod code;
 mod code_line;
-mod control;
 mod fault;
 mod head_words;
-mod isa;
 mod jumps;
 mod lines;
-mod machine;
-mod memory;
-mod memory_access;
-mod program;
 mod read_code;
 mod read_head;
-mod registers;
-mod scan;
 mod so_far;
-mod steps;
 mod target_line;
 mod term_size;
 mod text;
-mod tight;
 mod words;
 mod write;
 
-pub use access::Access;
-pub use block::{Block, Item, ItemList};
-pub use code::{Code, Label, LabelList, Line};
-pub use control::{Control, Ctl, role};
 pub use fault::{TextFault, TextKind};
-pub use isa::{Isa, laws_of};
-pub use machine::Machine;
-pub use memory::{Region, RegionList};
-pub use program::{Head, Program};
-pub use registers::{Reg, RegFile, RegList, VectorList};
-pub use scan::{behind, checked, next_number, number_at};
-pub use steps::Trap;
+pub use pf_machine::{
+    Access, Block, Code, Control, Ctl, Head, Isa, Item, ItemList, Label, LabelList, Line, Machine,
+    Program, Reg, RegFile, RegList, Region, RegionList, Trap, VectorList, checked, laws_of, role,
+};
 pub use text::{read_text, reread, target_of};
-pub use tight::{ShortLine, tighten};
 pub use write::write_text;

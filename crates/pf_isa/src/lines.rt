@@ -1,8 +1,8 @@
 ghost use Rattle.std.specs.Prelude.{◌≡◌, ◌≤◌, ◌<◌, List, ℕ, [], ◌∷◌, length, IfOk, IfSome, MatchOption};
 ghost use Rattle.std.specs.Str.Lines.{lines};
-ghost use Rattle.pf_isa.specs.TextFaults.{texts};
+ghost use Rattle.pf_isa.specs.Meaning.TextFaults.{texts};
 
-use pf_ints::next_line;
+use pf_text::next_line;
 use std::alloc::{AllocError, Global};
 
 /// The lines of a text, each without its LF or CR LF.

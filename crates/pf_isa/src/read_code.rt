@@ -1,28 +1,26 @@
 ghost use Rattle.std.specs.Prelude.{◌≡◌, ◌+◌, ◌≤◌, ◌<◌, ◌^◌, ◌∷◌, ◌++◌, List, ℕ, [], length, drop, None, Some, IfOk, IfErr, IsTrue, ◌↔◌};
 ghost use Rattle.std.specs.List.{last_or};
-ghost use Rattle.pf_ints.specs.Words.{is_name};
-ghost use Rattle.pf_isa.specs.declared.code.Label.{Label};
-ghost use Rattle.pf_isa.specs.declared.code.Line.{Line};
+ghost use Rattle.pf_text.specs.Meaning.Words.{is_name};
+ghost use Rattle.pf_machine.specs.declared.code.Label.{Label};
+ghost use Rattle.pf_machine.specs.declared.code.Line.{Line};
 ghost use Rattle.pf_isa.specs.declared.fault.TextFault.TheVariants.{At};
 ghost use Rattle.pf_isa.specs.declared.fault.TextKind.{TextKind};
-ghost use Rattle.pf_isa.specs.Programs.{IsLast};
-ghost use Rattle.pf_isa.specs.Texts.{Said, Does, IsCodeText};
-ghost use Rattle.pf_isa.specs.TextFaults.{texts, IsKnown, IsCodeFaultAt, IsCodeRefusal, IsCodeOr, IsTextFaultOr};
-ghost use Rattle.pf_isa.specs.CodeReading.{AddsLabel, AddsInstruction, TakesLine, IsReading, IsLineRefusal};
+ghost use Rattle.pf_machine.specs.Meaning.Programs.{IsLast};
+ghost use Rattle.pf_isa.specs.Meaning.Texts.{CodeMeaning, Does, IsCodeText};
+ghost use Rattle.pf_isa.specs.Meaning.TextFaults.{texts, IsOperation, IsCodeFaultAt, IsCodeRefusal, IsCodeOr, IsTextFaultOr};
+ghost use Rattle.pf_isa.specs.Steps.CodeReading.{AddsLabel, AddsInstruction, TakesLine, IsCodeReading, IsLineRefusal};
 
-use crate::code::{Code, Label, LabelList, Line};
 use crate::code_line::{CodeLine, code_line};
-use crate::control::Control;
 use crate::fault::{TextFault, TextKind};
-use crate::isa::Isa;
-use crate::jumps::{Jump, LabelNames, first_missing, jump_label};
+use crate::jumps::{Jump, LabelNames, first_missing};
 use pf_ints::{Name, Sequence};
+use pf_machine::{Code, Control, Isa, Label, LabelList, Line, jump_label};
 use std::alloc::Global;
 use std::collections::BTreeSet;
 
 /// What the lines so far say.
 #[derive(Drop)]
-pub struct Reading<'a, I: Isa> {
+pub struct CodeReading<'a, I: Isa> {
     code: Code<I>,
     labels: LabelList,
     names: LabelNames<'a>,
@@ -68,12 +66,12 @@ fn read_lines<'a, I: Isa>(
     alloc: Global,
     lines: &[&'a [u8]],
     start: usize,
-) -> Result<Reading<'a, I>, TextFault>
+) -> Result<CodeReading<'a, I>, TextFault>
     requires { start ≤ length lines.now }
-    ensures read { IfOk result (λ r. (said : List (Said I I.Op)) × IsReading I.table I.is_op start (drop start (texts lines.now)) said r) }
+    ensures read { IfOk result (λ r. (said : List (CodeMeaning I I.Op)) × IsCodeReading I.table I.is_op start (drop start (texts lines.now)) said r) }
     ensures fault { IfErr result (IsLineRefusal I I.table I.is_op start (drop start (texts lines.now))) }
 {
-    let mut reading = Reading {
+    let mut reading = CodeReading {
         code: Sequence::new(alloc),
         labels: Sequence::new(alloc),
         names: BTreeSet::new(alloc),
@@ -87,7 +85,7 @@ fn read_lines<'a, I: Isa>(
 
 /// Reads one line more, of this number.
 fn take_line<'a, I: Isa>(
-    reading: &mut Reading<'a, I>,
+    reading: &mut CodeReading<'a, I>,
     line: &'a [u8],
     number: u64,
 ) -> Result<(), TextFault>
@@ -103,7 +101,7 @@ fn take_line<'a, I: Isa>(
 
 /// Adds a label, which no line so far has.
 fn add_label<'a, I: Isa>(
-    reading: &mut Reading<'a, I>,
+    reading: &mut CodeReading<'a, I>,
     name: &'a [u8],
     number: u64,
 ) -> Result<(), TextFault>
@@ -123,7 +121,7 @@ fn add_label<'a, I: Isa>(
 
 /// Adds an instruction.
 fn add_instruction<I: Isa>(
-    reading: &mut Reading<'_, I>,
+    reading: &mut CodeReading<'_, I>,
     line: Line<I>,
     number: u64,
 ) -> Result<(), TextFault>

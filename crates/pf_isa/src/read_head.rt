@@ -1,17 +1,17 @@
 ghost use Rattle.std.specs.Prelude.{◌≡◌, ◌+◌, ◌<◌, ◌≤◌, ◌^◌, ℕ, List, ◌++◌, length, take, IfOk, IfErr};
-ghost use Rattle.pf_text.specs.Answers.{Answers};
+ghost use Rattle.pf_text.specs.Meaning.Answers.{Answers};
 ghost use Rattle.pf_isa.specs.declared.fault.TextKind.{TextKind};
-ghost use Rattle.pf_isa.specs.declared.program.Head.{Head};
-ghost use Rattle.pf_isa.specs.Heads.{IsHead};
-ghost use Rattle.pf_isa.specs.HeadSteps.{IsReached, IsWholeFrom, IsStopped, IsHeadWay, IsHeadStop};
-ghost use Rattle.pf_isa.specs.Texts.{IsHeadText};
-ghost use Rattle.pf_isa.specs.TextFaults.{texts, IsHeadFaultAt, IsHeadRefusal, IsHeadOr, IsTextFaultOr};
+ghost use Rattle.pf_machine.specs.declared.program.Head.{Head};
+ghost use Rattle.pf_machine.specs.Meaning.Heads.{IsHead};
+ghost use Rattle.pf_isa.specs.Steps.HeadSteps.{IsReached, IsWholeFrom, IsStopped, IsHeadWay, IsHeadStop};
+ghost use Rattle.pf_isa.specs.Meaning.Texts.{IsHeadText};
+ghost use Rattle.pf_isa.specs.Meaning.TextFaults.{texts, IsHeadFaultAt, IsHeadRefusal, IsHeadOr, IsTextFaultOr};
 
 use crate::fault::{TextFault, TextKind};
-use crate::program::Head;
 use crate::so_far::HeadSoFar;
 use crate::target_line::is_for;
 use pf_ints::Target;
+use pf_machine::Head;
 use std::alloc::Global;
 
 /// The head that the first lines say, and how many lines it takes.

@@ -1,27 +1,27 @@
 ghost use Rattle.std.specs.Prelude.{◌≡◌, ◌≢◌, ◌<◌, ◌≤◌, ◌+◌, ◌↔◌, [], ◌∷◌, length, map, true, IsTrue, IfOk, IfSome, Contains, codes};
 ghost use Rattle.std.specs.List.{list_any, position};
 ghost use Rattle.std.specs.Str.{bytes_eq};
-ghost use Rattle.pf_ints.specs.Images.{IsPixelType};
+ghost use Rattle.pf_ints.specs.Meaning.Images.{IsPixelType};
 ghost use Rattle.pf_terms.specs.declared.meaning.ReadFault.TheVariants.{Memory as Refused};
-ghost use Rattle.pf_terms.specs.KernelNames.{IsNames};
-ghost use Rattle.pf_terms.specs.Meanings.{IsTermText};
-ghost use Rattle.pf_terms.specs.Terms.{IsWellTyped, stated_type};
-ghost use Rattle.pf_terms.specs.TermTexts.{is_named};
-ghost use Rattle.pf_isa.specs.Heads.{IsDecl, IsTap};
-ghost use Rattle.pf_isa.specs.HeadSteps.{WordsGoOn, DeclarationGoesOn, TapOrOutGoesOn, OutWordsGoOn, ImageGoesOn, TapGoesOn, OutGoesOn, LiftedGoesOn, TermGoesOn, IsDefinitionOf, IsFitting, IsRoom, IsReady};
-ghost use Rattle.pf_isa.specs.HeadWords.{IsTheOne, IsLiftedName, is_sign};
-ghost use Rattle.pf_isa.specs.TextFaults.{texts, SoFar, nothing, names_in, names_so_far, GoesOn, GoesOnAt, stage_behind};
+ghost use Rattle.pf_terms.specs.Meaning.KernelNames.{IsNames};
+ghost use Rattle.pf_terms.specs.Meaning.Meanings.{IsTermText};
+ghost use Rattle.pf_values.specs.Meaning.Terms.{IsWellTyped, stated_type};
+ghost use Rattle.pf_values.specs.Meaning.NamedTerms.{is_named};
+ghost use Rattle.pf_machine.specs.Meaning.Heads.{IsDecl, IsTap};
+ghost use Rattle.pf_isa.specs.Steps.HeadSteps.{WordsGoOn, DeclarationGoesOn, TapOrOutGoesOn, OutWordsGoOn, ImageGoesOn, TapGoesOn, OutGoesOn, LiftedGoesOn, TermGoesOn, IsDefinitionOf, IsFitting, IsRoom, HasTermNames};
+ghost use Rattle.pf_isa.specs.Steps.HeadWords.{IsTheOne, IsLiftedName, is_sign};
+ghost use Rattle.pf_isa.specs.Meaning.TextFaults.{texts, SoFar, empty_head, head_names, names_so_far, GoesOn, GoesOnAt, stage_behind};
 ghost use Rattle.pf_isa.specs.declared.so_far.Stage.TheVariants.{Declarations, Lifted, Code};
 
 use crate::head_words::{cost_of, image_of, lifted_of, out_of, scratch_of, tap_of};
-use crate::program::Head;
 use crate::term_size::fewest_nodes;
-use crate::tight::tight_line;
 use crate::words::words_of;
 use pf_ints::{Bits, LaneType, Memory, Name, Sequence};
+use pf_machine::Head;
 use pf_terms::{
     DefName, Definition, ImageDecl, ImageName, Names, ReadFault, Tap, Term, depth, nodes, read_term,
 };
+use pf_text::tight_line;
 use std::alloc::{AllocError, Global};
 use std::marker::Model;
 
@@ -55,8 +55,8 @@ pub struct HeadSoFar {
 }
 
 impl Model for HeadSoFar {
-    ghost use Rattle.pf_isa.specs.TextFaults.{SoFar, names_so_far, nodes_so_far};
-    ghost use Rattle.pf_terms.specs.contracts.term.Term as term;
+    ghost use Rattle.pf_isa.specs.Meaning.TextFaults.{SoFar, names_so_far, nodes_so_far};
+    ghost use Rattle.pf_values.specs.contracts.term.Term as term;
     ghost use Rattle.std.specs.Coded.{codes};
     ghost use Rattle.std.specs.Prelude.{◌≡◌};
 
@@ -72,7 +72,7 @@ impl Model for HeadSoFar {
 impl HeadSoFar {
     /// Nothing is said yet. It takes no memory.
     pub fn new(alloc: Global) -> HeadSoFar
-        ensures { result ≡ nothing }
+        ensures { result ≡ empty_head }
     {
         HeadSoFar {
             stage: Stage::Declarations,
@@ -113,7 +113,7 @@ impl HeadSoFar {
 
     // Whether an image or a lifted term has the name.
     fn has_name(&self, name: &[u8]) -> bool
-        ensures { IsTrue result ↔ Contains (names_in self.now.head) name.now }
+        ensures { IsTrue result ↔ Contains (head_names self.now.head) name.now }
     {
         has_image(self.head.images.as_slice(), name)
             || has_lifted(self.head.lifted.as_slice(), name)
@@ -261,7 +261,7 @@ impl HeadSoFar {
 
     // What is so far with a line of these words, which says no lifted term.
     fn with_words(self, words: &[&[u8]]) -> Result<Option<HeadSoFar>, Memory>
-        requires { IsReady self }
+        requires { HasTermNames self }
         ensures { IfOk result (IsTheOne (WordsGoOn self.stage self.head (texts words.now))) }
     {
         match self.stage {
@@ -356,7 +356,7 @@ impl HeadSoFar {
 
     /// What is so far with the next line, or None where the line doesn't go on from what is so far.
     pub fn next(self, alloc: Global, line: &[u8]) -> Result<Option<HeadSoFar>, Memory>
-        requires { IsReady self }
+        requires { HasTermNames self }
         ensures { IfOk result (IsTheOne (GoesOn self line.now)) }
     {
         if self.stage == Stage::Lifted {

@@ -1,9 +1,9 @@
 ghost use Rattle.std.specs.Prelude.{◌≡◌, ◌↔◌, IsTrue};
-ghost use Rattle.pf_isa.specs.Lines.{tight, IsLine};
-ghost use Rattle.pf_isa.specs.Texts.{target_line};
+ghost use Rattle.pf_text.specs.Meaning.Lines.{tight, IsLine};
+ghost use Rattle.pf_isa.specs.Meaning.Texts.{target_line};
 
-use crate::tight::{ShortLine, tighten};
 use pf_ints::Target;
+use pf_text::{ShortLine, tighten};
 
 /// Whether the line is the first one of a text for the target.
 pub fn is_for(target: Target, line: &[u8]) -> bool
@@ -16,7 +16,7 @@ pub fn is_for(target: Target, line: &[u8]) -> bool
 }
 
 // The line of a target.
-#[tactic(auto, unfolding(crate::specs::Lines::tight))]
+#[tactic(auto, unfolding(pf_text::specs::Meaning::Lines::tight))]
 fn target_line(target: Target) -> ShortLine
     ensures { result ≡ tight (target_line target) }
 {

@@ -1,8 +1,8 @@
 ghost use Rattle.std.specs.Prelude.{◌≡◌, IfOk, count_by};
 ghost use Rattle.pf_terms.specs.declared.token.Token.{Token};
-ghost use Rattle.pf_isa.specs.NodeTokens.{makes_node, HasNodes};
+ghost use Rattle.pf_isa.specs.Steps.NodeTokens.{makes_node, HasNodes};
 
-use pf_terms::{Kind, Token, tokens};
+use pf_terms::{Token, TokenKind, tokens};
 use std::alloc::{AllocError, Global};
 
 /// How many tokens of the text make a node of a term each; so many nodes at least has the term that
@@ -20,16 +20,16 @@ fn node_tokens(tokens: &[Token]) -> usize
     tokens.iter().filter(|token| makes_node(token.kind)).count()
 }
 
-fn makes_node(kind: Kind) -> bool
+fn makes_node(kind: TokenKind) -> bool
     ensures { result ≡ makes_node kind }
 {
     match kind {
-        Kind::Typed(..)
-        | Kind::Name(_)
-        | Kind::Word(_)
-        | Kind::Choose
-        | Kind::ShiftLeft
-        | Kind::ShiftRight => true,
+        TokenKind::Typed(..)
+        | TokenKind::Name(_)
+        | TokenKind::Word(_)
+        | TokenKind::Choose
+        | TokenKind::ShiftLeft
+        | TokenKind::ShiftRight => true,
         _ => false,
     }
 }

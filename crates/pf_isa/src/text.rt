@@ -2,19 +2,18 @@ ghost use Rattle.std.specs.Prelude.{◌≡◌, ℕ, List, ◌++◌, IfOk, IfErr,
 ghost use Rattle.std.specs.Str.Lines.{lines};
 ghost use Rattle.pf_ints.specs.declared.target.Target.{Target};
 ghost use Rattle.pf_isa.specs.declared.fault.TextKind.{TextKind};
-ghost use Rattle.pf_isa.specs.Programs.{Text};
-ghost use Rattle.pf_isa.specs.Texts.{IsText, head_lines, code_lines, printed};
-ghost use Rattle.pf_isa.specs.TextFaults.{IsTextFault, IsTextFaultOr, IsTextRefusal, IsProgramOr, IsFor};
+ghost use Rattle.pf_machine.specs.Meaning.Programs.{ProgramOf};
+ghost use Rattle.pf_isa.specs.Meaning.Texts.{IsText, head_lines, code_lines, printed};
+ghost use Rattle.pf_isa.specs.Meaning.TextFaults.{IsTextFault, IsTextFaultOr, IsTextRefusal, IsProgramOr, IsFor};
 
 use crate::fault::TextFault;
-use crate::isa::Isa;
 use crate::lines::{first_line, lines_of};
-use crate::program::Program;
 use crate::read_code::read_code;
 use crate::read_head::read_head;
 use crate::target_line::is_for;
 use crate::write::write_text;
 use pf_ints::Target;
+use pf_machine::{Isa, Program};
 use std::alloc::Global;
 
 /// The program that a text means. `line` of a fault counts from 1.
@@ -33,7 +32,7 @@ pub fn read_text<I: Isa>(alloc: Global, text: &[u8]) -> Result<Program<I>, TextF
     // What is read is what the text means.
     ensures found { IfOk result (λ p. IsText I.table I.is_op text.now p) }
     // What a text means is read, unless memory runs out.
-    ensures only { (p : Text I I.Op) → IsText I.table I.is_op text.now p → IsProgramOr p result }
+    ensures only { (p : ProgramOf I I.Op) → IsText I.table I.is_op text.now p → IsProgramOr p result }
     // What is told is the text's first fault, or want of memory.
     ensures fault { IfErr result (IsTextRefusal I I.table I.is_op text.now) }
     // The first fault of a text is told, unless memory runs out.

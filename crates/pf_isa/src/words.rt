@@ -1,7 +1,7 @@
 ghost use Rattle.std.specs.Prelude.{◌≡◌, ◌<◌, [], ◌∷◌, length, IfOk, IfSome, MatchOption};
 ghost use Rattle.std.specs.List.{slice_split, position};
-ghost use Rattle.pf_isa.specs.HeadWords.{is_space};
-ghost use Rattle.pf_isa.specs.TextFaults.{texts};
+ghost use Rattle.pf_isa.specs.Steps.HeadWords.{is_space};
+ghost use Rattle.pf_isa.specs.Meaning.TextFaults.{texts};
 
 use std::alloc::{AllocError, Global};
 

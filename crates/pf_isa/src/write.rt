@@ -1,15 +1,14 @@
 ghost use Rattle.std.specs.Prelude.{◌≡◌, ◌+◌, ◌<◌, ◌≤◌, ◌^◌, [], ◌∷◌, ◌++◌, length, map, drop, take, IfOk, OnOk, All, decimal};
 ghost use Rattle.std.specs.Fmt.{signed_decimal};
-ghost use Rattle.pf_terms.specs.TermTexts.{type_word};
-ghost use Rattle.pf_isa.specs.Heads.{IsHead, names_of, AreLifted, IsLifted};
-ghost use Rattle.pf_isa.specs.Programs.{IsInstructionOf};
-ghost use Rattle.pf_isa.specs.Texts.{IsText, IsOpOf, printed, target_line, range_text, image_line, offsets_text, tap_line, out_line, scratch_line, lifted_line, lifted_lines, typed_term_text, cost_line, head_lines, label_text, label_lines, line_text, labels_at, labels_behind, code_lines};
+ghost use Rattle.pf_terms.specs.Meaning.TermTexts.{type_word};
+ghost use Rattle.pf_machine.specs.Meaning.Heads.{IsHead, names_of_taps, AreLifted, IsLifted};
+ghost use Rattle.pf_machine.specs.Meaning.Programs.{IsInstructionOf};
+ghost use Rattle.pf_isa.specs.Meaning.Texts.{IsText, IsOpOf, printed, target_line, range_text, image_line, offsets_text, tap_line, out_line, scratch_line, lifted_line, lifted_lines, typed_term_text, cost_line, head_lines, label_text, label_lines, line_text, labels_at, labels_behind, code_lines};
 
-use crate::code::{Label, Line};
-use crate::isa::Isa;
-use crate::program::{Head, Program};
-use pf_ints::{Duplicate, LaneType, Memory, Name, Sequence, Target, push_number, push_whole};
+use pf_ints::{Duplicate, LaneType, Memory, Name, Sequence, Target};
+use pf_machine::{Head, Isa, Label, Line, Program};
 use pf_terms::{DefName, Definition, ImageDecl, ImageName, Names, Tap, write_term, write_type};
+use pf_text::{push_number, push_whole};
 use std::alloc::Global;
 
 fn push_target_line(text: &mut Vec<u8>, target: Target) -> Result<(), Memory>
@@ -126,8 +125,8 @@ fn push_term(text: &mut Vec<u8>, names: &Names, definition: &Definition) -> Resu
 }
 
 /// The names of the images and the taps.
-fn names_of(alloc: Global, head: &Head) -> Result<Names, Memory>
-    ensures { IfOk result (λ names. names ≡ names_of head.now.images head.now.taps) }
+fn names_of_taps(alloc: Global, head: &Head) -> Result<Names, Memory>
+    ensures { IfOk result (λ names. names ≡ names_of_taps head.now.images head.now.taps) }
 {
     let mut images = Sequence::new(alloc);
     for image in head.images.as_slice() {
@@ -236,7 +235,7 @@ fn push_head(alloc: Global, text: &mut Vec<u8>, target: Target, head: &Head) -> 
     requires { IsHead head.now }
     ensures { OnOk result (text.new.items ≡ text.old.items ++ printed (head_lines target head.now)) }
 {
-    let mut names = names_of(alloc, head)?;
+    let mut names = names_of_taps(alloc, head)?;
     push_target_line(text, target)?;
     push_image_lines(text, head.images.as_slice())?;
     push_tap_lines(text, names.images.as_slice(), head.taps.as_slice())?;

@@ -3,16 +3,16 @@ use Rattle.std.proofs.Common.{◌≡◌, refl, sym, ◌∙◌, ap, subst, inl, i
 use Rattle.std.specs.Prelude.{◌⊎◌, Option, Some, Result, Ok, Err}
 use Rattle.std.specs.Option.{option_or}
 use Rattle.pf_ints.specs.declared.lane.LaneType.{LaneType}
-use Rattle.pf_terms.specs.declared.draft.Draft.{Draft}
+use Rattle.pf_terms.specs.declared.parse.syntax_tree.SyntaxTree.{SyntaxTree}
 use Rattle.pf_terms.specs.declared.meaning.ReadFault.{ReadFault}
 use Rattle.pf_terms.specs.declared.meaning.ReadFault.TheVariants.{Syntax, Name, Memory}
-use Rattle.pf_terms.specs.declared.names.Names.{Names}
-use Rattle.pf_terms.specs.declared.term.Term.{Term}
-use Rattle.pf_terms.specs.Meanings.{first_some}
+use Rattle.pf_values.specs.declared.names.Names.{Names}
+use Rattle.pf_values.specs.declared.term.Term.{Term}
+use Rattle.pf_terms.specs.Meaning.Meanings.{first_some}
 use Rattle.pf_kernel.specs.declared.front.Front.TheVariants.{Def as DefFront, Out as OutFront}
-use Rattle.pf_kernel.specs.Expressions.{Judges}
-use Rattle.pf_kernel.specs.Lines.{Begun, names_in, nodes_in, taken, is_taken, if_so, expression_faults}
-use Rattle.pf_kernel.specs.Readings.{IsTextFault, unless_taken}
+use Rattle.pf_kernel.specs.Steps.Expressions.{Judges}
+use Rattle.pf_kernel.specs.Meaning.Lines.{Begun, names_in, nodes_in, taken, is_taken, if_so, expression_faults}
+use Rattle.pf_kernel.specs.Steps.Readings.{IsExpressionFault, unless_taken}
 
 -- nothing is told of a name that is free
 pub free_first : (b : Begun) (n : List ℕ) (rest : List (Option ReadFault)) → is_taken (names_in b) n ≡ false → first_some (taken b n ∷ rest) ≡ first_some rest
@@ -23,7 +23,7 @@ taken_first b n rest h = ap (λ v. option_or (if_so v (Name n)) (first_some rest
 
 -- ---- what is told of a definition
 module _ (b : Begun) (n : List ℕ) (ty : LaneType) (text : List ℕ) (now : Names) where
-  abbrev its_faults : Draft → List (Option ReadFault)
+  abbrev its_faults : SyntaxTree → List (Option ReadFault)
   its_faults d = expression_faults (names_in b) (nodes_in b) ty (length b.defs + 1) d
 
   -- the answer to its expression
@@ -31,7 +31,7 @@ module _ (b : Begun) (n : List ℕ) (ty : LaneType) (text : List ℕ) (now : Nam
   Judged r = Judges (names_in b) (nodes_in b) ty (length b.defs + 1) text r now
 
   abbrev Told : ReadFault → Type 0
-  Told e = IsTextFault b (DefFront n ty) text e ⊎ (e ≡ Memory)
+  Told e = IsExpressionFault b (DefFront n ty) text e ⊎ (e ≡ Memory)
 
   same_err : (e f : ReadFault) → ◌≡◌ {A = Result Term ReadFault} (Err f) (Err e) → f ≡ e
   same_err e f h = cc
@@ -59,7 +59,7 @@ module _ (b : Begun) (n : List ℕ) (ty : LaneType) (text : List ℕ) (now : Nam
   taken_apart (Err f) false x told = absurd (cc)
 
 -- what is told of an output
-pub out_refused : (b : Begun) (ty : LaneType) (text : List ℕ) (now : Names) (e : ReadFault) → Judges (names_in b) (nodes_in b) ty (length b.defs) text (Err e) now → IsTextFault b (OutFront ty) text e ⊎ (e ≡ Memory)
+pub out_refused : (b : Begun) (ty : LaneType) (text : List ℕ) (now : Names) (e : ReadFault) → Judges (names_in b) (nodes_in b) ty (length b.defs) text (Err e) now → IsExpressionFault b (OutFront ty) text e ⊎ (e ≡ Memory)
 out_refused b ty text now (Syntax column) h = inl h
 out_refused b ty text now Memory h = inr refl
 out_refused b ty text now e h = inl h

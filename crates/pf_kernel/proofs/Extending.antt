@@ -4,17 +4,18 @@ use Rattle.std.specs.Prelude.{nat_lt}
 use Rattle.std.proofs.Math.ListN.{get_or-append}
 use Rattle.std.proofs.lemmas.Bool.{and_from, and_parts, lt-ltb, ltb-true}
 use Rattle.pf_ints.specs.declared.lane.LaneType.{LaneType}
-use Rattle.pf_terms.specs.declared.names.DefName.{DefName}
-use Rattle.pf_terms.specs.declared.names.Names.{Names}
-use Rattle.pf_terms.specs.declared.names.Tap.{Tap as TapOf}
-use Rattle.pf_terms.specs.declared.term.Leaf.{Leaf as LeafOf}
-use Rattle.pf_terms.specs.declared.term.Leaf.TheVariants.{Tap, Const, Def}
-use Rattle.pf_terms.specs.declared.term.Term.{Term, roll-Term, map-Term}
-use Rattle.pf_terms.specs.declared.term.Term.TheOpen.{Term-F}
-use Rattle.pf_terms.specs.declared.term.Term.TheOpen.Term-F.{Leaf, Node}
-use Rattle.pf_terms.specs.declared.term.Term.TheFolds.{fold-roll-Term, ind-Term}
-use Rattle.pf_terms.specs.Terms.{same_type, all_true}
-use Rattle.pf_terms.specs.TermTexts.{is_named, is_named_leaf, is_named_tap, named_step, term_text, text_step, leaf_text, tap_text, node_text, no_tap, no_def}
+use Rattle.pf_values.specs.declared.names.DefName.{DefName}
+use Rattle.pf_values.specs.declared.names.Names.{Names}
+use Rattle.pf_values.specs.declared.names.Tap.{Tap as TapOf}
+use Rattle.pf_values.specs.declared.term.Leaf.{Leaf as LeafOf}
+use Rattle.pf_values.specs.declared.term.Leaf.TheVariants.{Tap, Const, Def}
+use Rattle.pf_values.specs.declared.term.Term.{Term, roll-Term, map-Term}
+use Rattle.pf_values.specs.declared.term.Term.TheOpen.{Term-F}
+use Rattle.pf_values.specs.declared.term.Term.TheOpen.Term-F.{Leaf, Node}
+use Rattle.pf_values.specs.declared.term.Term.TheFolds.{fold-roll-Term, ind-Term}
+use Rattle.pf_values.specs.Meaning.Terms.{same_type, all_true}
+use Rattle.pf_terms.specs.Meaning.TermTexts.{term_text, text_step, leaf_text, tap_text, node_text}
+use Rattle.pf_values.specs.Meaning.NamedTerms.{is_named, is_named_leaf, is_named_tap, named_step, no_tap, no_def}
 
 -- these names with more taps and more definitions behind them
 abbrev pub more_names : Names → List TapOf → List DefName → Names

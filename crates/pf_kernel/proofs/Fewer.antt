@@ -6,24 +6,25 @@ use Rattle.std.proofs.Math.ListN.{get_or-append}
 use Rattle.std.proofs.lemmas.List.{length-take-le, take-append-drop}
 use Rattle.std.proofs.lemmas.Bool.{and_from, and_parts, lt-ltb}
 use Rattle.pf_ints.specs.declared.lane.LaneType.{LaneType}
-use Rattle.pf_terms.specs.declared.draft.Draft.{Draft}
-use Rattle.pf_terms.specs.declared.names.DefName.{DefName}
-use Rattle.pf_terms.specs.declared.names.Names.{Names}
-use Rattle.pf_terms.specs.declared.names.Tap.{Tap as TapOf}
-use Rattle.pf_terms.specs.declared.term.Leaf.{Leaf as LeafOf}
-use Rattle.pf_terms.specs.declared.term.Leaf.TheVariants.{Tap, Const, Def}
-use Rattle.pf_terms.specs.declared.term.Term.{Term, roll-Term, map-Term}
-use Rattle.pf_terms.specs.declared.term.Term.TheOpen.{Term-F}
-use Rattle.pf_terms.specs.declared.term.Term.TheOpen.Term-F.{Leaf, Node}
-use Rattle.pf_terms.specs.declared.term.Term.TheFolds.{fold-roll-Term, ind-Term}
-use Rattle.pf_terms.specs.Drafts.{IsDraftText}
-use Rattle.pf_terms.specs.KernelNames.{IsNames}
-use Rattle.pf_terms.specs.Meanings.{first_unknown, first_far, names_after, term_of, tap_uses, same_tap, with_taps, tap_number}
-use Rattle.pf_terms.specs.Terms.{all_true, depth_of, IsWellTyped}
-use Rattle.pf_terms.specs.TermTexts.{is_named, is_named_leaf, is_named_tap, named_step, term_text, no_tap}
+use Rattle.pf_terms.specs.declared.parse.syntax_tree.SyntaxTree.{SyntaxTree}
+use Rattle.pf_values.specs.declared.names.DefName.{DefName}
+use Rattle.pf_values.specs.declared.names.Names.{Names}
+use Rattle.pf_values.specs.declared.names.Tap.{Tap as TapOf}
+use Rattle.pf_values.specs.declared.term.Leaf.{Leaf as LeafOf}
+use Rattle.pf_values.specs.declared.term.Leaf.TheVariants.{Tap, Const, Def}
+use Rattle.pf_values.specs.declared.term.Term.{Term, roll-Term, map-Term}
+use Rattle.pf_values.specs.declared.term.Term.TheOpen.{Term-F}
+use Rattle.pf_values.specs.declared.term.Term.TheOpen.Term-F.{Leaf, Node}
+use Rattle.pf_values.specs.declared.term.Term.TheFolds.{fold-roll-Term, ind-Term}
+use Rattle.pf_terms.specs.Meaning.SyntaxTrees.{IsTreeText}
+use Rattle.pf_terms.specs.Meaning.KernelNames.{IsNames}
+use Rattle.pf_terms.specs.Meaning.Meanings.{first_unknown, first_far, names_after, term_of, tap_uses, same_tap, with_taps, tap_number}
+use Rattle.pf_values.specs.Meaning.Terms.{all_true, depth_of, IsWellTyped}
+use Rattle.pf_terms.specs.Meaning.TermTexts.{term_text}
+use Rattle.pf_values.specs.Meaning.NamedTerms.{is_named, is_named_leaf, is_named_tap, named_step, no_tap}
 use Rattle.pf_terms.proofs.ReadBackMeanings.{printed_is_read}
 use Rattle.pf_terms.proofs.TapLists.{Each, each_front, each_behind, same_tap_is}
-use Rattle.pf_kernel.specs.Kernels.{taps_step, taps_in, AreInTurn}
+use Rattle.pf_kernel.specs.Meaning.Kernels.{taps_step, taps_in, AreInTurn}
 use Rattle.pf_kernel.proofs.Extending.{more_names, stays_named}
 use Rattle.pf_kernel.proofs.Turns.{there, place_later, adds_by, term_uses}
 
@@ -148,12 +149,12 @@ taps_in_turn (u ∷ us) ts new h = by (taps_in_turn us) (list_any (same_tap u) t
 -- ---- a term behind the lines before it
 -- the text with all the names is an expression that means the term where `before` is known, and `after` is known behind it
 pub record IsSpoken (before after all : Names) (t : Term) : Type 0 where
-  pub draft : Draft
-  pub spelled : IsDraftText (term_text all t) draft
-  pub known : first_unknown before draft ≡ None
-  pub near : first_far draft ≡ None
-  pub made : names_after before draft ≡ after
-  pub term : term_of after draft ≡ t
+  pub tree : SyntaxTree
+  pub spelled : IsTreeText (term_text all t) tree
+  pub known : first_unknown before tree ≡ None
+  pub near : first_far tree ≡ None
+  pub made : names_after before tree ≡ after
+  pub term : term_of after tree ≡ t
 
 pub means_fewer : (b : Names) (new rest : List TapOf) (later : List DefName) (t : Term) → IsNames (record b { taps = b.taps ++ new }) → IsWellTyped t → depth_of t ≤ 1024 → is_named (record b { taps = (b.taps ++ new) ++ rest }) t ≡ true →
     AreInTurn (length b.taps) (taps_in t) (length (b.taps ++ new)) → IsSpoken b (record b { taps = b.taps ++ new }) (more_names (record b { taps = b.taps ++ new }) rest later) t
@@ -161,13 +162,13 @@ means_fewer b new rest later t names typed deep named turn =
     let a : Names = record b { taps = b.taps ++ new } in
     let low : is_named a t ≡ true = low_named a rest t named (turn_below (taps_in t) (length b.taps) (length a.taps) turn) in
     let read = printed_is_read a t names typed low deep in
-    let d : Draft = read.draft in
+    let d : SyntaxTree = read.tree in
     let same : term_of a d ≡ t = sym read.means.term in
     let numbers : taps_in t ≡ map (tap_number a.taps) (tap_uses b.images d) = ap taps_in read.means.term ∙ term_uses a d in
     let used : with_taps b.taps (tap_uses b.images d) ≡ b.taps ++ new = taps_in_turn (tap_uses b.images d) b.taps new (subst (λ (ns : List ℕ). AreInTurn (length b.taps) ns (length a.taps)) numbers turn) in
     record {
-      draft = d;
-      spelled = subst (λ (text : List ℕ). IsDraftText text d) (sym (stays_named a rest later t low).text) read.spelled;
+      tree = d;
+      spelled = subst (λ (text : List ℕ). IsTreeText text d) (sym (stays_named a rest later t low).text) read.spelled;
       known = read.means.known;
       near = read.means.near;
       made = ap (λ (ts : List TapOf). record b { taps = ts }) used;

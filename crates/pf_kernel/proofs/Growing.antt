@@ -7,26 +7,26 @@ use Rattle.std.proofs.lemmas.Grind.{flat_map-append}
 use Rattle.std.proofs.lemmas.List.Sums.{sum_by_push}
 use Rattle.std.proofs.lemmas.Bool.{and_parts, not-true}
 use Rattle.pf_ints.specs.declared.lane.LaneType.{LaneType}
-use Rattle.pf_ints.specs.Images.{IsPixelType}
-use Rattle.pf_ints.specs.Words.{is_name}
-use Rattle.pf_terms.specs.declared.draft.Draft.{Draft}
-use Rattle.pf_terms.specs.declared.kernel.Definition.{Definition}
+use Rattle.pf_ints.specs.Meaning.Images.{IsPixelType}
+use Rattle.pf_text.specs.Meaning.Words.{is_name}
+use Rattle.pf_terms.specs.declared.parse.syntax_tree.SyntaxTree.{SyntaxTree}
+use Rattle.pf_values.specs.declared.kernel.Definition.{Definition}
 use Rattle.pf_terms.specs.declared.meaning.ReadFault.{ReadFault}
-use Rattle.pf_terms.specs.declared.names.DefName.{DefName}
-use Rattle.pf_terms.specs.declared.names.ImageName.{ImageName}
-use Rattle.pf_terms.specs.declared.names.Names.{Names}
-use Rattle.pf_terms.specs.declared.names.Tap.{Tap}
-use Rattle.pf_terms.specs.declared.term.Term.{Term}
+use Rattle.pf_values.specs.declared.names.DefName.{DefName}
+use Rattle.pf_values.specs.declared.names.ImageName.{ImageName}
+use Rattle.pf_values.specs.declared.names.Names.{Names}
+use Rattle.pf_values.specs.declared.names.Tap.{Tap}
+use Rattle.pf_values.specs.declared.term.Term.{Term}
 use Rattle.pf_terms.specs.declared.token.LineWord.TheVariants.{Def, Out}
-use Rattle.pf_terms.specs.KernelNames.{IsNames, all_names}
-use Rattle.pf_terms.specs.Meanings.{names_after, term_of, tap_uses}
-use Rattle.pf_terms.specs.Terms.{node_count}
-use Rattle.pf_terms.specs.TermTexts.{is_named}
+use Rattle.pf_terms.specs.Meaning.KernelNames.{IsNames, all_names}
+use Rattle.pf_terms.specs.Meaning.Meanings.{names_after, term_of, tap_uses}
+use Rattle.pf_values.specs.Meaning.Terms.{node_count}
+use Rattle.pf_values.specs.Meaning.NamedTerms.{is_named}
 use Rattle.pf_kernel.specs.declared.reading.Reading.{Reading}
-use Rattle.pf_kernel.specs.Expressions.{Judges}
-use Rattle.pf_kernel.specs.Kernels.{image_name, def_name, names_behind, IsTermOf, AreDefinitions, AreInTurn, taps_in}
-use Rattle.pf_kernel.specs.Lines.{Begun, names_in, nodes_in, may_stand, is_taken, is_empty}
-use Rattle.pf_kernel.specs.Readings.{IsGood, IsReading, begun_of, out_terms, out_nodes}
+use Rattle.pf_kernel.specs.Steps.Expressions.{Judges}
+use Rattle.pf_kernel.specs.Meaning.Kernels.{image_name, def_name, names_behind, IsTermOf, AreDefinitions, AreInTurn, taps_in}
+use Rattle.pf_kernel.specs.Meaning.Lines.{Begun, names_in, nodes_in, may_stand, is_taken, is_empty}
+use Rattle.pf_kernel.specs.Steps.Readings.{IsGood, IsReading, begun_of, out_terms, out_nodes}
 use Rattle.pf_kernel.proofs.Extending.{stays_named}
 use Rattle.pf_kernel.proofs.Naming.{named_more}
 use Rattle.pf_kernel.proofs.Turns.{turn_append, term_in_turn, all_add}
@@ -70,12 +70,12 @@ defs_push a (d ∷ ds) x h k = (
 )
 
 -- the definitions so far, under the taps of one more expression
-defs_stay : (b : Begun) (d : Draft) → IsGood b → AreDefinitions (names_behind b.images (names_after (names_in b) d).taps []) b.defs
+defs_stay : (b : Begun) (d : SyntaxTree) → IsGood b → AreDefinitions (names_behind b.images (names_after (names_in b) d).taps []) b.defs
 defs_stay b d h =
     let grown = all_add b.taps (tap_uses (names_in b).images d) in
     subst (λ (ts : List Tap). AreDefinitions (names_behind b.images ts []) b.defs) (sym grown.1) (defs_more_taps (names_behind b.images b.taps []) grown.0 b.defs h.defs)
 
-turn_more : (b : Begun) (d : Draft) (rest : List Term) → IsGood b → b.out ≡ None → rest ≡ map (λ e. e.term) b.defs ++ term_of (names_after (names_in b) d) d ∷ [] →
+turn_more : (b : Begun) (d : SyntaxTree) (rest : List Term) → IsGood b → b.out ≡ None → rest ≡ map (λ e. e.term) b.defs ++ term_of (names_after (names_in b) d) d ∷ [] →
     AreInTurn 0 (flat_map taps_in rest) (length (names_after (names_in b) d).taps)
 turn_more b d rest h none e =
     let before = map (λ (f : Definition). f.term) b.defs in
@@ -87,7 +87,7 @@ turn_more b d rest h none e =
     (turn_append (flat_map taps_in before) (taps_in last) 0 (length b.taps) (length (names_after (names_in b) d).taps) old (term_in_turn (names_in b) d))
 
 -- ---- the output
-pub good_out : (b : Begun) (d : Draft) (ty : LaneType) → IsGood b → may_stand b Out ≡ true → IsPixelType ty → IsNames (names_after (names_in b) d) → IsTermOf (names_after (names_in b) d) ty (term_of (names_after (names_in b) d) d) →
+pub good_out : (b : Begun) (d : SyntaxTree) (ty : LaneType) → IsGood b → may_stand b Out ≡ true → IsPixelType ty → IsNames (names_after (names_in b) d) → IsTermOf (names_after (names_in b) d) ty (term_of (names_after (names_in b) d) d) →
     nodes_in b + node_count (term_of (names_after (names_in b) d) d) ≤ 512 → IsGood (record b { taps = (names_after (names_in b) d).taps; out = Some (ty, term_of (names_after (names_in b) d) d) })
 good_out b d ty h may pixel names typed nodes =
     let open_still = behind_images b may in
@@ -102,7 +102,7 @@ good_out b d ty h may pixel names typed nodes =
     }
 
 -- ---- a definition
-pub good_def : (b : Begun) (d : Draft) (n : List ℕ) (ty : LaneType) → IsGood b → may_stand b Def ≡ true → is_name n ≡ true → is_taken (names_in b) n ≡ false → IsNames (names_after (names_in b) d) → IsTermOf (names_after (names_in b) d) ty (term_of (names_after (names_in b) d) d) →
+pub good_def : (b : Begun) (d : SyntaxTree) (n : List ℕ) (ty : LaneType) → IsGood b → may_stand b Def ≡ true → is_name n ≡ true → is_taken (names_in b) n ≡ false → IsNames (names_after (names_in b) d) → IsTermOf (names_after (names_in b) d) ty (term_of (names_after (names_in b) d) d) →
     length b.defs + 1 ≤ 64 → nodes_in b + node_count (term_of (names_after (names_in b) d) d) ≤ 512 →
     IsGood (record b { taps = (names_after (names_in b) d).taps; defs = b.defs ++ record { name = n; ty = ty; term = term_of (names_after (names_in b) d) d } ∷ [] })
 good_def b d n ty h may named free names typed few nodes =
@@ -133,7 +133,7 @@ good_def b d n ty h may named free names typed few nodes =
 record_names : (a : Names) (images : List ImageName) (taps : List Tap) (defs : List DefName) → a.images ≡ images → a.taps ≡ taps → a.defs ≡ defs → ◌≡◌ {A = Names} a (record { images = images; taps = taps; defs = defs })
 record_names a images taps defs e f g = λ i. record { images = e i; taps = f i; defs = g i }
 
-pub def_added : (r s : Reading) (now : Names) (d : Draft) (n : List ℕ) (ty : LaneType) (x : Term) (nodes : ℕ) → IsReading r → may_stand (begun_of r) Def ≡ true → is_name n ≡ true → is_taken (names_in (begun_of r)) n ≡ false →
+pub def_added : (r s : Reading) (now : Names) (d : SyntaxTree) (n : List ℕ) (ty : LaneType) (x : Term) (nodes : ℕ) → IsReading r → may_stand (begun_of r) Def ≡ true → is_name n ≡ true → is_taken (names_in (begun_of r)) n ≡ false →
     now ≡ names_after (names_in (begun_of r)) d → x ≡ term_of (names_after (names_in (begun_of r)) d) d → IsNames now → IsTermOf now ty x → length r.defs + 1 ≤ 64 → nodes ≡ min (nodes_in (begun_of r)) (2 ^ 64 - 1) → nodes + node_count x ≤ 512 →
     s.name ≡ r.name → s.images ≡ r.images → s.out ≡ r.out → s.names ≡ record now { defs = now.defs ++ record { name = n; ty = ty } ∷ [] } → s.defs ≡ r.defs ++ record { name = n; ty = ty; term = x } ∷ [] → IsReading s
 def_added r s now d n ty x nodes h may named free names term known typed few counted most name images out all defs =
@@ -153,7 +153,7 @@ def_added r s now d n ty x nodes h may named free names term known typed few cou
           (ap (λ (m : Names). m.defs) all ∙ ap (λ (m : Names). m.defs ++ record { name = n; ty = ty } ∷ []) names ∙ sym (map-append def_name r.defs _) ∙ ap (map def_name) (sym defs));
     }
 
-pub out_set : (r s : Reading) (now : Names) (d : Draft) (ty : LaneType) (x : Term) (nodes : ℕ) → IsReading r → may_stand (begun_of r) Out ≡ true → IsPixelType ty →
+pub out_set : (r s : Reading) (now : Names) (d : SyntaxTree) (ty : LaneType) (x : Term) (nodes : ℕ) → IsReading r → may_stand (begun_of r) Out ≡ true → IsPixelType ty →
     now ≡ names_after (names_in (begun_of r)) d → x ≡ term_of (names_after (names_in (begun_of r)) d) d → IsNames now → IsTermOf now ty x → nodes ≡ min (nodes_in (begun_of r)) (2 ^ 64 - 1) → nodes + node_count x ≤ 512 →
     s.name ≡ r.name → s.images ≡ r.images → s.defs ≡ r.defs → s.names ≡ now → s.out ≡ Some (ty, x) → IsReading s
 out_set r s now d ty x nodes h may pixel names term known typed counted most name images defs all out =

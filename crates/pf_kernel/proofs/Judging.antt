@@ -6,33 +6,33 @@ use Rattle.std.proofs.lemmas.Bool.Decides.{nat_tests}
 use Rattle.pf_ints.specs.declared.lane.LaneType.{LaneType}
 use Rattle.pf_ints.specs.declared.lane.Bits.{Bits}
 use Rattle.pf_ints.specs.declared.lane.Bits.TheVariants.{Eight, Sixteen, ThirtyTwo}
-use Rattle.pf_terms.specs.declared.draft.Draft.{Draft, roll-Draft, map-Draft}
-use Rattle.pf_terms.specs.declared.draft.Draft.TheOpen.{Draft-F}
-use Rattle.pf_terms.specs.declared.draft.Draft.TheOpen.Draft-F.{Number, Named, Placed, Node}
-use Rattle.pf_terms.specs.declared.draft.Draft.TheFolds.{fold-roll-Draft, ind-Draft}
-use Rattle.pf_terms.specs.declared.fault.TermFault.{TermFault}
-use Rattle.pf_terms.specs.declared.fault.TermFault.TheVariants.{Types as TypesAt, Amount as AmountAt, Memory as NoMemory}
-use Rattle.pf_terms.specs.declared.limit.LimitKind.{LimitKind}
-use Rattle.pf_terms.specs.declared.limit.LimitKind.TheVariants.{Bytes, Amount as AmountLimit, Images, Taps, Definitions, Offset, Depth, Nodes}
+use Rattle.pf_terms.specs.declared.parse.syntax_tree.SyntaxTree.{SyntaxTree, roll-SyntaxTree, map-SyntaxTree}
+use Rattle.pf_terms.specs.declared.parse.syntax_tree.SyntaxTree.TheOpen.{SyntaxTree-F}
+use Rattle.pf_terms.specs.declared.parse.syntax_tree.SyntaxTree.TheOpen.SyntaxTree-F.{Number, Name as NameTree, Tap as TapTree, Node}
+use Rattle.pf_terms.specs.declared.parse.syntax_tree.SyntaxTree.TheFolds.{fold-roll-SyntaxTree, ind-SyntaxTree}
+use Rattle.pf_values.specs.declared.fault.TermFault.{TermFault}
+use Rattle.pf_values.specs.declared.fault.TermFault.TheVariants.{Types as TypesAt, Amount as AmountAt, Memory as NoMemory}
+use Rattle.pf_values.specs.declared.limit.LimitKind.{LimitKind}
+use Rattle.pf_values.specs.declared.limit.LimitKind.TheVariants.{Bytes, Amount as AmountLimit, Images, Taps, Definitions, Offset, Depth, Nodes}
 use Rattle.pf_terms.specs.declared.meaning.ReadFault.{ReadFault}
 use Rattle.pf_terms.specs.declared.meaning.ReadFault.TheVariants.{Syntax, Name, Types, Amount, Limit, Memory}
-use Rattle.pf_terms.specs.declared.names.Names.{Names}
-use Rattle.pf_terms.specs.declared.names.Tap.{Tap}
-use Rattle.pf_terms.specs.declared.op.Op.{Op}
-use Rattle.pf_terms.specs.declared.term.Term.{Term}
-use Rattle.pf_terms.specs.declared.term.Leaf.{Leaf as LeafOf}
-use Rattle.pf_terms.specs.declared.term.Term.TheVariants.{rolls-Node, rolls-Leaf, Leaf as LeafTerm, Node as NodeTerm}
-use Rattle.pf_terms.specs.declared.term.Term.TheOpen.Term-F.{Leaf, Node as NodeLayer}
-use Rattle.pf_terms.specs.declared.term.Term.TheFolds.{fold-roll-Term}
-use Rattle.pf_terms.specs.Drafts.{IsDraftText}
-use Rattle.pf_terms.specs.Meanings.{first_some, first_unknown, first_far, in_order, names_after, term_of, term_step, written_type, IsMeaningFault, IsReadFault, Means, IsTermText, IsTermOr}
-use Rattle.pf_terms.specs.Operators.{row_of}
-use Rattle.pf_terms.specs.Terms.{typing, stated_type, stated_step, result_type, same_type, same_bits, same_bool, depth_of, node_count}
-use Rattle.pf_terms.proofs.TermRanges.{typing_stated}
-use Rattle.pf_kernel.specs.Expressions.{draft_type, type_step, term_fault, limit_fault, Judges, JudgesTerm, Tells, IsFaulty}
-use Rattle.pf_kernel.specs.Lines.{judged, mistyped, more_than, counted, if_so, expression_faults}
+use Rattle.pf_values.specs.declared.names.Names.{Names}
+use Rattle.pf_values.specs.declared.names.Tap.{Tap}
+use Rattle.pf_values.specs.declared.op.Op.{Op}
+use Rattle.pf_values.specs.declared.term.Term.{Term}
+use Rattle.pf_values.specs.declared.term.Leaf.{Leaf as LeafOf}
+use Rattle.pf_values.specs.declared.term.Term.TheVariants.{rolls-Node, rolls-Leaf, Leaf as LeafTerm, Node as NodeTerm}
+use Rattle.pf_values.specs.declared.term.Term.TheOpen.Term-F.{Leaf, Node as NodeLayer}
+use Rattle.pf_values.specs.declared.term.Term.TheFolds.{fold-roll-Term}
+use Rattle.pf_terms.specs.Meaning.SyntaxTrees.{IsTreeText}
+use Rattle.pf_terms.specs.Meaning.Meanings.{first_some, first_unknown, first_far, in_order, names_after, term_of, term_step, written_type, IsMeaningFault, IsReadFault, Means, IsTermText, IsTermOr}
+use Rattle.pf_values.specs.Meaning.Operators.{row_of}
+use Rattle.pf_values.specs.Meaning.Terms.{typing, stated_type, stated_step, result_type, same_type, same_bits, same_bool, depth_of, node_count}
+use Rattle.pf_values.proofs.TermRanges.{typing_stated}
+use Rattle.pf_kernel.specs.Steps.Expressions.{tree_type, type_step, term_fault, limit_fault, Judges, JudgesTerm, Tells, IsFaulty}
+use Rattle.pf_kernel.specs.Meaning.Lines.{kernel_faults, mistyped, more_than, capped_count, if_so, expression_faults}
 
--- ---- the type of a draft is that of its term
+-- ---- the type of a syntax tree is that of its term
 stated_leaf_is : (leaf : LeafOf) (t : LaneType) → stated_type (LeafTerm leaf t) ≡ t
 stated_leaf_is leaf t = ap stated_type (sym (rolls-Leaf leaf t)) ∙ fold-roll-Term LaneType (λ layer. stated_step layer) (Leaf leaf t)
 
@@ -49,26 +49,26 @@ module _ (names : Names) (taps : List Tap) where
   abbrev with_these : Names
   with_these = record names { taps = taps }
 
-  abbrev IsTypeOf : Draft → Type 0
-  IsTypeOf d = stated_type (term_of with_these d) ≡ draft_type names d
+  abbrev IsTypeOf : SyntaxTree → Type 0
+  IsTypeOf d = stated_type (term_of with_these d) ≡ tree_type names d
 
-  each_type : (fs : List ((d : Draft) × IsTypeOf d)) → map stated_type (map (term_of with_these) (map (λ e. e.0) fs)) ≡ map (draft_type names) (map (λ e. e.0) fs)
+  each_type : (fs : List ((d : SyntaxTree) × IsTypeOf d)) → map stated_type (map (term_of with_these) (map (λ e. e.0) fs)) ≡ map (tree_type names) (map (λ e. e.0) fs)
   each_type [] = refl
-  each_type (e ∷ fs) = ap (λ t. t ∷ map stated_type (map (term_of with_these) (map (λ g. g.0) fs))) e.1 ∙ ap (λ ts. draft_type names e.0 ∷ ts) (each_type fs)
+  each_type (e ∷ fs) = ap (λ t. t ∷ map stated_type (map (term_of with_these) (map (λ g. g.0) fs))) e.1 ∙ ap (λ ts. tree_type names e.0 ∷ ts) (each_type fs)
 
-  layer_type : (y : Draft-F ((d : Draft) × IsTypeOf d)) → IsTypeOf (roll-Draft (map-Draft _ Draft (λ e. e.0) y))
-  layer_type (Number n t) = ap stated_type (fold-roll-Draft Term (term_step with_these) (Number n t)) ∙ stated_leaf_is _ t ∙ sym (fold-roll-Draft LaneType (type_step names) (Number n t))
-  layer_type (Named s) = ap stated_type (fold-roll-Draft Term (term_step with_these) (Named s)) ∙ stated_leaf_is _ _ ∙ sym (fold-roll-Draft LaneType (type_step names) (Named s))
-  layer_type (Placed s dx dy) = ap stated_type (fold-roll-Draft Term (term_step with_these) (Placed s dx dy)) ∙ stated_leaf_is _ _ ∙ sym (fold-roll-Draft LaneType (type_step names) (Placed s dx dy))
+  layer_type : (y : SyntaxTree-F ((d : SyntaxTree) × IsTypeOf d)) → IsTypeOf (roll-SyntaxTree (map-SyntaxTree _ SyntaxTree (λ e. e.0) y))
+  layer_type (Number n t) = ap stated_type (fold-roll-SyntaxTree Term (term_step with_these) (Number n t)) ∙ stated_leaf_is _ t ∙ sym (fold-roll-SyntaxTree LaneType (type_step names) (Number n t))
+  layer_type (NameTree s) = ap stated_type (fold-roll-SyntaxTree Term (term_step with_these) (NameTree s)) ∙ stated_leaf_is _ _ ∙ sym (fold-roll-SyntaxTree LaneType (type_step names) (NameTree s))
+  layer_type (TapTree s dx dy) = ap stated_type (fold-roll-SyntaxTree Term (term_step with_these) (TapTree s dx dy)) ∙ stated_leaf_is _ _ ∙ sym (fold-roll-SyntaxTree LaneType (type_step names) (TapTree s dx dy))
   layer_type (Node op less ty k fs) =
       let ds = map (λ e. e.0) fs in
-      ap stated_type (fold-roll-Draft Term (term_step with_these) (Node op less ty k ds))
+      ap stated_type (fold-roll-SyntaxTree Term (term_step with_these) (Node op less ty k ds))
       ∙ stated_node_is op _ _ (in_order less (map (term_of with_these) ds))
       ∙ ap (result_type (row_of op).gives (written_type ty)) (ordered stated_type less (map (term_of with_these) ds) ∙ ap (in_order less) (each_type fs))
-      ∙ sym (fold-roll-Draft LaneType (type_step names) (Node op less ty k ds))
+      ∙ sym (fold-roll-SyntaxTree LaneType (type_step names) (Node op less ty k ds))
 
-  pub type_is : (d : Draft) → stated_type (term_of (record { images = names.images; taps = taps; defs = names.defs }) d) ≡ draft_type names d
-  type_is = ind-Draft IsTypeOf (λ x y is. subst (λ z. IsTypeOf (roll-Draft z)) is (layer_type y))
+  pub type_is : (d : SyntaxTree) → stated_type (term_of (record { images = names.images; taps = taps; defs = names.defs }) d) ≡ tree_type names d
+  type_is = ind-SyntaxTree IsTypeOf (λ x y is. subst (λ z. IsTypeOf (roll-SyntaxTree z)) is (layer_type y))
 
 -- ---- the first fault, by the parts
 or_none : {A : Type 0} (o : Option A) → option_or o None ≡ o
@@ -89,31 +89,31 @@ none_more most what n h = ap (λ v. if_so v (Limit what (pos n))) (no_more most 
 
 module _ (ty : LaneType) (unknown : Option (List ℕ)) (typed : Result LaneType TermFault) (taps defs : ℕ) (far : Option ℤ) (depth nodes : ℕ) where
   abbrev told : Option ReadFault
-  told = first_some (judged ty unknown typed taps defs far depth nodes)
+  told = first_some (kernel_faults ty unknown typed taps defs far depth nodes)
 
-  behind_name : unknown ≡ None → told ≡ first_some (judged ty None typed taps defs far depth nodes)
-  behind_name e = ap (λ o. first_some (judged ty o typed taps defs far depth nodes)) e
+  behind_name : unknown ≡ None → told ≡ first_some (kernel_faults ty None typed taps defs far depth nodes)
+  behind_name e = ap (λ o. first_some (kernel_faults ty o typed taps defs far depth nodes)) e
 
   name_told : (s : List ℕ) → unknown ≡ Some s → told ≡ Some (Name s)
-  name_told s e = ap (λ o. first_some (judged ty o typed taps defs far depth nodes)) e
+  name_told s e = ap (λ o. first_some (kernel_faults ty o typed taps defs far depth nodes)) e
 
   types_told : (path : List ℕ) (want got : LaneType) → unknown ≡ None → typed ≡ Err (TypesAt path want got) → told ≡ Some (Types want got)
-  types_told path want got e f = behind_name e ∙ ap (λ r. first_some (judged ty None r taps defs far depth nodes)) f
+  types_told path want got e f = behind_name e ∙ ap (λ r. first_some (kernel_faults ty None r taps defs far depth nodes)) f
 
   amount_told : (path : List ℕ) (k : ℤ) → unknown ≡ None → typed ≡ Err (AmountAt path k) → told ≡ Some (Amount k)
-  amount_told path k e f = behind_name e ∙ ap (λ r. first_some (judged ty None r taps defs far depth nodes)) f
+  amount_told path k e f = behind_name e ∙ ap (λ r. first_some (kernel_faults ty None r taps defs far depth nodes)) f
 
   behind_type : (u : LaneType) → unknown ≡ None → typed ≡ Ok u →
-      told ≡ option_or (mistyped ty (Ok u)) (option_or (more_than 64 Taps taps) (option_or (more_than 64 Definitions defs) (option_or (option_map (Limit Offset) far) (option_or (more_than 128 Depth (counted depth)) (option_or (more_than 512 Nodes (counted nodes)) None)))))
-  behind_type u e f = behind_name e ∙ ap (λ r. first_some (judged ty None r taps defs far depth nodes)) f
+      told ≡ option_or (mistyped ty (Ok u)) (option_or (more_than 64 Taps taps) (option_or (more_than 64 Definitions defs) (option_or (option_map (Limit Offset) far) (option_or (more_than 128 Depth (capped_count depth)) (option_or (more_than 512 Nodes (capped_count nodes)) None)))))
+  behind_type u e f = behind_name e ∙ ap (λ r. first_some (kernel_faults ty None r taps defs far depth nodes)) f
 
   read_told : (u : LaneType) → unknown ≡ None → typed ≡ Ok u → taps ≤ 64 → far ≡ None → told ≡ term_fault ty u defs depth nodes
   unfolding term_fault
   read_told u e f few near =
       let m = mistyped ty (Ok u) in
       let d = more_than 64 Definitions defs in
-      let n = more_than 128 Depth (counted depth) in
-      let l = more_than 512 Nodes (counted nodes) in
+      let n = more_than 128 Depth (capped_count depth) in
+      let l = more_than 512 Nodes (capped_count nodes) in
       behind_type u e f
       ∙ ap (λ o. option_or m (option_or o (option_or d (option_or (option_map (Limit Offset) far) (option_or n (option_or l None)))))) (none_more 64 Taps taps few)
       ∙ ap (λ o. option_or m (option_or d (option_or (option_map (Limit Offset) o) (option_or n (option_or l None))))) near
@@ -123,7 +123,7 @@ module _ (ty : LaneType) (unknown : Option (List ℕ)) (typed : Result LaneType 
   unfolding limit_fault
   taps_told u count e f many is =
       let m = mistyped ty (Ok u) in
-      let rest = option_or (more_than 64 Definitions defs) (option_or (option_map (Limit Offset) far) (option_or (more_than 128 Depth (counted depth)) (option_or (more_than 512 Nodes (counted nodes)) None))) in
+      let rest = option_or (more_than 64 Definitions defs) (option_or (option_map (Limit Offset) far) (option_or (more_than 128 Depth (capped_count depth)) (option_or (more_than 512 Nodes (capped_count nodes)) None))) in
       behind_type u e f
       ∙ ap (λ v. option_or m (option_or (if_so v (Limit Taps (pos taps))) rest)) (yes_more 64 taps many)
       ∙ ap (λ k. option_or m (Some (Limit Taps k))) (sym is)
@@ -133,7 +133,7 @@ module _ (ty : LaneType) (unknown : Option (List ℕ)) (typed : Result LaneType 
   offset_told u count e f few is =
       let m = mistyped ty (Ok u) in
       let d = more_than 64 Definitions defs in
-      let rest = option_or (more_than 128 Depth (counted depth)) (option_or (more_than 512 Nodes (counted nodes)) None) in
+      let rest = option_or (more_than 128 Depth (capped_count depth)) (option_or (more_than 512 Nodes (capped_count nodes)) None) in
       behind_type u e f
       ∙ ap (λ o. option_or m (option_or o (option_or d (option_or (option_map (Limit Offset) far) rest)))) (none_more 64 Taps taps few)
       ∙ ap (λ o. option_or m (option_or d (option_or (option_map (Limit Offset) o) rest))) is
@@ -171,7 +171,7 @@ pub record IsFaultless (unknown : Option (List ℕ)) (typed : Result LaneType Te
   pub few : taps ≤ 64
   pub near : far ≡ None
 
-faultless : (ty : LaneType) (unknown : Option (List ℕ)) (typed : Result LaneType TermFault) (taps defs : ℕ) (far : Option ℤ) (depth nodes : ℕ) → first_some (judged ty unknown typed taps defs far depth nodes) ≡ None → IsFaultless unknown typed taps far
+faultless : (ty : LaneType) (unknown : Option (List ℕ)) (typed : Result LaneType TermFault) (taps defs : ℕ) (far : Option ℤ) (depth nodes : ℕ) → first_some (kernel_faults ty unknown typed taps defs far depth nodes) ≡ None → IsFaultless unknown typed taps far
 faultless ty unknown typed taps defs far depth nodes h =
     let one = or_right (option_map Name unknown) _ h in
     let two = or_right (mistyped ty typed) _ one in
@@ -181,14 +181,14 @@ faultless ty unknown typed taps defs far depth nodes h =
     record { known = unmapped Name unknown (or_left _ _ h); ty = found.0; type_found = found.1; few = few_told 64 Taps taps (or_left _ _ two); near = unmapped (Limit Offset) far (or_left _ _ four) }
 
 -- ---- expressions
-module _ (names : Names) (nodes : ℕ) (ty : LaneType) (defs : ℕ) (d : Draft) where
+module _ (names : Names) (nodes : ℕ) (ty : LaneType) (defs : ℕ) (d : SyntaxTree) where
   abbrev term : Term
   term = term_of (names_after names d) d
 
   abbrev first_told : Option ReadFault
   first_told = first_some (expression_faults names nodes ty defs d)
 
-  parts : first_told ≡ first_some (judged ty (first_unknown names d) (typing term) (length (names_after names d).taps) defs (first_far d) (depth_of term) (nodes + node_count term))
+  parts : first_told ≡ first_some (kernel_faults ty (first_unknown names d) (typing term) (length (names_after names d).taps) defs (first_far d) (depth_of term) (nodes + node_count term))
   unfolding expression_faults
   parts = refl
 
@@ -207,7 +207,7 @@ module _ (names : Names) (nodes : ℕ) (ty : LaneType) (defs : ℕ) (d : Draft) 
       parts ∙ read_told ty (first_unknown names d) (typing term) (length (names_after names d).taps) defs (first_far d) (depth_of term) (nodes + node_count term) (stated_type term) h.known h.typed h.few h.near
       ∙ ap (λ (x : Term). term_fault ty (stated_type x) defs (depth_of x) (nodes + node_count x)) (sym same)
 
-  pub limit_first : (what : LimitKind) (count : ℤ) → IsMeaningFault names d (Limit what count) → first_told ≡ limit_fault ty (draft_type names d) defs what count
+  pub limit_first : (what : LimitKind) (count : ℤ) → IsMeaningFault names d (Limit what count) → first_told ≡ limit_fault ty (tree_type names d) defs what count
   limit_first Taps count h =
       parts ∙ taps_told ty (first_unknown names d) (typing term) (length (names_after names d).taps) defs (first_far d) (depth_of term) (nodes + node_count term) (stated_type term) count h.0 h.1 h.2 h.3
       ∙ ap (λ u. limit_fault ty u defs Taps count) (type_is names (names_after names d).taps d)
@@ -236,7 +236,7 @@ term_syntax false false false false w g k l m x y z column h = absurd (cc)
 
 no_term_syntax : (ty got : LaneType) (defs depth nodes column : ℕ) → term_fault ty got defs depth nodes ≡ Some (Syntax column) → ⊥
 unfolding term_fault
-no_term_syntax ty got defs depth nodes column h = term_syntax (not (same_type ty got)) (nat_lt 64 defs) (nat_lt 128 (counted depth)) (nat_lt 512 (counted nodes)) ty got Definitions Depth Nodes _ _ _ column h
+no_term_syntax ty got defs depth nodes column h = term_syntax (not (same_type ty got)) (nat_lt 64 defs) (nat_lt 128 (capped_count depth)) (nat_lt 512 (capped_count nodes)) ty got Definitions Depth Nodes _ _ _ column h
 
 limit_syntax : (v w : Bool) (ty got : LaneType) (k what : LimitKind) (x count : ℤ) (column : ℕ) → option_or (if_so v (Types ty got)) (option_or (if_so w (Limit k x)) (Some (Limit what count))) ≡ Some (Syntax column) → ⊥
 limit_syntax true w ty got k what x count column h = absurd (cc)
@@ -264,9 +264,9 @@ module _ (names : Names) (nodes : ℕ) (ty : LaneType) (defs : ℕ) (text : List
   tells_so (Amount k) never h = h
   tells_so (Limit w k) never h = h
 
-  pub limit_tells : (d other : Draft) (got : LaneType) (what : LimitKind) (count : ℤ) (e : ReadFault) → IsDraftText text other → d ≡ other → IsMeaningFault names other (Limit what count) → got ≡ draft_type names d → limit_fault ty got defs what count ≡ Some e → Tells names nodes ty defs text e
+  pub limit_tells : (d other : SyntaxTree) (got : LaneType) (what : LimitKind) (count : ℤ) (e : ReadFault) → IsTreeText text other → d ≡ other → IsMeaningFault names other (Limit what count) → got ≡ tree_type names d → limit_fault ty got defs what count ≡ Some e → Tells names nodes ty defs text e
   limit_tells d other got what count e spelled same fault is told =
-      let whole : limit_fault ty (draft_type names other) defs what count ≡ Some e = ap (λ u. limit_fault ty u defs what count) (sym (is ∙ ap (draft_type names) same)) ∙ told in
+      let whole : limit_fault ty (tree_type names other) defs what count ≡ Some e = ap (λ u. limit_fault ty u defs what count) (sym (is ∙ ap (tree_type names) same)) ∙ told in
       tells_so e (λ column syntax. no_limit_syntax ty got defs what count column (told ∙ ap (λ f. Some f) syntax))
       (other, spelled, limit_first names nodes ty defs other what count fault ∙ whole)
 
@@ -280,23 +280,23 @@ module _ (names : Names) (nodes : ℕ) (ty : LaneType) (defs : ℕ) (text : List
 
   pub judged_found : (t : Term) (now : Names) (r : Result Term ReadFault) → IsTermText names text t now → JudgesTerm t (term_fault ty (stated_type t) defs (depth_of t) (nodes + node_count t)) r → Judges names nodes ty defs text r now
   judged_found t now (Ok x) h j =
-      (h.draft, h.spelled, read_first names nodes ty defs h.draft t now h.means ∙ j.1, j.0 ∙ h.means.term ∙ ap (λ (n : Names). term_of n h.draft) h.means.made, h.means.made)
+      (h.tree, h.spelled, read_first names nodes ty defs h.tree t now h.means ∙ j.1, j.0 ∙ h.means.term ∙ ap (λ (n : Names). term_of n h.tree) h.means.made, h.means.made)
   judged_found t now (Err (Syntax column)) h j = absurd (no_term_syntax ty (stated_type t) defs (depth_of t) (nodes + node_count t) column j)
   judged_found t now (Err Memory) h j = tt
-  judged_found t now (Err (Name s)) h j = (h.draft, h.spelled, read_first names nodes ty defs h.draft t now h.means ∙ j)
-  judged_found t now (Err (Types w g)) h j = (h.draft, h.spelled, read_first names nodes ty defs h.draft t now h.means ∙ j)
-  judged_found t now (Err (Amount k)) h j = (h.draft, h.spelled, read_first names nodes ty defs h.draft t now h.means ∙ j)
-  judged_found t now (Err (Limit w k)) h j = (h.draft, h.spelled, read_first names nodes ty defs h.draft t now h.means ∙ j)
+  judged_found t now (Err (Name s)) h j = (h.tree, h.spelled, read_first names nodes ty defs h.tree t now h.means ∙ j)
+  judged_found t now (Err (Types w g)) h j = (h.tree, h.spelled, read_first names nodes ty defs h.tree t now h.means ∙ j)
+  judged_found t now (Err (Amount k)) h j = (h.tree, h.spelled, read_first names nodes ty defs h.tree t now h.means ∙ j)
+  judged_found t now (Err (Limit w k)) h j = (h.tree, h.spelled, read_first names nodes ty defs h.tree t now h.means ∙ j)
 
-  text_so : (d : Draft) → IsDraftText text d → first_some (expression_faults names nodes ty defs d) ≡ None → IsTermText names text (term_of (names_after names d) d) (names_after names d)
-  text_so d spelled none = record { draft = d; spelled = spelled; means = means_so names nodes ty defs d none }
+  text_so : (d : SyntaxTree) → IsTreeText text d → first_some (expression_faults names nodes ty defs d) ≡ None → IsTermText names text (term_of (names_after names d) d) (names_after names d)
+  text_so d spelled none = record { tree = d; spelled = spelled; means = means_so names nodes ty defs d none }
 
   or_memory : (x t : Term) (now after : Names) (r : Result Term ReadFault) (fault : Option ReadFault) → JudgesTerm t fault r → fault ≡ None → t ≡ x → now ≡ after → IsTermOr x after r now
   or_memory x t now after (Ok y) fault j none e f = (j.0 ∙ e, f)
   or_memory x t now after (Err y) fault j none e f = absurd (let bad : ◌≡◌ {A = Option ReadFault} (Some y) None = sym j ∙ none in cc)
 
   pub judged_only : (t : Term) (now : Names) (r : Result Term ReadFault) → ((x : Term) (after : Names) → IsTermText names text x after → IsTermOr x after (Ok t) now) → JudgesTerm t (term_fault ty (stated_type t) defs (depth_of t) (nodes + node_count t)) r →
-      (d : Draft) → IsDraftText text d → first_some (expression_faults names nodes ty defs d) ≡ None → IsTermOr (term_of (names_after names d) d) (names_after names d) r now
+      (d : SyntaxTree) → IsTreeText text d → first_some (expression_faults names nodes ty defs d) ≡ None → IsTermOr (term_of (names_after names d) d) (names_after names d) r now
   judged_only t now r only j d spelled none =
       let whole = text_so d spelled none in
       let same = only (term_of (names_after names d) d) (names_after names d) whole in
@@ -313,7 +313,7 @@ module _ (names : Names) (nodes : ℕ) (ty : LaneType) (defs : ℕ) (text : List
   only_memory x after now (Limit w k) h = absurd h
 
   pub refused_only : (fault e : ReadFault) (now last : Names) → ((x : Term) (after : Names) → IsTermText names text x after → IsTermOr x after (Err fault) now) → (fault ≡ Memory → e ≡ Memory) →
-      (d : Draft) → IsDraftText text d → first_some (expression_faults names nodes ty defs d) ≡ None → IsTermOr (term_of (names_after names d) d) (names_after names d) (Err e) last
+      (d : SyntaxTree) → IsTreeText text d → first_some (expression_faults names nodes ty defs d) ≡ None → IsTermOr (term_of (names_after names d) d) (names_after names d) (Err e) last
   refused_only fault e now last only memory d spelled none =
       let same = only_memory (term_of (names_after names d) d) (names_after names d) now fault (only (term_of (names_after names d) d) (names_after names d) (text_so d spelled none)) in
       subst (λ (f : ReadFault). IsTermOr (term_of (names_after names d) d) (names_after names d) (Err f) last) (sym (memory same)) tt
@@ -360,7 +360,7 @@ pub record IsClean (ty got : LaneType) (defs depth nodes : ℕ) : Type 0 where
   pub shallow : depth ≤ 128
   pub small : nodes ≤ 512
 
-uncounted : (most n : ℕ) → most < 2 ^ 62 → counted n ≤ most → n ≤ most
+uncounted : (most n : ℕ) → most < 2 ^ 62 → capped_count n ≤ most → n ≤ most
 uncounted most n h k = omega (arith, k)
 
 pub clean : (ty got : LaneType) (defs depth nodes : ℕ) → term_fault ty got defs depth nodes ≡ None → IsClean ty got defs depth nodes
@@ -368,12 +368,12 @@ unfolding term_fault
 clean ty got defs depth nodes h =
     let one = or_right (mistyped ty (Ok got)) _ h in
     let two = or_right (more_than 64 Definitions defs) _ one in
-    let three = or_right (more_than 128 Depth (counted depth)) _ two in
+    let three = or_right (more_than 128 Depth (capped_count depth)) _ two in
     record {
       same = sym (types_same ty got (not_false (same_type ty got) (no_fault (not (same_type ty got)) _ (or_left _ _ h))));
       few = few_told 64 Definitions defs (or_left _ _ one);
-      shallow = uncounted 128 depth (omega arith) (few_told 128 Depth (counted depth) (or_left _ _ two));
-      small = uncounted 512 nodes (omega arith) (few_told 512 Nodes (counted nodes) three);
+      shallow = uncounted 128 depth (omega arith) (few_told 128 Depth (capped_count depth) (or_left _ _ two));
+      small = uncounted 512 nodes (omega arith) (few_told 512 Nodes (capped_count nodes) three);
     }
 
 -- what holds of a clean term holds of the answer

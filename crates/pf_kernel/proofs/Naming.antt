@@ -6,13 +6,13 @@ use Rattle.std.specs.Str.{bytes_eq}
 use Rattle.std.proofs.lemmas.List.Elements.{All-append, All-push}
 use Rattle.std.proofs.lemmas.Slice.Eq.{bytes_eq-Decides}
 use Rattle.std.proofs.lemmas.List.Quantifiers.{all_pairs_push}
-use Rattle.pf_ints.specs.Images.{IsPixelType}
-use Rattle.pf_ints.specs.Words.{is_name}
-use Rattle.pf_terms.specs.declared.names.Names.{Names}
-use Rattle.pf_terms.specs.declared.names.Tap.{Tap}
-use Rattle.pf_terms.specs.KernelNames.{IsNames, IsNearTap, all_names}
-use Rattle.pf_terms.specs.Meanings.{is_image}
-use Rattle.pf_kernel.specs.Lines.{is_taken}
+use Rattle.pf_ints.specs.Meaning.Images.{IsPixelType}
+use Rattle.pf_text.specs.Meaning.Words.{is_name}
+use Rattle.pf_values.specs.declared.names.Names.{Names}
+use Rattle.pf_values.specs.declared.names.Tap.{Tap}
+use Rattle.pf_terms.specs.Meaning.KernelNames.{IsNames, IsNearTap, all_names}
+use Rattle.pf_terms.specs.Meaning.Meanings.{is_image}
+use Rattle.pf_kernel.specs.Meaning.Lines.{is_taken}
 
 or_left : (a b : Bool) → (a || b) ≡ false → a ≡ false
 or_left true b h = absurd (cc)

@@ -3,41 +3,40 @@ use Rattle.std.proofs.Common.{◌≡◌, refl, sym, ◌∙◌, ap, subst, ℕ, �
 use Rattle.std.specs.Prelude.{Option, Some, None, Result}
 use Rattle.std.specs.Str.Lines.{lines}
 use Rattle.std.proofs.lemmas.List.{length-map}
-use Rattle.pf_text.specs.Answers.{Answers, Decides}
-use Rattle.pf_text.specs.FirstFaults.{IsFirstFault}
+use Rattle.pf_text.specs.Meaning.Answers.{Answers, Decides}
+use Rattle.pf_text.specs.Meaning.FirstFaults.{IsFirstFault}
 use Rattle.pf_text.proofs.Answering.{decides}
 use Rattle.pf_text.proofs.OneFault.{one_end, no_fault, one_first}
-use Rattle.pf_terms.specs.declared.draft.Draft.{Draft}
+use Rattle.pf_terms.specs.declared.parse.syntax_tree.SyntaxTree.{SyntaxTree}
 use Rattle.pf_terms.specs.declared.meaning.ReadFault.{ReadFault}
 use Rattle.pf_terms.specs.declared.meaning.ReadFault.TheVariants.{Syntax as FaultSyntax}
-use Rattle.pf_terms.specs.declared.token.Kind.{Kind}
+use Rattle.pf_terms.specs.declared.token.TokenKind.{TokenKind}
 use Rattle.pf_terms.specs.declared.token.Token.{Token}
-use Rattle.pf_terms.specs.Drafts.{IsSyntaxFault}
-use Rattle.pf_terms.specs.Meanings.{first_some}
-use Rattle.pf_terms.specs.Parsing.{kinds, place_of}
-use Rattle.pf_terms.specs.Tokens.{IsLexed}
-use Rattle.pf_terms.proofs.OneFault.{one_draft_text, one_syntax_fault, no_syntax_fault}
+use Rattle.pf_terms.specs.Meaning.SyntaxTrees.{IsSyntaxFault}
+use Rattle.pf_terms.specs.Meaning.Meanings.{first_some}
+use Rattle.pf_terms.specs.Meaning.Tokens.{kinds, token_place, IsLexed}
+use Rattle.pf_terms.proofs.OneFault.{one_tree_text, one_syntax_fault, no_syntax_fault}
 use Rattle.pf_terms.proofs.OneLexing.{one_lexing}
 use Rattle.pf_kernel.specs.declared.fault.KernelFault.{KernelFault}
 use Rattle.pf_kernel.specs.declared.fault.KernelFault.TheVariants.{Memory}
 use Rattle.pf_kernel.specs.declared.front.Front.{Front}
-use Rattle.pf_kernel.specs.Kernels.{Meaning}
-use Rattle.pf_kernel.specs.Lines.{Begun, nothing, IsShape, Begins, IsFrontFault, told_at, equals_of, end_of, uncommented, Said, Nothing, Bare, Over, SaysOf, faults, with_said, IsTokensFault, front, expression, meaning, IsLineFault, IsStep, AreRead}
-use Rattle.pf_kernel.specs.Texts.{IsKernel, IsKernelFault, long, line, early, at_line, all_of}
+use Rattle.pf_kernel.specs.Meaning.Kernels.{Meaning}
+use Rattle.pf_kernel.specs.Meaning.Lines.{Begun, nothing, IsShape, MayStart, IsFrontFault, told_at, equals_of, end_of, uncommented, LineMeaning, Nothing, Bare, Over, SaysOf, faults, with_said, IsTokensFault, front, expression, said_fault, IsLineFault, IsStep, AreRead}
+use Rattle.pf_kernel.specs.Meaning.Texts.{IsKernel, IsKernelFault, long, line, early, at_line, all_of}
 use Rattle.pf_kernel.proofs.FrontLaws.{same_front, only_bare, only_over}
 use Rattle.pf_kernel.proofs.ReadLaws.{never_early, same_meaning}
 
 -- ---- the front of a line
-module _ (b : Begun) (ks : List Kind) where
-  begins_less : (xs ys : List Kind) → Begins b (xs ++ ys) → Begins b xs
-  begins_less xs ys h = (ys ++ h.0, h.1, subst (λ (l : List Kind). IsShape b l h.1) (append_assoc xs ys h.0) h.2)
+module _ (b : Begun) (ks : List TokenKind) where
+  begins_less : (xs ys : List TokenKind) → MayStart b (xs ++ ys) → MayStart b xs
+  begins_less xs ys h = (ys ++ h.0, h.1, subst (λ (l : List TokenKind). IsShape b l h.1) (append_assoc xs ys h.0) h.2)
 
   -- a fault comes behind no other
   not_later : (m n : ℕ) → IsFrontFault b ks m → IsFrontFault b ks n → m < n → ⊥
   not_later m n f g below =
       let parts : take n ks ≡ take (m + 1) ks ++ drop (m + 1) (take n ks) =
       sym (take-append-drop (m + 1) (take n ks)) ∙ ap (λ l. l ++ drop (m + 1) (take n ks)) (take-take (m + 1) n ks (omega arith)) in
-      f.fault (omega (arith, g.within)) (begins_less (take (m + 1) ks) (drop (m + 1) (take n ks)) (subst (Begins b) parts (g.begun (omega arith))))
+      f.fault (omega (arith, g.within)) (begins_less (take (m + 1) ks) (drop (m + 1) (take n ks)) (subst (MayStart b) parts (g.begun (omega arith))))
 
   one_front : (m n : ℕ) → IsFrontFault b ks m → IsFrontFault b ks n → m ≡ n
   one_front m n f g = by (nat_lt m n) (nat_lt n m) refl refl where
@@ -50,29 +49,29 @@ module _ (b : Begun) (ks : List Kind) where
   shape_whole : (f : Front) (n : ℕ) → IsShape b ks f → IsFrontFault b ks n → ⊥
   shape_whole f n shape h = by (nat_lt n (length ks)) refl where
     by : (t : Bool) → nat_lt n (length ks) ≡ t → ⊥
-    by true e = h.fault (ltb-true n (length ks) e) (drop (n + 1) ks, f, subst (λ (l : List Kind). IsShape b l f) (sym (take-append-drop (n + 1) ks)) shape)
+    by true e = h.fault (ltb-true n (length ks) e) (drop (n + 1) ks, f, subst (λ (l : List TokenKind). IsShape b l f) (sym (take-append-drop (n + 1) ks)) shape)
     by false e = h.end (omega (arith, h.within, ltb-false n (length ks) e)) f shape
 
 -- ---- the tokens of a line
 module _ (b : Begun) (text : List ℕ) (ts : List Token) where
-  says_front : (said : Said) (n : ℕ) → SaysOf b text ts said → IsFrontFault b (kinds ts) n → ⊥
+  says_front : (said : LineMeaning) (n : ℕ) → SaysOf b text ts said → IsFrontFault b (kinds ts) n → ⊥
   says_front Nothing n h k = absurd (omega (arith, k.some, length-map ts (λ t. t.kind), ap length h))
   says_front (Bare f) n h k = shape_whole b (kinds ts) f n h.0 k
   says_front (Over f d) n h k = shape_whole b (kinds ts) f n h.0 k
 
-  one_said : (x y : Said) → SaysOf b text ts x → SaysOf b text ts y → x ≡ y
+  one_said : (x y : LineMeaning) → SaysOf b text ts x → SaysOf b text ts y → x ≡ y
   one_said Nothing Nothing h k = refl
   one_said Nothing (Bare f) h k = only_bare b text ts f Nothing k.0 k.1 h
   one_said Nothing (Over f d) h k = let over = only_over b text ts f k.1.0 Nothing k.0 k.1.1 h in absurd (cc (over.is))
   one_said (Bare f) y h k = sym (only_bare b text ts f y h.0 h.1 k)
   one_said (Over f d) y h k =
       let over = only_over b text ts f h.1.0 y h.0 h.1.1 k in
-      ap (λ (e : Draft). Over f e) (one_draft_text (drop (end_of ts h.1.0) text) d over.draft h.1.2 over.spelled) ∙ sym over.is
+      ap (λ (e : SyntaxTree). Over f e) (one_tree_text (drop (end_of ts h.1.0) text) d over.tree h.1.2 over.spelled) ∙ sym over.is
 
-  says_expression : (said : Said) (f : Front) (n place : ℕ) → SaysOf b text ts said → IsShape b (kinds ts) f → equals_of f ≡ Some n → IsSyntaxFault (drop (end_of ts n) text) place → ⊥
+  says_expression : (said : LineMeaning) (f : Front) (n place : ℕ) → SaysOf b text ts said → IsShape b (kinds ts) f → equals_of f ≡ Some n → IsSyntaxFault (drop (end_of ts n) text) place → ⊥
   says_expression said f n place h shape equals broken =
       let over = only_over b text ts f n said shape equals h in
-      no_syntax_fault (drop (end_of ts n) text) over.draft place over.spelled broken
+      no_syntax_fault (drop (end_of ts n) text) over.tree place over.spelled broken
 
   one_expression : (f g : Front) (m n p q : ℕ) → IsShape b (kinds ts) f → IsShape b (kinds ts) g → equals_of f ≡ Some m → equals_of g ≡ Some n → IsSyntaxFault (drop (end_of ts m) text) p → IsSyntaxFault (drop (end_of ts n) text) q → end_of ts m + p + 1 ≡ end_of ts n + q + 1
   one_expression f g m n p q h k e i broken other =
@@ -82,23 +81,23 @@ module _ (b : Begun) (text : List ℕ) (ts : List Token) where
       λ j. end_of ts (same j) + places j + 1
 
   one_tokens_fault : (e f : ReadFault) → IsTokensFault b text ts e → IsTokensFault b text ts f → e ≡ f
-  one_tokens_fault _ _ (front m h) (front n k) = ap (λ (l : ℕ). FaultSyntax (place_of ts (told_at (kinds ts) l) + 1)) (one_front b (kinds ts) m n h k)
+  one_tokens_fault _ _ (front m h) (front n k) = ap (λ (l : ℕ). FaultSyntax (token_place ts (told_at (kinds ts) l) + 1)) (one_front b (kinds ts) m n h k)
   one_tokens_fault _ _ (front m h) (expression g n q shape equals k) = absurd (shape_whole b (kinds ts) g m shape h)
-  one_tokens_fault _ _ (front m h) (meaning said f k first) = absurd (says_front said m k h)
+  one_tokens_fault _ _ (front m h) (said_fault said f k first) = absurd (says_front said m k h)
   one_tokens_fault _ _ (expression g n q shape equals h) (front m k) = absurd (shape_whole b (kinds ts) g m shape k)
   one_tokens_fault _ _ (expression f m p h e broken) (expression g n q k i other) = ap FaultSyntax (one_expression f g m n p q h k e i broken other)
-  one_tokens_fault _ _ (expression g n q shape equals h) (meaning said f k first) = absurd (says_expression said g n q k shape equals h)
-  one_tokens_fault _ _ (meaning said f h first) (front m k) = absurd (says_front said m h k)
-  one_tokens_fault _ _ (meaning said f h first) (expression g n q shape equals k) = absurd (says_expression said g n q h shape equals k)
-  one_tokens_fault _ _ (meaning x e h first) (meaning y f k other) =
-      let both : ◌≡◌ {A = Option ReadFault} (Some e) (Some f) = sym first ∙ ap (λ (s : Said). first_some (faults b s)) (one_said x y h k) ∙ other in
+  one_tokens_fault _ _ (expression g n q shape equals h) (said_fault said f k first) = absurd (says_expression said g n q k shape equals h)
+  one_tokens_fault _ _ (said_fault said f h first) (front m k) = absurd (says_front said m h k)
+  one_tokens_fault _ _ (said_fault said f h first) (expression g n q shape equals k) = absurd (says_expression said g n q h shape equals k)
+  one_tokens_fault _ _ (said_fault x e h first) (said_fault y f k other) =
+      let both : ◌≡◌ {A = Option ReadFault} (Some e) (Some f) = sym first ∙ ap (λ (s : LineMeaning). first_some (faults b s)) (one_said x y h k) ∙ other in
       cc
 
-  no_tokens_fault : (x : Said) (e : ReadFault) → SaysOf b text ts x → first_some (faults b x) ≡ None → IsTokensFault b text ts e → ⊥
+  no_tokens_fault : (x : LineMeaning) (e : ReadFault) → SaysOf b text ts x → first_some (faults b x) ≡ None → IsTokensFault b text ts e → ⊥
   no_tokens_fault x _ h none (front m k) = says_front x m h k
   no_tokens_fault x _ h none (expression g n q shape equals k) = says_expression x g n q h shape equals k
-  no_tokens_fault x _ h none (meaning y e k first) =
-      let both : ◌≡◌ {A = Option ReadFault} None (Some e) = sym none ∙ ap (λ (s : Said). first_some (faults b s)) (one_said x y h k) ∙ first in
+  no_tokens_fault x _ h none (said_fault y e k first) =
+      let both : ◌≡◌ {A = Option ReadFault} None (Some e) = sym none ∙ ap (λ (s : LineMeaning). first_some (faults b s)) (one_said x y h k) ∙ first in
       absurd (cc)
 
 -- ---- a line

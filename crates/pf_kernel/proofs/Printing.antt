@@ -1,13 +1,13 @@
 -- A kernel's terms can be printed.
 use Rattle.std.proofs.Common.{◌≡◌, ap, subst, ℕ, zero, suc, ◌<◌, List, [], ◌∷◌, ◌++◌, length, map, get_or, append_assoc, append-nil, arith, true}
-use Rattle.pf_terms.specs.declared.kernel.Definition.{Definition}
-use Rattle.pf_terms.specs.declared.names.DefName.{DefName}
-use Rattle.pf_terms.specs.declared.names.Names.{Names}
-use Rattle.pf_terms.specs.declared.names.Tap.{Tap as TapOf}
-use Rattle.pf_terms.specs.declared.term.Term.{Term}
-use Rattle.pf_terms.specs.TermTexts.{is_named}
-use Rattle.pf_kernel.specs.Kernels.{Meaning, IsKernelOf, AreDefinitions, def_name, names_of}
-use Rattle.pf_kernel.specs.Printable.{IsPrintable}
+use Rattle.pf_values.specs.declared.kernel.Definition.{Definition}
+use Rattle.pf_values.specs.declared.names.DefName.{DefName}
+use Rattle.pf_values.specs.declared.names.Names.{Names}
+use Rattle.pf_values.specs.declared.names.Tap.{Tap as TapOf}
+use Rattle.pf_values.specs.declared.term.Term.{Term}
+use Rattle.pf_values.specs.Meaning.NamedTerms.{is_named}
+use Rattle.pf_kernel.specs.Meaning.Kernels.{Meaning, IsKernelOf, AreDefinitions, def_name, names_of}
+use Rattle.pf_kernel.specs.Steps.Printable.{IsPrintable}
 use Rattle.pf_kernel.proofs.Extending.{StaysNamed, stays_named}
 
 -- the same names with more definitions

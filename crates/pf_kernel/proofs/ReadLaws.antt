@@ -2,24 +2,24 @@
 use Rattle.std.proofs.Common.{◌≡◌, refl, sym, ◌∙◌, ap, subst, inl, inr, ℕ, ◌+◌, ◌≤◌, ◌<◌, List, [], ◌∷◌, ◌++◌, length, arith, append_assoc, append-nil, length-append}
 use Rattle.std.specs.Prelude.{◌⊎◌, Option, Some, None, Result, Ok, Err, pos}
 use Rattle.std.specs.Str.Lines.{lines}
-use Rattle.pf_text.specs.Answers.{Answers}
+use Rattle.pf_text.specs.Meaning.Answers.{Answers}
 use Rattle.pf_text.proofs.OneFault.{steps_more}
 use Rattle.pf_ints.specs.declared.lane.LaneType.{LaneType}
 use Rattle.pf_terms.specs.declared.meaning.ReadFault.{ReadFault}
 use Rattle.pf_terms.specs.declared.meaning.ReadFault.TheVariants.{Memory as NoMemory}
-use Rattle.pf_terms.specs.declared.limit.LimitKind.TheVariants.{Bytes}
-use Rattle.pf_terms.specs.declared.term.Term.{Term}
+use Rattle.pf_values.specs.declared.limit.LimitKind.TheVariants.{Bytes}
+use Rattle.pf_values.specs.declared.term.Term.{Term}
 use Rattle.pf_kernel.specs.declared.fault.KernelFault.{KernelFault}
 use Rattle.pf_kernel.specs.declared.fault.KernelFault.TheVariants.{Syntax, Limit, Memory}
 use Rattle.pf_kernel.specs.declared.reading.Reading.{Reading}
-use Rattle.pf_kernel.specs.Kernels.{Meaning}
-use Rattle.pf_kernel.specs.Lines.{Begun, IsLineFault, IsStep, nothing, AreRead}
-use Rattle.pf_kernel.specs.Readings.{begun_of, IsReading}
-use Rattle.pf_kernel.specs.Reads.{IsFaultAt, IsSoFar, IsWhole, Finishes}
-use Rattle.pf_kernel.specs.Texts.{IsKernel, IsKernelFault, long, line, early, at_line, all_of, byte_limit}
+use Rattle.pf_kernel.specs.Meaning.Kernels.{Meaning}
+use Rattle.pf_kernel.specs.Meaning.Lines.{Begun, IsLineFault, IsStep, nothing, AreRead}
+use Rattle.pf_kernel.specs.Steps.Readings.{begun_of, IsReading}
+use Rattle.pf_kernel.specs.Steps.Reads.{IsKernelFaultAt, IsSoFar, IsWholeText, FinishesKernel}
+use Rattle.pf_kernel.specs.Meaning.Texts.{IsKernel, IsKernelFault, long, line, early, at_line, all_of, byte_limit}
 
 -- ---- lines that are read
-pub told_line : (b : Begun) (l : List ℕ) (n : ℕ) (f : ReadFault) (e : KernelFault) → IsLineFault b l f ⊎ (f ≡ NoMemory) → e ≡ at_line n f → IsFaultAt b l n e ⊎ (e ≡ Memory)
+pub told_line : (b : Begun) (l : List ℕ) (n : ℕ) (f : ReadFault) (e : KernelFault) → IsLineFault b l f ⊎ (f ≡ NoMemory) → e ≡ at_line n f → IsKernelFaultAt b l n e ⊎ (e ≡ Memory)
 told_line b l n f e (inl h) is = inl (f, h, is)
 told_line b l n f e (inr h) is = inr (is ∙ ap (at_line n) h)
 
@@ -36,7 +36,7 @@ module _ (text rest next l : List ℕ) (count : ℕ) (r : Reading) (h : IsSoFar 
         read = steps_more Begun (List ℕ) IsStep nothing (begun_of r) (begun_of s) h.before l h.read step;
       }
 
-  pub next_told : (f : KernelFault) → length text ≤ byte_limit → IsFaultAt (begun_of r) l (count + 1) f ⊎ (f ≡ Memory) → IsKernelFault text f ⊎ (f ≡ Memory)
+  pub next_told : (f : KernelFault) → length text ≤ byte_limit → IsKernelFaultAt (begun_of r) l (count + 1) f ⊎ (f ≡ Memory) → IsKernelFault text f ⊎ (f ≡ Memory)
   next_told f short (inr none) = inr none
   next_told f short (inl told) =
       inl (subst (IsKernelFault text) (sym told.2) (line count told.0 short (record {
@@ -55,7 +55,7 @@ nil_at : (xs : List ℕ) → length xs ≤ 0 → xs ≡ []
 nil_at [] h = refl
 nil_at (x ∷ xs) h = absurd (omega arith)
 
-pub whole : (text rest : List ℕ) (count : ℕ) (r : Reading) → IsSoFar text rest count r → length rest ≤ 0 → IsWhole text r count
+pub whole : (text rest : List ℕ) (count : ℕ) (r : Reading) → IsSoFar text rest count r → length rest ≤ 0 → IsWholeText text r count
 whole text rest count r h none =
     let all : lines text ≡ h.before = h.parts ∙ ap (λ (ls : List (List ℕ)). h.before ++ ls) (ap lines (nil_at rest none)) ∙ append-nil h.before in
     record { good = h.good; count_is = h.count_is ∙ ap length (sym all); read = subst (λ (ls : List (List ℕ)). AreRead nothing ls (begun_of r)) (sym all) h.read }
@@ -78,7 +78,7 @@ same_meaning j k h =
 pub never_early : (k : Meaning) (b : Begun) → b ≡ all_of k → b.out ≡ None → ⊥
 never_early k b is none = absurd (let some : ◌≡◌ {A = Option (LaneType × Term)} (Some (k.source.out_ty, k.source.out)) None = ap (λ (c : Begun). c.out) (sym is) ∙ none in cc)
 
-pub finished : (text : List ℕ) (r : Reading) (count : ℕ) (k : Result Meaning KernelFault) → length text ≤ byte_limit → IsWhole text r count → Finishes (begun_of r) count k → Answers Memory (IsKernel text) (IsKernelFault text) k
+pub finished : (text : List ℕ) (r : Reading) (count : ℕ) (k : Result Meaning KernelFault) → length text ≤ byte_limit → IsWholeText text r count → FinishesKernel (begun_of r) count k → Answers Memory (IsKernel text) (IsKernelFault text) k
 finished text r count (Ok k) short h is = record { short = short; lines_read = subst (AreRead nothing (lines text)) (sym is) h.read }
 finished text r count (Err e) short h is =
     inl (subst (IsKernelFault text) (sym is.1) (subst (λ (n : ℕ). IsKernelFault text (Syntax (n + 1) 1)) (sym h.count_is) (early (begun_of r) short h.read is.0)))

@@ -6,16 +6,16 @@ use Rattle.std.proofs.lemmas.Bool.{and_from, and_parts}
 use Rattle.pf_ints.specs.declared.lane.LaneType.{LaneType}
 use Rattle.pf_ints.specs.declared.lane.Bits.{Bits}
 use Rattle.pf_ints.specs.declared.lane.Bits.TheVariants.{Eight, Sixteen, ThirtyTwo}
-use Rattle.pf_ints.specs.Images.{IsPixelType, is_pixel, is_pixel_by}
-use Rattle.pf_ints.specs.Lanes.{IsIn, least, greatest, is_in}
-use Rattle.pf_terms.specs.declared.token.Kind.{Kind}
-use Rattle.pf_terms.specs.declared.token.Kind.TheVariants.{Name, TypeWord, Number, Line, Equals}
+use Rattle.pf_ints.specs.Meaning.Images.{IsPixelType, is_pixel, is_pixel_by}
+use Rattle.pf_ints.specs.Meaning.Lanes.{IsIn, least, greatest, is_in}
+use Rattle.pf_terms.specs.declared.token.TokenKind.{TokenKind}
+use Rattle.pf_terms.specs.declared.token.TokenKind.TheVariants.{Name, TypeWord, Number, Line, Equals}
 use Rattle.pf_terms.specs.declared.token.LineWord.{LineWord}
 use Rattle.pf_terms.specs.declared.token.LineWord.TheVariants.{Kernel, Image, Def, Out}
 use Rattle.pf_kernel.specs.declared.front.Front.{Front}
-use Rattle.pf_kernel.specs.Lines.{Begun, may_stand, IsShape, kernel, image, ranged, def, out, whole_range}
-use Rattle.pf_kernel.specs.Kernels.{IsDecl}
-use Rattle.pf_kernel.specs.Fronts.{is_range, front_of, front_by, kernel_front, image_front, range_front, high_front, range_end, def_front, out_front, out_end}
+use Rattle.pf_kernel.specs.Meaning.Lines.{Begun, may_stand, IsShape, kernel, image, ranged, def, out, whole_range}
+use Rattle.pf_kernel.specs.Meaning.Kernels.{IsDeclaredRange}
+use Rattle.pf_kernel.specs.Steps.Fronts.{is_range, front_of, front_by, kernel_front, image_front, range_front, high_front, range_end, def_front, out_front, out_end}
 
 ok_same : {A B : Type 0} {a b : A} → ◌≡◌ {A = Result A B} (Ok a) (Ok b) → a ≡ b
 ok_same h = cc
@@ -86,7 +86,7 @@ range_test t lo hi h k = and_from _ _ (le_test (pos lo) (pos hi) (le_pos lo hi h
 
 -- ---- a shape is found
 
-pub found : (b : Begun) (ks : List Kind) (f : Front) → IsShape b ks f → front_of (may_stand b) ks ≡ Ok f
+pub found : (b : Begun) (ks : List TokenKind) (f : Front) → IsShape b ks f → front_of (may_stand b) ks ≡ Ok f
 found b _ _ (kernel n may) = ap (λ v. if v then kernel_front (Name n ∷ []) else Err 0) may
 found b _ _ (image n t may pixel) =
     ap (λ v. if v then image_front (Name n ∷ TypeWord t ∷ []) else Err 0) may ∙ ap (λ v. if v then range_front n t [] else Err 2) (pixel_test t pixel)
@@ -101,12 +101,12 @@ found b _ _ (out t es may pixel) =
 
 -- ---- what is found is a shape
 
-kernel_shape : (b : Begun) (ks : List Kind) (f : Front) → may_stand b Kernel ≡ true → kernel_front ks ≡ Ok f → IsShape b (Line Kernel ∷ ks) f
+kernel_shape : (b : Begun) (ks : List TokenKind) (f : Front) → may_stand b Kernel ≡ true → kernel_front ks ≡ Ok f → IsShape b (Line Kernel ∷ ks) f
 kernel_shape b (Name n ∷ []) f may h = subst (IsShape b (Line Kernel ∷ Name n ∷ [])) (ok_same h) (kernel n may)
 kernel_shape b (Name n ∷ x ∷ xs) f may h = absurd (cc)
 kernel_shape b _ f may h = absurd (cc)
 
-range_shape : (b : Begun) (n : List ℕ) (t : LaneType) (lo hi : ℤ) (ks : List Kind) (f : Front) → may_stand b Image ≡ true → is_pixel t ≡ true → is_in t lo ≡ true → is_range t lo hi ≡ true → range_end n t lo hi ks ≡ Ok f →
+range_shape : (b : Begun) (n : List ℕ) (t : LaneType) (lo hi : ℤ) (ks : List TokenKind) (f : Front) → may_stand b Image ≡ true → is_pixel t ≡ true → is_in t lo ≡ true → is_range t lo hi ≡ true → range_end n t lo hi ks ≡ Ok f →
     IsShape b (Line Image ∷ Name n ∷ TypeWord t ∷ Number lo ∷ Number hi ∷ ks) f
 range_shape b n t (pos lo) (pos hi) [] f may pixel low range h =
     subst (IsShape b (Line Image ∷ Name n ∷ TypeWord t ∷ Number (pos lo) ∷ Number (pos hi) ∷ [])) (ok_same h)
@@ -115,49 +115,49 @@ range_shape b n t (negsuc lo) hi [] f may pixel low range h = absurd (no_negativ
 range_shape b n t (pos lo) (negsuc hi) [] f may pixel low range h = absurd (no_negative t hi pixel (and_parts (int_le (pos lo) (negsuc hi)) _ range).1)
 range_shape b n t lo hi (x ∷ xs) f may pixel low range h = absurd (cc)
 
-high_shape : (b : Begun) (n : List ℕ) (t : LaneType) (lo hi : ℤ) (ks : List Kind) (f : Front) → may_stand b Image ≡ true → is_pixel t ≡ true → is_in t lo ≡ true → (v : Bool) → is_range t lo hi ≡ v → (if v then range_end n t lo hi ks else Err 4) ≡ Ok f →
+high_shape : (b : Begun) (n : List ℕ) (t : LaneType) (lo hi : ℤ) (ks : List TokenKind) (f : Front) → may_stand b Image ≡ true → is_pixel t ≡ true → is_in t lo ≡ true → (v : Bool) → is_range t lo hi ≡ v → (if v then range_end n t lo hi ks else Err 4) ≡ Ok f →
     IsShape b (Line Image ∷ Name n ∷ TypeWord t ∷ Number lo ∷ Number hi ∷ ks) f
 high_shape b n t lo hi ks f may pixel low true range h = range_shape b n t lo hi ks f may pixel low range h
 high_shape b n t lo hi ks f may pixel low false range h = absurd (cc)
 
-low_shape : (b : Begun) (n : List ℕ) (t : LaneType) (lo : ℤ) (ks : List Kind) (f : Front) → may_stand b Image ≡ true → is_pixel t ≡ true → (v : Bool) → is_in t lo ≡ v → (if v then high_front n t lo ks else Err 3) ≡ Ok f →
+low_shape : (b : Begun) (n : List ℕ) (t : LaneType) (lo : ℤ) (ks : List TokenKind) (f : Front) → may_stand b Image ≡ true → is_pixel t ≡ true → (v : Bool) → is_in t lo ≡ v → (if v then high_front n t lo ks else Err 3) ≡ Ok f →
     IsShape b (Line Image ∷ Name n ∷ TypeWord t ∷ Number lo ∷ ks) f
 low_shape b n t lo ks f may pixel false low h = absurd (cc)
 low_shape b n t lo (Number hi ∷ ks) f may pixel true low h = high_shape b n t lo hi ks f may pixel low (is_range t lo hi) refl h
 low_shape b n t lo _ f may pixel true low h = absurd (cc)
 
-pixel_shape : (b : Begun) (n : List ℕ) (t : LaneType) (ks : List Kind) (f : Front) → may_stand b Image ≡ true → (v : Bool) → is_pixel t ≡ v → (if v then range_front n t ks else Err 2) ≡ Ok f →
+pixel_shape : (b : Begun) (n : List ℕ) (t : LaneType) (ks : List TokenKind) (f : Front) → may_stand b Image ≡ true → (v : Bool) → is_pixel t ≡ v → (if v then range_front n t ks else Err 2) ≡ Ok f →
     IsShape b (Line Image ∷ Name n ∷ TypeWord t ∷ ks) f
 pixel_shape b n t ks f may false pixel h = absurd (cc)
 pixel_shape b n t [] f may true pixel h = subst (IsShape b (Line Image ∷ Name n ∷ TypeWord t ∷ [])) (ok_same h) (image n t may (pixel_means t pixel))
 pixel_shape b n t (Number lo ∷ ks) f may true pixel h = low_shape b n t lo ks f may pixel (is_in t lo) refl h
 pixel_shape b n t _ f may true pixel h = absurd (cc)
 
-image_shape : (b : Begun) (ks : List Kind) (f : Front) → may_stand b Image ≡ true → image_front ks ≡ Ok f → IsShape b (Line Image ∷ ks) f
+image_shape : (b : Begun) (ks : List TokenKind) (f : Front) → may_stand b Image ≡ true → image_front ks ≡ Ok f → IsShape b (Line Image ∷ ks) f
 image_shape b (Name n ∷ TypeWord t ∷ ks) f may h = pixel_shape b n t ks f may (is_pixel t) refl h
 image_shape b _ f may h = absurd (cc)
 
-def_shape : (b : Begun) (ks : List Kind) (f : Front) → may_stand b Def ≡ true → def_front ks ≡ Ok f → IsShape b (Line Def ∷ ks) f
+def_shape : (b : Begun) (ks : List TokenKind) (f : Front) → may_stand b Def ≡ true → def_front ks ≡ Ok f → IsShape b (Line Def ∷ ks) f
 def_shape b (Name n ∷ TypeWord t ∷ Equals ∷ es) f may h = subst (IsShape b (Line Def ∷ Name n ∷ TypeWord t ∷ Equals ∷ es)) (ok_same h) (def n t es may)
 def_shape b _ f may h = absurd (cc)
 
-output_shape : (b : Begun) (t : LaneType) (ks : List Kind) (f : Front) → may_stand b Out ≡ true → (v : Bool) → is_pixel t ≡ v → (if v then out_end t ks else Err 1) ≡ Ok f → IsShape b (Line Out ∷ TypeWord t ∷ ks) f
+output_shape : (b : Begun) (t : LaneType) (ks : List TokenKind) (f : Front) → may_stand b Out ≡ true → (v : Bool) → is_pixel t ≡ v → (if v then out_end t ks else Err 1) ≡ Ok f → IsShape b (Line Out ∷ TypeWord t ∷ ks) f
 output_shape b t ks f may false pixel h = absurd (cc)
 output_shape b t (Equals ∷ es) f may true pixel h = subst (IsShape b (Line Out ∷ TypeWord t ∷ Equals ∷ es)) (ok_same h) (out t es may (pixel_means t pixel))
 output_shape b t _ f may true pixel h = absurd (cc)
 
-out_shape : (b : Begun) (ks : List Kind) (f : Front) → may_stand b Out ≡ true → out_front ks ≡ Ok f → IsShape b (Line Out ∷ ks) f
+out_shape : (b : Begun) (ks : List TokenKind) (f : Front) → may_stand b Out ≡ true → out_front ks ≡ Ok f → IsShape b (Line Out ∷ ks) f
 out_shape b (TypeWord t ∷ ks) f may h = output_shape b t ks f may (is_pixel t) refl h
 out_shape b _ f may h = absurd (cc)
 
-word_shape : (b : Begun) (w : LineWord) (ks : List Kind) (f : Front) (v : Bool) → may_stand b w ≡ v → (if v then front_by w ks else Err 0) ≡ Ok f → IsShape b (Line w ∷ ks) f
+word_shape : (b : Begun) (w : LineWord) (ks : List TokenKind) (f : Front) (v : Bool) → may_stand b w ≡ v → (if v then front_by w ks else Err 0) ≡ Ok f → IsShape b (Line w ∷ ks) f
 word_shape b w ks f false may h = absurd (cc)
 word_shape b Kernel ks f true may h = kernel_shape b ks f may h
 word_shape b Image ks f true may h = image_shape b ks f may h
 word_shape b Def ks f true may h = def_shape b ks f may h
 word_shape b Out ks f true may h = out_shape b ks f may h
 
-pub shaped : (b : Begun) (ks : List Kind) (f : Front) → front_of (may_stand b) ks ≡ Ok f → IsShape b ks f
+pub shaped : (b : Begun) (ks : List TokenKind) (f : Front) → front_of (may_stand b) ks ≡ Ok f → IsShape b ks f
 shaped b (Line w ∷ ks) f h = word_shape b w ks f (may_stand b w) refl h
 shaped b _ f h = absurd (cc)
 
@@ -167,9 +167,9 @@ in_unsigned Eight = record { low = omega (arith, ints); high = omega (arith, int
 in_unsigned Sixteen = record { low = omega (arith, ints); high = omega (arith, ints) }
 in_unsigned ThirtyTwo = record { low = omega (arith, ints); high = omega (arith, ints) }
 
-decl_by : (n : List ℕ) (signed : Bool) (bits : Bits) → signed ≡ false → IsDecl (whole_range n (record { signed = signed; bits = bits }))
+decl_by : (n : List ℕ) (signed : Bool) (bits : Bits) → signed ≡ false → IsDeclaredRange (whole_range n (record { signed = signed; bits = bits }))
 decl_by n true bits h = absurd (cc)
 decl_by n false bits h = record { ordered = omega arith; inside = in_unsigned bits }
 
-pub whole_decl : (n : List ℕ) (t : LaneType) → IsPixelType t → IsDecl (whole_range n t)
+pub whole_decl : (n : List ℕ) (t : LaneType) → IsPixelType t → IsDeclaredRange (whole_range n t)
 whole_decl n t h = decl_by n t.signed t.bits h.unsigned

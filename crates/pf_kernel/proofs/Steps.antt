@@ -5,20 +5,20 @@ use Rattle.std.proofs.lemmas.List.{length-map, map-append}
 use Rattle.std.proofs.lemmas.List.Elements.{All-push}
 use Rattle.std.proofs.lemmas.Bool.{and_parts, not-true}
 use Rattle.pf_ints.specs.declared.lane.LaneType.{LaneType}
-use Rattle.pf_ints.specs.Images.{IsPixelType}
-use Rattle.pf_ints.specs.Words.{is_name}
-use Rattle.pf_terms.specs.declared.kernel.Definition.{Definition}
-use Rattle.pf_terms.specs.declared.kernel.ImageDecl.{ImageDecl}
-use Rattle.pf_terms.specs.declared.names.DefName.{DefName}
-use Rattle.pf_terms.specs.declared.names.ImageName.{ImageName}
-use Rattle.pf_terms.specs.declared.names.Names.{Names}
-use Rattle.pf_terms.specs.declared.term.Term.{Term}
+use Rattle.pf_ints.specs.Meaning.Images.{IsPixelType}
+use Rattle.pf_text.specs.Meaning.Words.{is_name}
+use Rattle.pf_values.specs.declared.kernel.Definition.{Definition}
+use Rattle.pf_values.specs.declared.kernel.ImageDecl.{ImageDecl}
+use Rattle.pf_values.specs.declared.names.DefName.{DefName}
+use Rattle.pf_values.specs.declared.names.ImageName.{ImageName}
+use Rattle.pf_values.specs.declared.names.Names.{Names}
+use Rattle.pf_values.specs.declared.term.Term.{Term}
 use Rattle.pf_terms.specs.declared.token.LineWord.TheVariants.{Image}
-use Rattle.pf_terms.specs.KernelNames.{all_names}
-use Rattle.pf_kernel.specs.Kernels.{image_name, def_name, names_behind, IsDecl, IsTermOf, AreDefinitions}
-use Rattle.pf_kernel.specs.Lines.{Begun, names_in, may_stand, is_taken, is_empty}
+use Rattle.pf_terms.specs.Meaning.KernelNames.{all_names}
+use Rattle.pf_kernel.specs.Meaning.Kernels.{image_name, def_name, names_behind, IsDeclaredRange, IsTermOf, AreDefinitions}
+use Rattle.pf_kernel.specs.Meaning.Lines.{Begun, names_in, may_stand, is_taken, is_empty}
 use Rattle.pf_kernel.specs.declared.reading.Reading.{Reading}
-use Rattle.pf_kernel.specs.Readings.{IsGood, IsReading, begun_of}
+use Rattle.pf_kernel.specs.Steps.Readings.{IsGood, IsReading, begun_of}
 use Rattle.pf_kernel.proofs.Naming.{named_more}
 
 empty : {A : Type 0} (xs : List A) → is_empty xs ≡ true → xs ≡ []
@@ -51,7 +51,7 @@ one_image xs i ds h =
     subst (λ (es : List DefName). names_by (xs ++ i ∷ []) es ≡ names_by xs es ++ i.name ∷ []) (sym h)
     (append-nil _ ∙ map-append (λ j. j.name) xs (i ∷ []) ∙ ap (λ ns. ns ++ i.name ∷ []) (sym (append-nil (map (λ j. j.name) xs))))
 
-pub good_image : (b : Begun) (d : ImageDecl) → IsGood b → may_stand b Image ≡ true → is_name d.name ≡ true → IsPixelType d.ty → IsDecl d → is_taken (names_in b) d.name ≡ false → length b.images < 8 → IsGood (record b { images = b.images ++ d ∷ [] })
+pub good_image : (b : Begun) (d : ImageDecl) → IsGood b → may_stand b Image ≡ true → is_name d.name ≡ true → IsPixelType d.ty → IsDeclaredRange d → is_taken (names_in b) d.name ≡ false → length b.images < 8 → IsGood (record b { images = b.images ++ d ∷ [] })
 good_image b d h may named pixel range free few =
     let opened = open_for_images b may in
     let more = record b { images = b.images ++ d ∷ [] } in
@@ -63,7 +63,7 @@ good_image b d h may named pixel range free few =
     record {
       called = named_by b.name b.images (and_parts _ _ may).0 h.called (b.images ++ d ∷ []);
       names = named_more (names_in b) (names_in more) d.name h.names named free all refl (omega arith) (omega arith) h.names.few_defs (subst (λ (xs : List ImageName). All (λ i. IsPixelType i.ty) xs) (sym images) (All-push (λ i. IsPixelType i.ty) (map image_name b.images) (image_name d) h.names.pixels pixel));
-      images = All-push IsDecl b.images d h.images range;
+      images = All-push IsDeclaredRange b.images d h.images range;
       defs = subst (λ (ds : List Definition). AreDefinitions (names_behind (b.images ++ d ∷ []) b.taps []) ds) (sym opened.defs) tt;
       nodes = h.nodes;
       turn = h.turn;
@@ -79,7 +79,7 @@ names_more r d xs ns h e f =
     λ i. record { images = images i; taps = r.names.taps; defs = defs i }
 
 -- a reading with one more image
-pub image_added : (r : Reading) (d : ImageDecl) (xs : List ImageDecl) (ns : List ImageName) → IsReading r → may_stand (begun_of r) Image ≡ true → is_name d.name ≡ true → IsPixelType d.ty → IsDecl d → is_taken (names_in (begun_of r)) d.name ≡ false → length r.images < 8 →
+pub image_added : (r : Reading) (d : ImageDecl) (xs : List ImageDecl) (ns : List ImageName) → IsReading r → may_stand (begun_of r) Image ≡ true → is_name d.name ≡ true → IsPixelType d.ty → IsDeclaredRange d → is_taken (names_in (begun_of r)) d.name ≡ false → length r.images < 8 →
     xs ≡ r.images ++ d ∷ [] → ns ≡ r.names.images ++ image_name d ∷ [] → IsReading (record { name = r.name; images = xs; names = record { images = ns; taps = r.names.taps; defs = r.names.defs }; defs = r.defs; out = r.out })
 image_added r d xs ns h may named pixel range free few e f =
     record {

@@ -6,22 +6,22 @@ use Rattle.std.proofs.lemmas.Int.{ints}
 use Rattle.std.proofs.lemmas.Bool.Decides.{nat_tests}
 use Rattle.std.proofs.lemmas.Bool.{and_from}
 use Rattle.pf_ints.specs.declared.lane.LaneType.{LaneType}
-use Rattle.pf_terms.specs.declared.draft.Draft.{Draft, roll-Draft, map-Draft}
-use Rattle.pf_terms.specs.declared.draft.Draft.TheOpen.{Draft-F}
-use Rattle.pf_terms.specs.declared.draft.Draft.TheOpen.Draft-F.{Number, Named, Placed, Node}
-use Rattle.pf_terms.specs.declared.draft.Draft.TheFolds.{fold-roll-Draft, ind-Draft}
-use Rattle.pf_terms.specs.declared.names.Names.{Names}
-use Rattle.pf_terms.specs.declared.names.Tap.{Tap}
-use Rattle.pf_terms.specs.declared.op.Op.{Op}
-use Rattle.pf_terms.specs.declared.term.Term.{Term}
-use Rattle.pf_terms.specs.declared.term.Term.TheVariants.{rolls-Node, rolls-Leaf, Leaf as LeafTerm, Node as NodeTerm}
-use Rattle.pf_terms.specs.declared.term.Term.TheOpen.Term-F.{Leaf, Node as NodeLayer}
-use Rattle.pf_terms.specs.declared.term.Term.TheFolds.{fold-roll-Term}
-use Rattle.pf_terms.specs.declared.term.Leaf.{Leaf as LeafOf}
-use Rattle.pf_terms.specs.declared.term.Leaf.TheVariants.{Tap as TapLeaf, Const, Def}
-use Rattle.pf_terms.specs.Operators.{int_same}
-use Rattle.pf_terms.specs.Meanings.{in_order, same_tap, with_tap, with_taps, tap_number, tap_at, def_number, tap_uses, uses_step, term_of, term_step, names_after}
-use Rattle.pf_kernel.specs.Kernels.{taps_step, taps_in, AreInTurn}
+use Rattle.pf_terms.specs.declared.parse.syntax_tree.SyntaxTree.{SyntaxTree, roll-SyntaxTree, map-SyntaxTree}
+use Rattle.pf_terms.specs.declared.parse.syntax_tree.SyntaxTree.TheOpen.{SyntaxTree-F}
+use Rattle.pf_terms.specs.declared.parse.syntax_tree.SyntaxTree.TheOpen.SyntaxTree-F.{Number, Name, Tap as TapTree, Node}
+use Rattle.pf_terms.specs.declared.parse.syntax_tree.SyntaxTree.TheFolds.{fold-roll-SyntaxTree, ind-SyntaxTree}
+use Rattle.pf_values.specs.declared.names.Names.{Names}
+use Rattle.pf_values.specs.declared.names.Tap.{Tap}
+use Rattle.pf_values.specs.declared.op.Op.{Op}
+use Rattle.pf_values.specs.declared.term.Term.{Term}
+use Rattle.pf_values.specs.declared.term.Term.TheVariants.{rolls-Node, rolls-Leaf, Leaf as LeafTerm, Node as NodeTerm}
+use Rattle.pf_values.specs.declared.term.Term.TheOpen.Term-F.{Leaf, Node as NodeLayer}
+use Rattle.pf_values.specs.declared.term.Term.TheFolds.{fold-roll-Term}
+use Rattle.pf_values.specs.declared.term.Leaf.{Leaf as LeafOf}
+use Rattle.pf_values.specs.declared.term.Leaf.TheVariants.{Tap as TapLeaf, Const, Def}
+use Rattle.pf_values.specs.Meaning.Operators.{int_same}
+use Rattle.pf_terms.specs.Meaning.Meanings.{in_order, same_tap, with_tap, with_taps, tap_number, tap_at, def_number, tap_uses, uses_step, term_of, term_step, names_after}
+use Rattle.pf_kernel.specs.Meaning.Kernels.{taps_step, taps_in, AreInTurn}
 
 -- ---- one list of numbers after another
 pub turn_append : (xs ys : List ℕ) (n m l : ℕ) → AreInTurn n xs m → AreInTurn m ys l → AreInTurn n (xs ++ ys) l
@@ -118,7 +118,7 @@ taps_leaf leaf ty = ap taps_in (sym (rolls-Leaf leaf ty)) ∙ fold-roll-Term (Li
 pub taps_node : (op : Op) (ty : LaneType) (k : ℕ) (args : List Term) → taps_in (NodeTerm op ty k args) ≡ concat (map taps_in args)
 taps_node op ty k args = ap taps_in (sym (rolls-Node op ty k args)) ∙ fold-roll-Term (List ℕ) taps_step (NodeLayer op ty k args)
 
-abbrev Uses : Names → Draft → Type 0
+abbrev Uses : Names → SyntaxTree → Type 0
 Uses names d = taps_in (term_of names d) ≡ map (tap_number names.taps) (tap_uses names.images d)
 
 map_append : (f : Tap → ℕ) (xs ys : List Tap) → map f (xs ++ ys) ≡ map f xs ++ map f ys
@@ -126,7 +126,7 @@ map_append f [] ys = refl
 map_append f (x ∷ xs) ys = ap (λ zs. f x ∷ zs) (map_append f xs ys)
 
 -- in the order of the term
-each_uses : (names : Names) (ds : List Draft) → ((n : ℕ) (d : Draft) → n < length ds → Uses names (get_or ds n d)) →
+each_uses : (names : Names) (ds : List SyntaxTree) → ((n : ℕ) (d : SyntaxTree) → n < length ds → Uses names (get_or ds n d)) →
     concat (map taps_in (map (term_of names) ds)) ≡ map (tap_number names.taps) (flat_map (λ ts. ts) (map (tap_uses names.images) ds))
 each_uses names [] h = refl
 each_uses names (d ∷ ds) h =
@@ -148,32 +148,32 @@ two_ordered P true (x ∷ y ∷ xs) h (suc zero) d less = h 0 d (omega arith)
 two_ordered P true (x ∷ y ∷ xs) h (suc (suc n)) d less = h (suc (suc n)) d less
 two_ordered P false xs h n d less = h n d less
 
-firsts : (names : Names) (fs : List ((d : Draft) × Uses names d)) (n : ℕ) (d : Draft) → n < length (map (λ e. e.0) fs) → Uses names (get_or (map (λ e. e.0) fs) n d)
+firsts : (names : Names) (fs : List ((d : SyntaxTree) × Uses names d)) (n : ℕ) (d : SyntaxTree) → n < length (map (λ e. e.0) fs) → Uses names (get_or (map (λ e. e.0) fs) n d)
 firsts names [] n d less = absurd (omega arith)
 firsts names (e ∷ fs) zero d less = e.1
 firsts names (e ∷ fs) (suc n) d less = firsts names fs n d (omega arith)
 
-layer_uses : (names : Names) (y : Draft-F ((d : Draft) × Uses names d)) → Uses names (roll-Draft (map-Draft _ Draft (λ e. e.0) y))
+layer_uses : (names : Names) (y : SyntaxTree-F ((d : SyntaxTree) × Uses names d)) → Uses names (roll-SyntaxTree (map-SyntaxTree _ SyntaxTree (λ e. e.0) y))
 layer_uses names (Number n t) =
-    ap taps_in (fold-roll-Draft Term (term_step names) (Number n t)) ∙ taps_leaf (Const n) t ∙ ap (map (tap_number names.taps)) (sym (fold-roll-Draft (List Tap) (uses_step names.images) (Number n t)))
-layer_uses names (Named s) =
-    ap taps_in (fold-roll-Draft Term (term_step names) (Named s)) ∙ taps_leaf (Def (def_number names.defs s)) _ ∙ ap (map (tap_number names.taps)) (sym (fold-roll-Draft (List Tap) (uses_step names.images) (Named s)))
-layer_uses names (Placed s dx dy) =
-    ap taps_in (fold-roll-Draft Term (term_step names) (Placed s dx dy)) ∙ taps_leaf (TapLeaf (tap_number names.taps (tap_at names.images s dx dy))) _ ∙ ap (map (tap_number names.taps)) (sym (fold-roll-Draft (List Tap) (uses_step names.images) (Placed s dx dy)))
+    ap taps_in (fold-roll-SyntaxTree Term (term_step names) (Number n t)) ∙ taps_leaf (Const n) t ∙ ap (map (tap_number names.taps)) (sym (fold-roll-SyntaxTree (List Tap) (uses_step names.images) (Number n t)))
+layer_uses names (Name s) =
+    ap taps_in (fold-roll-SyntaxTree Term (term_step names) (Name s)) ∙ taps_leaf (Def (def_number names.defs s)) _ ∙ ap (map (tap_number names.taps)) (sym (fold-roll-SyntaxTree (List Tap) (uses_step names.images) (Name s)))
+layer_uses names (TapTree s dx dy) =
+    ap taps_in (fold-roll-SyntaxTree Term (term_step names) (TapTree s dx dy)) ∙ taps_leaf (TapLeaf (tap_number names.taps (tap_at names.images s dx dy))) _ ∙ ap (map (tap_number names.taps)) (sym (fold-roll-SyntaxTree (List Tap) (uses_step names.images) (TapTree s dx dy)))
 layer_uses names (Node op less ty k fs) =
     let ds = map (λ e. e.0) fs in
-    ap taps_in (fold-roll-Draft Term (term_step names) (Node op less ty k ds))
+    ap taps_in (fold-roll-SyntaxTree Term (term_step names) (Node op less ty k ds))
     ∙ taps_node op _ _ (in_order less (map (term_of names) ds))
     ∙ ap (λ ts. concat (map taps_in ts)) (ordered (term_of names) less ds)
     ∙ each_uses names (in_order less ds) (two_ordered (Uses names) less ds (firsts names fs))
     ∙ ap (λ ts. map (tap_number names.taps) (flat_map (λ us. us) ts)) (sym (ordered (tap_uses names.images) less ds))
-    ∙ ap (map (tap_number names.taps)) (sym (fold-roll-Draft (List Tap) (uses_step names.images) (Node op less ty k ds)))
+    ∙ ap (map (tap_number names.taps)) (sym (fold-roll-SyntaxTree (List Tap) (uses_step names.images) (Node op less ty k ds)))
 
-pub term_uses : (names : Names) (d : Draft) → taps_in (term_of names d) ≡ map (tap_number names.taps) (tap_uses names.images d)
-term_uses names = ind-Draft (Uses names) (λ x y is. subst (λ z. Uses names (roll-Draft z)) is (layer_uses names y))
+pub term_uses : (names : Names) (d : SyntaxTree) → taps_in (term_of names d) ≡ map (tap_number names.taps) (tap_uses names.images d)
+term_uses names = ind-SyntaxTree (Uses names) (λ x y is. subst (λ z. Uses names (roll-SyntaxTree z)) is (layer_uses names y))
 
 -- a term's new taps come in turn
-pub term_in_turn : (names : Names) (d : Draft) → AreInTurn (length names.taps) (taps_in (term_of (names_after names d) d)) (length (names_after names d).taps)
+pub term_in_turn : (names : Names) (d : SyntaxTree) → AreInTurn (length names.taps) (taps_in (term_of (names_after names d) d)) (length (names_after names d).taps)
 term_in_turn names d =
     subst (λ (ns : List ℕ). AreInTurn (length names.taps) ns (length (names_after names d).taps)) (sym (term_uses (names_after names d) d))
     (uses_in_turn names.taps (tap_uses names.images d) (names_after names d).taps refl)

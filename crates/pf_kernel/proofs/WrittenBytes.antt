@@ -13,22 +13,24 @@ use Rattle.std.proofs.lemmas.List.Sums.{sum_by-cons}
 use Rattle.pf_ints.specs.declared.lane.LaneType.{LaneType}
 use Rattle.pf_ints.specs.declared.lane.Bits.{Bits}
 use Rattle.pf_ints.specs.declared.lane.Bits.TheVariants.{Eight, Sixteen, ThirtyTwo}
-use Rattle.pf_ints.specs.Words.{is_letter, is_name_byte, is_name, is_spelled, is_reserved}
-use Rattle.pf_terms.specs.declared.names.Names.{Names}
-use Rattle.pf_terms.specs.declared.names.Tap.{Tap as TapOf}
-use Rattle.pf_terms.specs.declared.op.Op.{Op}
-use Rattle.pf_terms.specs.declared.op.Op.TheVariants.{Cast, Add, Sub, Mul, ShiftLeft, ShiftRight, Min, Max, SelectGreater, SelectEqual, Abs, WideningAdd, WideningSub, WideningMul, ExtendingAdd, HalvingAdd, RoundingHalvingAdd, HalvingSub, SaturatingAdd, SaturatingSub, SaturatingCast, Absd, RoundingShr, MulShr, RoundingMulShr}
-use Rattle.pf_terms.specs.declared.row.Spelling.{Spelling}
-use Rattle.pf_terms.specs.declared.row.Spelling.TheVariants.{TypeCall, Infix, ShiftBy, Call, CallWithType, CallWithAmount, Select}
-use Rattle.pf_terms.specs.declared.term.Leaf.{Leaf as LeafOf}
-use Rattle.pf_terms.specs.declared.term.Leaf.TheVariants.{Tap, Const, Def}
-use Rattle.pf_terms.specs.declared.term.Term.{Term, roll-Term, map-Term}
-use Rattle.pf_terms.specs.declared.term.Term.TheOpen.{Term-F}
-use Rattle.pf_terms.specs.declared.term.Term.TheOpen.Term-F.{Leaf, Node}
-use Rattle.pf_terms.specs.declared.term.Term.TheFolds.{fold-roll-Term, ind-Term}
-use Rattle.pf_terms.specs.KernelNames.{IsNames, IsNear}
-use Rattle.pf_terms.specs.Terms.{node_count, nodes_step, typed_as}
-use Rattle.pf_terms.specs.TermTexts.{type_word, no_image, no_tap, no_def, placed_text, leaf_text, joined, called, signed_by, bracketed, op_word, spelled, spelling_of, text_step, term_text}
+use Rattle.pf_text.specs.Meaning.Words.{is_letter, is_name_byte, is_name, is_spelled, is_reserved}
+use Rattle.pf_values.specs.declared.names.Names.{Names}
+use Rattle.pf_values.specs.declared.names.Tap.{Tap as TapOf}
+use Rattle.pf_values.specs.declared.op.Op.{Op}
+use Rattle.pf_values.specs.declared.op.Op.TheVariants.{Cast, Add, Sub, Mul, ShiftLeft, ShiftRight, Min, Max, SelectGreater, SelectEqual, Abs, WideningAdd, WideningSub, WideningMul, ExtendingAdd, HalvingAdd, RoundingHalvingAdd, HalvingSub, SaturatingAdd, SaturatingSub, SaturatingCast, Absd, RoundingShr, MulShr, RoundingMulShr}
+use Rattle.pf_values.specs.declared.row.Spelling.{Spelling}
+use Rattle.pf_values.specs.declared.row.Spelling.TheVariants.{TypeCall, Infix, ShiftBy, Call, CallWithType, CallWithAmount, Select}
+use Rattle.pf_values.specs.declared.term.Leaf.{Leaf as LeafOf}
+use Rattle.pf_values.specs.declared.term.Leaf.TheVariants.{Tap, Const, Def}
+use Rattle.pf_values.specs.declared.term.Term.{Term, roll-Term, map-Term}
+use Rattle.pf_values.specs.declared.term.Term.TheOpen.{Term-F}
+use Rattle.pf_values.specs.declared.term.Term.TheOpen.Term-F.{Leaf, Node}
+use Rattle.pf_values.specs.declared.term.Term.TheFolds.{fold-roll-Term, ind-Term}
+use Rattle.pf_terms.specs.Meaning.KernelNames.{IsNames, IsTapOffset}
+use Rattle.pf_values.specs.Meaning.Terms.{node_count, nodes_step, typed_as}
+use Rattle.pf_terms.specs.Meaning.TermTexts.{type_word, placed_text, leaf_text, joined, called, signed_by, bracketed, spelled, text_step, term_text}
+use Rattle.pf_values.specs.Meaning.Spellings.{op_word, spelling_of}
+use Rattle.pf_values.specs.Meaning.NamedTerms.{no_image, no_tap, no_def}
 use Rattle.pf_terms.proofs.ReadBackLeaves.{names_long, image_at, def_at}
 
 -- the byte ends no line and begins no comment
@@ -113,7 +115,7 @@ pub type_written : (t : LaneType) → IsWritten (type_word t) 3
 type_written t = type_by t.signed t.bits
 
 -- ---- leaves
-offset_written : (z : ℤ) → IsNear z → IsWritten (signed_decimal z) 3
+offset_written : (z : ℤ) → IsTapOffset z → IsWritten (signed_decimal z) 3
 offset_written (pos n) h =
     let high = h.high in
     record { plain = (decimal_written n).plain; short = let few : length (decimal n) ≤ 2 = length-decimal-le 2 n (omega arith) (omega (arith, ints, high)) (omega (arith, ints, high)) in omega arith }
@@ -125,10 +127,10 @@ offset_written (negsuc n) h =
 record AreWrittenNames (names : Names) : Type 0 where
   images : (n : ℕ) → IsWritten (get_or names.images n no_image).name 32
   defs : (n : ℕ) → IsWritten (get_or names.defs n no_def).name 32
-  across : (n : ℕ) → IsNear (get_or names.taps n no_tap).dx
-  down : (n : ℕ) → IsNear (get_or names.taps n no_tap).dy
+  across : (n : ℕ) → IsTapOffset (get_or names.taps n no_tap).dx
+  down : (n : ℕ) → IsTapOffset (get_or names.taps n no_tap).dy
 
-no_offset : IsNear (pos 0)
+no_offset : IsTapOffset (pos 0)
 no_offset = record { low = omega (arith, ints); high = omega (arith, ints) }
 
 names_written : (names : Names) → IsNames names → AreWrittenNames names
@@ -152,7 +154,7 @@ names_written names h =
           (cases_lt n (length names.taps));
     }
 
-placed_written : (name : List ℕ) (t : TapOf) → IsWritten name 32 → IsNear t.dx → IsNear t.dy → IsWritten (placed_text name t) 41
+placed_written : (name : List ℕ) (t : TapOf) → IsWritten name 32 → IsTapOffset t.dx → IsTapOffset t.dy → IsWritten (placed_text name t) 41
 placed_written name t h across down =
     written_append (written_append (written_append (written_append (written_append h (literal (codes "[") 1 refl (omega arith))) (offset_written t.dx across)) (literal (codes ",") 1 refl (omega arith))) (offset_written t.dy down)) (literal (codes "]") 1 refl (omega arith))
 

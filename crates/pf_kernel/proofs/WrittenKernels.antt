@@ -3,13 +3,13 @@ use Rattle.std.proofs.Common.{◌≡◌, refl, sym, ◌∙◌, ap, subst, ℕ, L
 use Rattle.std.specs.Prelude.{codes}
 use Rattle.std.specs.List.{flat_map}
 use Rattle.pf_ints.specs.declared.lane.LaneType.{LaneType}
-use Rattle.pf_terms.specs.declared.kernel.Definition.{Definition}
-use Rattle.pf_terms.specs.declared.kernel.ImageDecl.{ImageDecl}
-use Rattle.pf_terms.specs.declared.names.Names.{Names}
-use Rattle.pf_terms.specs.declared.term.Term.{Term}
-use Rattle.pf_kernel.specs.Kernels.{Meaning, names_of, IsKernelOf}
-use Rattle.pf_kernel.specs.Lines.{nothing, AreRead}
-use Rattle.pf_kernel.specs.Texts.{all_of, image_text, typed_text, def_text, ended, kernel_text, IsKernel}
+use Rattle.pf_values.specs.declared.kernel.Definition.{Definition}
+use Rattle.pf_values.specs.declared.kernel.ImageDecl.{ImageDecl}
+use Rattle.pf_values.specs.declared.names.Names.{Names}
+use Rattle.pf_values.specs.declared.term.Term.{Term}
+use Rattle.pf_kernel.specs.Meaning.Kernels.{Meaning, names_of, IsKernelOf}
+use Rattle.pf_kernel.specs.Meaning.Lines.{nothing, AreRead}
+use Rattle.pf_kernel.specs.Meaning.Texts.{all_of, image_text, typed_text, def_text, ended, kernel_text, IsKernel}
 use Rattle.pf_kernel.proofs.WrittenReads.{lines_read}
 use Rattle.pf_kernel.proofs.WrittenLines.{written_lines, written_short}
 

@@ -11,16 +11,16 @@ use Rattle.std.proofs.lemmas.List.Folds.{flat_map-map}
 use Rattle.std.proofs.lemmas.List.Splits.{slice_split_at, length-slice_split}
 use Rattle.std.proofs.lemmas.List.Sums.{AllPass-from_list_all, position_or_len_is, sum_by-cons}
 use Rattle.pf_ints.specs.declared.lane.LaneType.{LaneType}
-use Rattle.pf_ints.specs.Words.{is_name}
-use Rattle.pf_terms.specs.declared.kernel.Definition.{Definition}
-use Rattle.pf_terms.specs.declared.kernel.ImageDecl.{ImageDecl}
-use Rattle.pf_terms.specs.declared.names.Names.{Names}
-use Rattle.pf_terms.specs.declared.term.Term.{Term}
-use Rattle.pf_terms.specs.KernelNames.{IsNames}
-use Rattle.pf_terms.specs.Terms.{node_count}
-use Rattle.pf_kernel.specs.Kernels.{Meaning, IsKernelOf, image_name, def_name, names_of}
-use Rattle.pf_kernel.specs.Lines.{uncommented}
-use Rattle.pf_kernel.specs.Texts.{byte_limit, image_text, typed_text, def_text, ended, kernel_text}
+use Rattle.pf_text.specs.Meaning.Words.{is_name}
+use Rattle.pf_values.specs.declared.kernel.Definition.{Definition}
+use Rattle.pf_values.specs.declared.kernel.ImageDecl.{ImageDecl}
+use Rattle.pf_values.specs.declared.names.Names.{Names}
+use Rattle.pf_values.specs.declared.term.Term.{Term}
+use Rattle.pf_terms.specs.Meaning.KernelNames.{IsNames}
+use Rattle.pf_values.specs.Meaning.Terms.{node_count}
+use Rattle.pf_kernel.specs.Meaning.Kernels.{Meaning, IsKernelOf, image_name, def_name, names_of}
+use Rattle.pf_kernel.specs.Meaning.Lines.{uncommented}
+use Rattle.pf_kernel.specs.Meaning.Texts.{byte_limit, image_text, typed_text, def_text, ended, kernel_text}
 use Rattle.pf_kernel.proofs.KernelLines.{out_text, kernel_lines}
 use Rattle.pf_kernel.proofs.ReadLaws.{within_limit}
 use Rattle.pf_kernel.proofs.WrittenBytes.{is_plain, IsWritten, literal, written_more, written_append, decimal_written, type_written, name_written, term_written, spread, ArePlain, AreWritten, none_written, first_written, all_more, all_append}

@@ -11,31 +11,31 @@ use Rattle.std.proofs.lemmas.List.Concat.{flat_map-cons}
 use Rattle.std.proofs.lemmas.List.Sums.{sum_by-cons}
 use Rattle.std.proofs.lemmas.Slice.Eq.{bytes_eq-Decides}
 use Rattle.pf_ints.specs.declared.lane.LaneType.{LaneType}
-use Rattle.pf_ints.specs.Images.{IsPixelType}
-use Rattle.pf_ints.specs.Words.{is_name}
-use Rattle.pf_terms.specs.declared.draft.Draft.{Draft}
-use Rattle.pf_terms.specs.declared.fault.TermFault.{TermFault}
-use Rattle.pf_terms.specs.declared.kernel.Definition.{Definition}
-use Rattle.pf_terms.specs.declared.kernel.ImageDecl.{ImageDecl}
-use Rattle.pf_terms.specs.declared.limit.LimitKind.{LimitKind}
-use Rattle.pf_terms.specs.declared.limit.LimitKind.TheVariants.{Images, Taps, Definitions, Offset, Depth, Nodes}
+use Rattle.pf_ints.specs.Meaning.Images.{IsPixelType}
+use Rattle.pf_text.specs.Meaning.Words.{is_name}
+use Rattle.pf_terms.specs.declared.parse.syntax_tree.SyntaxTree.{SyntaxTree}
+use Rattle.pf_values.specs.declared.fault.TermFault.{TermFault}
+use Rattle.pf_values.specs.declared.kernel.Definition.{Definition}
+use Rattle.pf_values.specs.declared.kernel.ImageDecl.{ImageDecl}
+use Rattle.pf_values.specs.declared.limit.LimitKind.{LimitKind}
+use Rattle.pf_values.specs.declared.limit.LimitKind.TheVariants.{Images, Taps, Definitions, Offset, Depth, Nodes}
 use Rattle.pf_terms.specs.declared.meaning.ReadFault.{ReadFault}
 use Rattle.pf_terms.specs.declared.meaning.ReadFault.TheVariants.{Name as UnknownName, Types, Limit}
-use Rattle.pf_terms.specs.declared.names.DefName.{DefName}
-use Rattle.pf_terms.specs.declared.names.ImageName.{ImageName}
-use Rattle.pf_terms.specs.declared.names.Names.{Names}
-use Rattle.pf_terms.specs.declared.names.Tap.{Tap}
-use Rattle.pf_terms.specs.declared.term.Term.{Term}
-use Rattle.pf_terms.specs.KernelNames.{IsNames, IsNearTap, all_names}
-use Rattle.pf_terms.specs.Meanings.{first_some, names_after, term_of}
-use Rattle.pf_terms.specs.Terms.{typing, stated_type, node_count, depth_of, IsWellTyped}
-use Rattle.pf_terms.specs.TermTexts.{is_named}
+use Rattle.pf_values.specs.declared.names.DefName.{DefName}
+use Rattle.pf_values.specs.declared.names.ImageName.{ImageName}
+use Rattle.pf_values.specs.declared.names.Names.{Names}
+use Rattle.pf_values.specs.declared.names.Tap.{Tap}
+use Rattle.pf_values.specs.declared.term.Term.{Term}
+use Rattle.pf_terms.specs.Meaning.KernelNames.{IsNames, IsNearTap, all_names}
+use Rattle.pf_terms.specs.Meaning.Meanings.{first_some, names_after, term_of}
+use Rattle.pf_values.specs.Meaning.Terms.{typing, stated_type, node_count, depth_of, IsWellTyped}
+use Rattle.pf_values.specs.Meaning.NamedTerms.{is_named}
 use Rattle.pf_terms.proofs.TapLists.{Each, each_front, each_behind, each_of_all, all_of_each}
-use Rattle.pf_terms.proofs.Typing.{same_self}
+use Rattle.pf_values.proofs.Typing.{same_self}
 use Rattle.pf_kernel.specs.declared.front.Front.TheVariants.{Kernel as KernelFront, Image as ImageFront, Def as DefFront, Out as OutFront}
-use Rattle.pf_kernel.specs.Kernels.{Meaning, image_name, def_name, names_behind, names_of, IsDecl, IsTermOf, AreDefinitions, terms_of, taps_in, AreInTurn, IsKernelOf}
-use Rattle.pf_kernel.specs.Lines.{Begun, nothing, is_empty, Bare, Over, if_so, counted, more_than, is_taken, taken, mistyped, names_with, term_with, nodes_in, judged, expression_faults, IsStep, AreRead}
-use Rattle.pf_kernel.specs.Texts.{all_of, image_text, def_text}
+use Rattle.pf_kernel.specs.Meaning.Kernels.{Meaning, image_name, def_name, names_behind, names_of, IsDeclaredRange, IsTermOf, AreDefinitions, terms_of, taps_in, AreInTurn, IsKernelOf}
+use Rattle.pf_kernel.specs.Meaning.Lines.{Begun, nothing, is_empty, Bare, Over, if_so, capped_count, more_than, is_taken, taken, mistyped, names_with, term_with, nodes_in, kernel_faults, expression_faults, IsStep, AreRead}
+use Rattle.pf_kernel.specs.Meaning.Texts.{all_of, image_text, def_text}
 use Rattle.pf_kernel.proofs.Extending.{more_names}
 use Rattle.pf_kernel.proofs.Fewer.{taps_split, IsSpoken, means_fewer}
 use Rattle.pf_kernel.proofs.KernelLines.{out_text, kernel_lines}
@@ -143,17 +143,17 @@ few most what n h = ap (λ v. if_so v (Limit what (pos n))) (no_more most n h) w
   no_more : (most n : ℕ) → n ≤ most → nat_lt most n ≡ false
   no_more most n h = grind (arith, nat_tests)
 
-counted_few : (n most : ℕ) → n ≤ most → counted n ≤ most
+counted_few : (n most : ℕ) → n ≤ most → capped_count n ≤ most
 counted_few n most h = omega arith
 
 right_type : (ty : LaneType) → mistyped ty (Ok ty) ≡ None
 right_type ty = ap (λ v. if_so (not v) (Types ty ty)) (same_self ty)
 
 all_quiet : (ty : LaneType) (unknown : Option (List ℕ)) (typed : Result LaneType TermFault) (taps defs : ℕ) (far : Option ℤ) (depth nodes : ℕ) → unknown ≡ None → typed ≡ Ok ty → taps ≤ 64 → defs ≤ 64 → far ≡ None → depth ≤ 128 → nodes ≤ 512 →
-    first_some (judged ty unknown typed taps defs far depth nodes) ≡ None
+    first_some (kernel_faults ty unknown typed taps defs far depth nodes) ≡ None
 all_quiet ty unknown typed taps defs far depth nodes known right some_taps some_defs near low small =
-    let behind_depth : List (Option ReadFault) = more_than 512 Nodes (counted nodes) ∷ [] in
-    let behind_offset = more_than 128 Depth (counted depth) ∷ behind_depth in
+    let behind_depth : List (Option ReadFault) = more_than 512 Nodes (capped_count nodes) ∷ [] in
+    let behind_offset = more_than 128 Depth (capped_count depth) ∷ behind_depth in
     let behind_defs = option_map (Limit Offset) far ∷ behind_offset in
     let behind_taps = more_than 64 Definitions defs ∷ behind_defs in
     let behind_type = more_than 64 Taps taps ∷ behind_taps in
@@ -162,14 +162,14 @@ all_quiet ty unknown typed taps defs far depth nodes known right some_taps some_
     (quiet (more_than 64 Taps taps) behind_taps (few 64 Taps taps some_taps)
     (quiet (more_than 64 Definitions defs) behind_defs (few 64 Definitions defs some_defs)
     (quiet (option_map (Limit Offset) far) behind_offset (ap (option_map (Limit Offset)) near)
-    (quiet (more_than 128 Depth (counted depth)) behind_depth (few 128 Depth (counted depth) (counted_few depth 128 low))
-    (quiet (more_than 512 Nodes (counted nodes)) [] (few 512 Nodes (counted nodes) (counted_few nodes 512 small)) refl))))))
+    (quiet (more_than 128 Depth (capped_count depth)) behind_depth (few 128 Depth (capped_count depth) (counted_few depth 128 low))
+    (quiet (more_than 512 Nodes (capped_count nodes)) [] (few 512 Nodes (capped_count nodes) (counted_few nodes 512 small)) refl))))))
 
 spoken_quiet : (before after all : Names) (t : Term) (ty : LaneType) (nodes defs : ℕ) (s : IsSpoken before after all t) → IsWellTyped t → stated_type t ≡ ty → depth_of t ≤ 128 → length after.taps ≤ 64 → defs ≤ 64 → nodes + node_count t ≤ 512 →
-    first_some (expression_faults before nodes ty defs s.draft) ≡ None
+    first_some (expression_faults before nodes ty defs s.tree) ≡ None
 unfolding expression_faults
 spoken_quiet before after all t ty nodes defs s formed typed low some_taps some_defs small =
-    let d : Draft = s.draft in
+    let d : SyntaxTree = s.tree in
     let same : term_of (names_after before d) d ≡ t = ap (λ (a : Names). term_of a d) s.made ∙ s.term in
     let taps : length (names_after before d).taps ≤ 64 = subst (λ (a : Names). length a.taps ≤ 64) (sym s.made) some_taps in
     all_quiet ty _ _ _ defs _ _ _ s.known (ap typing same ∙ formed.typed ∙ ap Ok typed) taps some_defs s.near (subst (λ (u : Term). depth_of u ≤ 128) (sym same) low) (subst (λ (u : Term). nodes + node_count u ≤ 512) (sym same) small)
@@ -240,12 +240,12 @@ module _ (k : Meaning) (h : IsKernelOf k) where
       let count : length k.source.defs ≤ 64 = let most : length (map def_name k.source.defs) ≤ 64 = h.names.few_defs in omega (arith, length-map k.source.defs def_name) in
       let some_taps : length (known ++ new) ≤ 64 = subst (λ (ts : List Tap). length ts ≤ 64) taps h.names.few_taps in
       let nodes : nodes_in b + node_count out ≤ 512 = let most : sum (map node_count (terms_of k.source)) ≤ 512 = h.nodes in let here = nodes_last k.source.defs out in omega arith in
-      let all_taps : (names_with b s.draft).taps ≡ k.source.taps = ap (λ (a : Names). a.taps) s.made ∙ sym taps in
-      let term : term_with b s.draft ≡ out = ap (λ (a : Names). term_of a s.draft) s.made ∙ s.term in
+      let all_taps : (names_with b s.tree).taps ≡ k.source.taps = ap (λ (a : Names). a.taps) s.made ∙ sym taps in
+      let term : term_with b s.tree ≡ out = ap (λ (a : Names). term_of a s.tree) s.made ∙ s.term in
       record {
-        said = Over (OutFront ty) s.draft;
+        said = Over (OutFront ty) s.tree;
         read = record {
-          says = out_says b (names_of k.source) ty out s.draft h.names h.out_ty named h.out.formed (behind_some k.source.images h.some_images) s.spelled;
+          says = out_says b (names_of k.source) ty out s.tree h.names h.out_ty named h.out.formed (behind_some k.source.images h.some_images) s.spelled;
           faultless = spoken_quiet before after (names_of k.source) out ty (nodes_in b) (length k.source.defs) s h.out.formed h.out.typed h.out.depth some_taps count nodes;
         };
         next = λ i. record { name = Some k.name; images = k.source.images; taps = all_taps i; defs = k.source.defs; out = Some (ty, term i) };
@@ -284,14 +284,14 @@ module _ (k : Meaning) (h : IsKernelOf k) where
       let s : IsSpoken before after (names_of k.source) d.term = spoken known new left done (d ∷ later) d.ty d.term taps defs typed turn in
       let name = next_def known done later d defs in
       let some_taps : length (known ++ new) ≤ 64 = (fewer_names (known ++ new) left done (d ∷ later) taps defs).few_taps in
-      let new_taps : (names_with b s.draft).taps ≡ known ++ new = ap (λ (a : Names). a.taps) s.made in
-      let term : term_with b s.draft ≡ d.term = ap (λ (a : Names). term_of a s.draft) s.made ∙ s.term in
+      let new_taps : (names_with b s.tree).taps ≡ known ++ new = ap (λ (a : Names). a.taps) s.made in
+      let term : term_with b s.tree ≡ d.term = ap (λ (a : Names). term_of a s.tree) s.made ∙ s.term in
       record {
-        said = Over (DefFront d.name d.ty) s.draft;
+        said = Over (DefFront d.name d.ty) s.tree;
         read = record {
-          says = def_says b (names_of k.source) d s.draft h.names name.named (all_named done (d ∷ later) d.term defs typed.named) typed.formed (behind_some k.source.images h.some_images) s.spelled;
+          says = def_says b (names_of k.source) d s.tree h.names name.named (all_named done (d ∷ later) d.term defs typed.named) typed.formed (behind_some k.source.images h.some_images) s.spelled;
           faultless =
-              quiet (taken b d.name) (expression_faults before (nodes_in b) d.ty (length done + 1) s.draft) (ap (λ v. if_so v (UnknownName d.name)) name.free)
+              quiet (taken b d.name) (expression_faults before (nodes_in b) d.ty (length done + 1) s.tree) (ap (λ v. if_so v (UnknownName d.name)) name.free)
               (spoken_quiet before after (names_of k.source) d.term d.ty (nodes_in b) (length done + 1) s typed.formed typed.typed typed.depth some_taps (few_defs done later d defs) (few_nodes done later d defs));
         };
         next = λ i. record { name = Some k.name; images = k.source.images; taps = new_taps i; defs = done ++ record { name = d.name; ty = d.ty; term = term i } ∷ []; out = None };
@@ -326,7 +326,7 @@ module _ (k : Meaning) (h : IsKernelOf k) where
       let name = next_image done later d images in
       let names : map image_name k.source.images ≡ map image_name done ++ image_name d ∷ map image_name later = ap (map image_name) images ∙ map-append image_name done (d ∷ later) in
       let pixel : IsPixelType d.ty = all_at (λ (i : ImageName). IsPixelType i.ty) (map image_name done) (map image_name later) (image_name d) (subst (All (λ (i : ImageName). IsPixelType i.ty)) names h.names.pixels) in
-      let range : IsDecl d = all_at IsDecl done later d (subst (All IsDecl) images h.images) in
+      let range : IsDeclaredRange d = all_at IsDeclaredRange done later d (subst (All IsDeclaredRange) images h.images) in
       let count : length done + 1 ≤ 8 = let most : length (map image_name k.source.images) ≤ 8 = h.names.few_images in omega (arith, length-map k.source.images image_name, ap length images, length-append done (d ∷ later)) in
       let few_images : first_some (more_than 8 Images (length done + 1) ∷ []) ≡ None = quiet (more_than 8 Images (length done + 1)) [] (few 8 Images (length done + 1) count) refl in
       record {

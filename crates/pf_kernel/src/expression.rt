@@ -1,21 +1,21 @@
 ghost use Rattle.std.specs.Prelude.{◌≡◌, ◌+◌, ◌≤◌, ◌-◌, ◌^◌, ◌<◌, ◌∷◌, [], min, true, false, not, length, IfOk, IfErr, OnOk, Ok, Err, Some, None, slice_index_or};
-ghost use Rattle.pf_terms.specs.declared.limit.LimitKind.TheVariants.{Definitions, Depth, Nodes};
-ghost use Rattle.pf_terms.specs.declared.draft.Draft.{Draft};
+ghost use Rattle.pf_values.specs.declared.limit.LimitKind.TheVariants.{Definitions, Depth, Nodes};
+ghost use Rattle.pf_terms.specs.declared.parse.syntax_tree.SyntaxTree.{SyntaxTree};
 ghost use Rattle.pf_terms.specs.declared.meaning.ReadFault.TheVariants.{Limit, Memory};
-ghost use Rattle.pf_terms.specs.declared.term.Term.{Term};
-ghost use Rattle.pf_terms.specs.Drafts.{IsDraftText};
-ghost use Rattle.pf_terms.specs.KernelNames.{IsNames};
-ghost use Rattle.pf_terms.specs.Meanings.{IsReadFault, def_number, image_number, IsTermOr, IsTermText, first_some, names_after, term_of};
-ghost use Rattle.pf_terms.specs.Terms.{stated_type, same_type, node_count, depth_of, result_type, typed_as, doubled};
-ghost use Rattle.pf_terms.specs.TermTexts.{no_image, no_def};
-ghost use Rattle.pf_kernel.specs.Expressions.{Judges, JudgesTerm, Tells, IsRefused, draft_type, term_fault, limit_fault, defs_before};
-ghost use Rattle.pf_kernel.specs.Kernels.{IsTermOf};
-ghost use Rattle.pf_kernel.specs.Lines.{expression_faults, mistyped, more_than, counted};
+ghost use Rattle.pf_values.specs.declared.term.Term.{Term};
+ghost use Rattle.pf_terms.specs.Meaning.SyntaxTrees.{IsTreeText};
+ghost use Rattle.pf_terms.specs.Meaning.KernelNames.{IsNames};
+ghost use Rattle.pf_terms.specs.Meaning.Meanings.{IsReadFault, def_number, image_number, IsTermOr, IsTermText, first_some, names_after, term_of};
+ghost use Rattle.pf_values.specs.Meaning.Terms.{stated_type, same_type, node_count, depth_of, result_type, typed_as, doubled};
+ghost use Rattle.pf_values.specs.Meaning.NamedTerms.{no_image, no_def};
+ghost use Rattle.pf_kernel.specs.Steps.Expressions.{Judges, JudgesTerm, Tells, IsRefused, tree_type, term_fault, limit_fault, defs_before};
+ghost use Rattle.pf_kernel.specs.Meaning.Kernels.{IsTermOf};
+ghost use Rattle.pf_kernel.specs.Meaning.Lines.{expression_faults, mistyped, more_than, capped_count};
 
 use pf_ints::{Bits, LaneType, Name};
 use pf_terms::{
-    DefName, Draft, Gives, ImageName, LimitKind, Names, ReadFault, Term, depth, nodes, read_draft,
-    read_term,
+    DefName, Gives, ImageName, LimitKind, Names, ReadFault, SyntaxTree, Term, depth, nodes,
+    read_draft, read_term,
 };
 use std::alloc::Global;
 
@@ -55,7 +55,7 @@ pub fn read_expression(
     requires few { by.defs ≤ 65 }
     requires small { by.nodes ≤ 512 }
     ensures found { Judges names.old by.nodes by.ty by.defs text.now result names.new }
-    ensures only { (d : Draft) → IsDraftText text.now d → first_some (expression_faults names.old by.nodes by.ty by.defs d) ≡ None → IsTermOr (term_of (names_after names.old d) d) (names_after names.old d) result names.new }
+    ensures only { (d : SyntaxTree) → IsTreeText text.now d → first_some (expression_faults names.old by.nodes by.ty by.defs d) ≡ None → IsTermOr (term_of (names_after names.old d) d) (names_after names.old d) result names.new }
     ensures kept { OnOk result (IsNames names.new) }
     ensures typed { IfOk result (λ t. IsTermOf names.new by.ty t) }
     ensures room { OnOk result (by.defs ≤ 64) }
@@ -78,7 +78,7 @@ fn judge(term: Term, by: Measure) -> Result<Term, ReadFault>
     }
 }
 
-#[tactic(auto, unfolding(crate::specs::Expressions::term_fault))]
+#[tactic(auto, unfolding(crate::specs::Steps::Expressions::term_fault))]
 fn term_fault(term: &Term, by: Measure) -> Option<ReadFault>
     requires few { by.defs ≤ 65 }
     requires small { by.nodes ≤ 512 }
@@ -114,7 +114,7 @@ fn too_many_defs(defs: usize) -> Option<ReadFault>
 }
 
 fn too_deep(term: &Term) -> Option<ReadFault>
-    ensures { result ≡ more_than 128 Depth (counted (depth_of term.now)) }
+    ensures { result ≡ more_than 128 Depth (capped_count (depth_of term.now)) }
 {
     let count = depth(term).min(MOST_COUNT);
     if MOST_DEPTH < count {
@@ -129,7 +129,7 @@ fn too_deep(term: &Term) -> Option<ReadFault>
 
 fn too_many_nodes(term: &Term, before: u64) -> Option<ReadFault>
     requires { before ≤ 512 }
-    ensures { result ≡ more_than 512 Nodes (counted (before + node_count term.now)) }
+    ensures { result ≡ more_than 512 Nodes (capped_count (before + node_count term.now)) }
 {
     let count = before.saturating_add(nodes(term)).min(MOST_COUNT);
     if MOST_NODES < count {
@@ -168,13 +168,13 @@ fn limit_told(
     requires fault { IsRefused names.now text.now (Limit what count) }
     ensures { Tells names.now by.nodes by.ty by.defs text.now result }
 {
-    let Ok(draft) = read_draft(alloc, text) else {
+    let Ok(tree) = read_draft(alloc, text) else {
         return ReadFault::Memory;
     };
-    limit_fault(by.ty, draft_type(names, &draft), by.defs, what, count)
+    limit_fault(by.ty, tree_type(names, &tree), by.defs, what, count)
 }
 
-#[tactic(auto, unfolding(crate::specs::Expressions::limit_fault))]
+#[tactic(auto, unfolding(crate::specs::Steps::Expressions::limit_fault))]
 fn limit_fault(ty: LaneType, got: LaneType, defs: usize, what: LimitKind, count: i64) -> ReadFault
     requires { defs ≤ 65 }
     ensures { limit_fault ty got defs what count ≡ Some result }
@@ -196,14 +196,14 @@ fn defs_before(what: LimitKind, defs: usize) -> Option<ReadFault>
 
 // The type that an expression has by its outermost operator. It goes down one operand alone, and
 // needs little of the stack at each, since a chain of operators without brackets is deep.
-fn draft_type(names: &Names, draft: &Draft) -> LaneType
-    ensures { result ≡ draft_type names.now draft.now }
+fn tree_type(names: &Names, tree: &SyntaxTree) -> LaneType
+    ensures { result ≡ tree_type names.now tree.now }
 {
-    match draft {
-        Draft::Number(_, ty) => *ty,
-        Draft::Named(name) => def_type(names.defs.as_slice(), name),
-        Draft::Placed(name, ..) => image_type(names.images.as_slice(), name),
-        Draft::Node {
+    match tree {
+        SyntaxTree::Number(_, ty) => *ty,
+        SyntaxTree::Name(name) => def_type(names.defs.as_slice(), name),
+        SyntaxTree::Tap(name, ..) => image_type(names.images.as_slice(), name),
+        SyntaxTree::Node {
             op,
             less,
             ty,
@@ -212,10 +212,10 @@ fn draft_type(names: &Names, draft: &Draft) -> LaneType
         } => {
             let stated = ty.unwrap_or(NO_TYPE);
             match (op.gives(), *less, args.as_slice()) {
-                (Gives::Third, _, [_, _, x, ..]) => draft_type(names, x),
+                (Gives::Third, _, [_, _, x, ..]) => tree_type(names, x),
                 (Gives::Third, _, _) => stated,
-                (gives, true, [_, x, ..]) => given(gives, stated, draft_type(names, x)),
-                (gives, _, [x, ..]) => given(gives, stated, draft_type(names, x)),
+                (gives, true, [_, x, ..]) => given(gives, stated, tree_type(names, x)),
+                (gives, _, [x, ..]) => given(gives, stated, tree_type(names, x)),
                 _ => stated,
             }
         }

@@ -1,11 +1,11 @@
 ghost use Rattle.std.specs.Prelude.{◌≡◌, ◌∷◌, ◌≤ℤ◌, pos, if◌then◌else◌, true};
-ghost use Rattle.pf_terms.specs.Parsing.{kinds};
-ghost use Rattle.pf_ints.specs.Lanes.{is_in};
-ghost use Rattle.pf_ints.specs.Images.{is_pixel};
-ghost use Rattle.pf_kernel.specs.Fronts.{is_range, kernel_front, image_front, typed_image, range_front, high_front, range_end, def_front, typed_def, def_end, out_front, out_end, front_by};
+ghost use Rattle.pf_terms.specs.Meaning.Tokens.{kinds};
+ghost use Rattle.pf_ints.specs.Meaning.Lanes.{is_in};
+ghost use Rattle.pf_ints.specs.Meaning.Images.{is_pixel};
+ghost use Rattle.pf_kernel.specs.Steps.Fronts.{is_range, kernel_front, image_front, typed_image, range_front, high_front, range_end, def_front, typed_def, def_end, out_front, out_end, front_by};
 
 use pf_ints::{LaneType, Name};
-use pf_terms::{ImageDecl, Kind, LineWord, Token};
+use pf_terms::{ImageDecl, LineWord, Token, TokenKind};
 
 /// What a line says in front of its expression, or at all where it has none.
 #[derive(Clone, Copy, Debug)]
@@ -34,7 +34,7 @@ fn kernel_front(tokens: &[Token]) -> Result<Front, usize>
 {
     match tokens {
         [token, rest @ ..] => match token.kind {
-            Kind::Name(name) => match rest {
+            TokenKind::Name(name) => match rest {
                 [] => Ok(Front::Kernel(name)),
                 _ => Err(2),
             },
@@ -49,7 +49,7 @@ fn image_front(tokens: &[Token]) -> Result<Front, usize>
 {
     match tokens {
         [token, rest @ ..] => match token.kind {
-            Kind::Name(name) => typed_image(name, rest),
+            TokenKind::Name(name) => typed_image(name, rest),
             _ => Err(1),
         },
         [] => Err(1),
@@ -61,7 +61,7 @@ fn typed_image(name: Name, tokens: &[Token]) -> Result<Front, usize>
 {
     match tokens {
         [token, rest @ ..] => match token.kind {
-            Kind::TypeWord(ty) if ty.is_pixel() => range_front(name, ty, rest),
+            TokenKind::TypeWord(ty) if ty.is_pixel() => range_front(name, ty, rest),
             _ => Err(2),
         },
         [] => Err(2),
@@ -74,7 +74,7 @@ fn range_front(name: Name, ty: LaneType, tokens: &[Token]) -> Result<Front, usiz
 {
     match tokens {
         [token, rest @ ..] => match token.kind {
-            Kind::Number(lo) if is_in(ty, lo) => high_front(name, ty, lo, rest),
+            TokenKind::Number(lo) if is_in(ty, lo) => high_front(name, ty, lo, rest),
             _ => Err(3),
         },
         [] => Ok(Front::Image(ImageDecl {
@@ -93,7 +93,7 @@ fn high_front(name: Name, ty: LaneType, lo: i64, tokens: &[Token]) -> Result<Fro
 {
     match tokens {
         [token, rest @ ..] => match token.kind {
-            Kind::Number(hi) if lo <= hi && is_in(ty, hi) => range_end(name, ty, lo, hi, rest),
+            TokenKind::Number(hi) if lo <= hi && is_in(ty, hi) => range_end(name, ty, lo, hi, rest),
             _ => Err(4),
         },
         [] => Err(4),
@@ -122,7 +122,7 @@ fn def_front(tokens: &[Token]) -> Result<Front, usize>
 {
     match tokens {
         [token, rest @ ..] => match token.kind {
-            Kind::Name(name) => typed_def(name, rest),
+            TokenKind::Name(name) => typed_def(name, rest),
             _ => Err(1),
         },
         [] => Err(1),
@@ -134,7 +134,7 @@ fn typed_def(name: Name, tokens: &[Token]) -> Result<Front, usize>
 {
     match tokens {
         [token, rest @ ..] => match token.kind {
-            Kind::TypeWord(ty) => def_end(name, ty, rest),
+            TokenKind::TypeWord(ty) => def_end(name, ty, rest),
             _ => Err(2),
         },
         [] => Err(2),
@@ -146,7 +146,7 @@ fn def_end(name: Name, ty: LaneType, tokens: &[Token]) -> Result<Front, usize>
 {
     match tokens {
         [token, ..] => match token.kind {
-            Kind::Equals => Ok(Front::Def(name, ty)),
+            TokenKind::Equals => Ok(Front::Def(name, ty)),
             _ => Err(3),
         },
         [] => Err(3),
@@ -158,7 +158,7 @@ fn out_front(tokens: &[Token]) -> Result<Front, usize>
 {
     match tokens {
         [token, rest @ ..] => match token.kind {
-            Kind::TypeWord(ty) if ty.is_pixel() => out_end(ty, rest),
+            TokenKind::TypeWord(ty) if ty.is_pixel() => out_end(ty, rest),
             _ => Err(1),
         },
         [] => Err(1),
@@ -170,7 +170,7 @@ fn out_end(ty: LaneType, tokens: &[Token]) -> Result<Front, usize>
 {
     match tokens {
         [token, ..] => match token.kind {
-            Kind::Equals => Ok(Front::Out(ty)),
+            TokenKind::Equals => Ok(Front::Out(ty)),
             _ => Err(2),
         },
         [] => Err(2),

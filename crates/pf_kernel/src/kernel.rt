@@ -1,5 +1,5 @@
 ghost use Rattle.std.specs.Prelude.{◌≡◌};
-ghost use Rattle.pf_kernel.specs.Kernels.{IsKernelOf, IsNamedKernel, meaning, names_of};
+ghost use Rattle.pf_kernel.specs.Meaning.Kernels.{IsKernelOf, IsNamedKernel, meaning, names_of};
 
 use pf_ints::{LaneType, Name};
 use pf_terms::{Definitions, ImageList, Names, Term};
@@ -17,8 +17,8 @@ pub struct Kernel {
 }
 
 impl Model for Kernel {
-    ghost use Rattle.pf_terms.specs.contracts.term.Term as term;
-    ghost use Rattle.pf_kernel.specs.Kernels.{Meaning, meaning, IsNamedKernel};
+    ghost use Rattle.pf_values.specs.contracts.term.Term as term;
+    ghost use Rattle.pf_kernel.specs.Meaning.Kernels.{Meaning, meaning, IsNamedKernel};
     ghost use Rattle.std.specs.Coded.{codes};
 
     ghost Value = { Meaning };

@@ -1,25 +1,24 @@
 ghost use Rattle.std.specs.List.{position};
-ghost use Rattle.pf_terms.specs.Terms.{node_count};
+ghost use Rattle.pf_values.specs.Meaning.Terms.{node_count};
 ghost use Rattle.std.specs.Prelude.{◌-◌, min, sum, map, ◌≡◌, ◌<◌, ◌^◌, ◌==◌, IfSome, ◌+◌, ◌≤◌, [], drop, length, true, IfOk, Some, None};
-ghost use Rattle.pf_text.specs.Answers.{Answers};
-ghost use Rattle.pf_ints.specs.Images.{IsPixelType};
-ghost use Rattle.pf_ints.specs.Words.{is_name};
+ghost use Rattle.pf_text.specs.Meaning.Answers.{Answers};
+ghost use Rattle.pf_ints.specs.Meaning.Images.{IsPixelType};
+ghost use Rattle.pf_text.specs.Meaning.Words.{is_name};
 ghost use Rattle.pf_terms.specs.declared.meaning.ReadFault.TheVariants.{Memory};
 ghost use Rattle.pf_terms.specs.declared.token.LineWord.TheVariants.{Kernel, Image, Def, Out};
-ghost use Rattle.pf_terms.specs.Parsing.{kinds, place_of};
-ghost use Rattle.pf_terms.specs.Tokens.{IsLexed};
+ghost use Rattle.pf_terms.specs.Meaning.Tokens.{kinds, token_place, IsLexed};
 ghost use Rattle.pf_kernel.specs.declared.front.Front.TheVariants.{Image as ImageFront, Def as DefFront, Out as OutFront};
-ghost use Rattle.pf_kernel.specs.Fronts.{front_of};
-ghost use Rattle.pf_kernel.specs.Kernels.{IsDecl};
-ghost use Rattle.pf_kernel.specs.Lines.{Bare, IsShape, IsStep, IsLineFault, may_stand, told_at, end_of, uncommented};
-ghost use Rattle.pf_kernel.specs.Readings.{begun_of, IsReading, AnswersSaid, AnswersText, AnswersTokens, IsNearColumn, MayAdd, moved, unless_taken};
+ghost use Rattle.pf_kernel.specs.Steps.Fronts.{front_of};
+ghost use Rattle.pf_kernel.specs.Meaning.Kernels.{IsDeclaredRange};
+ghost use Rattle.pf_kernel.specs.Meaning.Lines.{Bare, IsShape, IsStep, IsLineFault, may_stand, told_at, end_of, uncommented};
+ghost use Rattle.pf_kernel.specs.Steps.Readings.{begun_of, IsReading, AnswersSaid, AnswersText, AnswersTokens, IsNearColumn, MayAdd, moved, unless_taken};
 
 use crate::expression::{Measure, read_expression};
 use crate::front::{Front, front_by};
 use crate::reading::Reading;
 use pf_ints::{LaneType, Name};
 use pf_terms::{
-    Definition, ImageDecl, Kind, LimitKind, LineWord, ReadFault, Term, Token, nodes, tokens,
+    Definition, ImageDecl, LimitKind, LineWord, ReadFault, Term, Token, TokenKind, nodes, tokens,
 };
 use std::alloc::Global;
 
@@ -93,9 +92,9 @@ fn read_front(
 fn column_of(text: &[u8], tokens: &[Token], n: usize) -> u64
     requires lexed { IsLexed 0 text.now tokens.now }
     requires short { length text.now < 2 ^ 32 }
-    ensures { result ≡ place_of tokens.now (told_at (kinds tokens.now) n) + 1 }
+    ensures { result ≡ token_place tokens.now (told_at (kinds tokens.now) n) + 1 }
 {
-    place_of(tokens, told_at(tokens, n)) as u64 + 1
+    token_place(tokens, told_at(tokens, n)) as u64 + 1
 }
 
 #[tactic(auto, using(crate::proofs::Comments::up_to, crate::proofs::Comments::all_of_it))]
@@ -120,7 +119,7 @@ fn front_of(reading: &Reading, tokens: &[Token]) -> Result<Front, usize>
 {
     match tokens {
         [token, rest @ ..] => match token.kind {
-            Kind::Line(word) if reading.may_stand(word) => front_by(word, rest),
+            TokenKind::Line(word) if reading.may_stand(word) => front_by(word, rest),
             _ => Err(0),
         },
         [] => Err(0),
@@ -134,14 +133,14 @@ fn told_at(tokens: &[Token], n: usize) -> usize
     match tokens {
         [
             Token {
-                kind: Kind::Line(LineWord::Image),
+                kind: TokenKind::Line(LineWord::Image),
                 ..
             },
             _,
             _,
             _,
             Token {
-                kind: Kind::Number(_),
+                kind: TokenKind::Number(_),
                 ..
             },
             ..
@@ -150,8 +149,8 @@ fn told_at(tokens: &[Token], n: usize) -> usize
     }
 }
 
-fn place_of(tokens: &[Token], n: usize) -> usize
-    ensures { result ≡ place_of tokens.now n }
+fn token_place(tokens: &[Token], n: usize) -> usize
+    ensures { result ≡ token_place tokens.now n }
 {
     match tokens.get(n) {
         Some(token) => token.start,
@@ -192,7 +191,7 @@ fn read_image(reading: Reading, image: ImageDecl) -> Result<Reading, ReadFault>
     requires may { may_stand (begun_of reading) Image ≡ true }
     requires named { is_name image.name ≡ true }
     requires pixels { IsPixelType image.ty }
-    requires range { IsDecl image }
+    requires range { IsDeclaredRange image }
     ensures answers { AnswersSaid (begun_of reading) (Bare (ImageFront image)) result }
     ensures kept { IfOk result IsReading }
 {

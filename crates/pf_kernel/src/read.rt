@@ -1,19 +1,19 @@
 ghost use Rattle.std.specs.Prelude.{◌≡◌, ◌+◌, ◌<◌, ◌≤◌, ◌^◌, length, IfOk, pos, Some};
 ghost use Rattle.std.specs.Str.Lines.{lines};
-ghost use Rattle.pf_text.specs.Answers.{Answers, Decides};
-ghost use Rattle.pf_terms.specs.declared.limit.LimitKind.TheVariants.{Bytes};
+ghost use Rattle.pf_text.specs.Meaning.Answers.{Answers, Decides};
+ghost use Rattle.pf_values.specs.declared.limit.LimitKind.TheVariants.{Bytes};
 ghost use Rattle.pf_kernel.specs.declared.fault.KernelFault.TheVariants.{Limit, Memory};
-ghost use Rattle.pf_kernel.specs.Lines.{IsStep};
-ghost use Rattle.pf_kernel.specs.Readings.{begun_of, IsReading};
-ghost use Rattle.pf_kernel.specs.Reads.{IsFaultAt, IsWhole, Finishes};
-ghost use Rattle.pf_kernel.specs.Texts.{IsKernel, IsKernelFault, at_line, byte_limit};
+ghost use Rattle.pf_kernel.specs.Meaning.Lines.{IsStep};
+ghost use Rattle.pf_kernel.specs.Steps.Readings.{begun_of, IsReading};
+ghost use Rattle.pf_kernel.specs.Steps.Reads.{IsKernelFaultAt, IsWholeText, FinishesKernel};
+ghost use Rattle.pf_kernel.specs.Meaning.Texts.{IsKernel, IsKernelFault, at_line, byte_limit};
 
 use crate::fault::KernelFault;
 use crate::kernel::Kernel;
 use crate::line::read_line;
 use crate::reading::Reading;
-use pf_ints::next_line;
 use pf_terms::{LimitKind, ReadFault};
+use pf_text::next_line;
 use std::alloc::Global;
 
 const MOST_BYTES: usize = 65_536;
@@ -25,7 +25,7 @@ const MOST_BYTES: usize = 65_536;
 /// that are at most 128 deep.
 ///
 /// The first fault is told, in the order of `KernelFault`.
-#[tactic(auto, unfolding(crate::specs::Texts::byte_limit))]
+#[tactic(auto, unfolding(crate::specs::Meaning::Texts::byte_limit))]
 pub fn read_kernel(alloc: Global, text: &[u8]) -> Result<Kernel, KernelFault>
     // The kernel of the text is read, or its first fault is told, unless memory runs out.
     ensures { Decides Memory (IsKernel text.now) (IsKernelFault text.now) result }
@@ -52,7 +52,7 @@ fn too_long(count: usize) -> KernelFault
 // What all lines say, and how many they are.
 fn read_lines(alloc: Global, text: &[u8]) -> Result<(Reading, u32), KernelFault>
     requires { length text.now ≤ byte_limit }
-    ensures answers { Answers Memory (λ p. IsWhole text.now p.0 p.1) (IsKernelFault text.now) result }
+    ensures answers { Answers Memory (λ p. IsWholeText text.now p.0 p.1) (IsKernelFault text.now) result }
     ensures few { IfOk result (λ p. p.1 ≤ length text.now) }
 {
     let mut reading = Reading::new(alloc);
@@ -74,7 +74,7 @@ fn read_lines(alloc: Global, text: &[u8]) -> Result<(Reading, u32), KernelFault>
 fn read_next(alloc: Global, reading: Reading, line: &[u8], n: u32) -> Result<Reading, KernelFault>
     requires good { IsReading reading }
     requires short { length line.now < 2 ^ 32 }
-    ensures answers { Answers Memory (λ r. IsStep (begun_of reading) line.now (begun_of r)) (IsFaultAt (begun_of reading) line.now n) result }
+    ensures answers { Answers Memory (λ r. IsStep (begun_of reading) line.now (begun_of r)) (IsKernelFaultAt (begun_of reading) line.now n) result }
     ensures kept { IfOk result IsReading }
 {
     match read_line(alloc, reading, line) {
@@ -102,7 +102,7 @@ fn at_line(line: u32, fault: ReadFault) -> KernelFault
 fn finish(reading: Reading, count: u32) -> Result<Kernel, KernelFault>
     requires good { IsReading reading }
     requires few { count < 2 ^ 31 }
-    ensures { Finishes (begun_of reading) count result }
+    ensures { FinishesKernel (begun_of reading) count result }
 {
     let Reading {
         name,

@@ -1,12 +1,12 @@
 ghost use Rattle.std.specs.Prelude.{◌≡◌, ◌<◌, ◌++◌, ◌∷◌, [], true, false, length, OnOk};
-ghost use Rattle.pf_ints.specs.Images.{IsPixelType};
-ghost use Rattle.pf_ints.specs.Words.{is_name};
+ghost use Rattle.pf_ints.specs.Meaning.Images.{IsPixelType};
+ghost use Rattle.pf_text.specs.Meaning.Words.{is_name};
 ghost use Rattle.pf_terms.specs.declared.token.LineWord.TheVariants.{Kernel, Image};
-ghost use Rattle.pf_terms.specs.Meanings.{is_image, is_def};
+ghost use Rattle.pf_terms.specs.Meaning.Meanings.{is_image, is_def};
 ghost use Rattle.pf_kernel.specs.declared.front.Front.TheVariants.{Kernel as KernelFront, Image as ImageFront};
-ghost use Rattle.pf_kernel.specs.Kernels.{IsDecl};
-ghost use Rattle.pf_kernel.specs.Lines.{nothing, may_stand, is_taken, names_in, with_said, Bare};
-ghost use Rattle.pf_kernel.specs.Readings.{begun_of, IsReading};
+ghost use Rattle.pf_kernel.specs.Meaning.Kernels.{IsDeclaredRange};
+ghost use Rattle.pf_kernel.specs.Meaning.Lines.{nothing, may_stand, is_taken, names_in, with_said, Bare};
+ghost use Rattle.pf_kernel.specs.Steps.Readings.{begun_of, IsReading};
 
 use pf_ints::{LaneType, Name, Sequence};
 use pf_terms::{
@@ -83,7 +83,7 @@ impl Reading {
         requires may { may_stand (begun_of self.old) Image ≡ true }
         requires named { is_name image.name ≡ true }
         requires pixels { IsPixelType image.ty }
-        requires range { IsDecl image }
+        requires range { IsDeclaredRange image }
         requires free { is_taken (names_in (begun_of self.old)) image.name ≡ false }
         requires few { length self.old.images < 8 }
         ensures value { OnOk result (begun_of self.new ≡ with_said (begun_of self.old) (Bare (ImageFront image))) }

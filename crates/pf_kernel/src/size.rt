@@ -1,6 +1,6 @@
 ghost use Rattle.std.specs.Prelude.{◌≡◌, ◌≤◌, ◌≤ℤ◌, pos, MatchOption};
-ghost use Rattle.pf_terms.specs.declared.reach.Axis.TheVariants.{Columns, Rows};
-ghost use Rattle.pf_terms.specs.Reach.{extent};
+ghost use Rattle.pf_values.specs.declared.reach.Axis.TheVariants.{Columns, Rows};
+ghost use Rattle.pf_values.specs.Meaning.Reach.{extent};
 
 use crate::kernel::Kernel;
 use pf_terms::{Axis, Tap, extent};

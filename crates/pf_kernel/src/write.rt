@@ -1,14 +1,16 @@
 ghost use Rattle.std.specs.Prelude.{◌≡◌, ◌++◌, ◌∷◌, [], IfOk, OnOk, map, drop, All, true, codes, decimal};
 ghost use Rattle.std.specs.List.{flat_map};
-ghost use Rattle.pf_terms.specs.declared.names.Names.{Names};
-ghost use Rattle.pf_terms.specs.Terms.{is_well_formed};
-ghost use Rattle.pf_terms.specs.TermTexts.{type_word, term_text, is_named};
-ghost use Rattle.pf_kernel.specs.Texts.{IsKernel, kernel_text, image_text, def_text, typed_text, ended};
-ghost use Rattle.pf_kernel.specs.Printable.{IsPrintable};
+ghost use Rattle.pf_values.specs.declared.names.Names.{Names};
+ghost use Rattle.pf_values.specs.Meaning.Terms.{is_well_formed};
+ghost use Rattle.pf_terms.specs.Meaning.TermTexts.{type_word, term_text};
+ghost use Rattle.pf_values.specs.Meaning.NamedTerms.{is_named};
+ghost use Rattle.pf_kernel.specs.Meaning.Texts.{IsKernel, kernel_text, image_text, def_text, typed_text, ended};
+ghost use Rattle.pf_kernel.specs.Steps.Printable.{IsPrintable};
 
 use crate::kernel::Kernel;
-use pf_ints::{LaneType, push_number};
+use pf_ints::LaneType;
 use pf_terms::{Definition, ImageDecl, Names, Term, write_term, write_type};
+use pf_text::push_number;
 use std::alloc::{AllocError, Global};
 
 /// The text of a kernel: each image with its range, each operation between operands in round

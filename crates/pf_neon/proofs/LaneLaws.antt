@@ -1,11 +1,11 @@
 -- Vectors, lane by lane: how one is written, and how many bytes there are.
 use Rattle.std.proofs.Common.{◌≡◌, ℕ, zero, suc, ◌+◌, ◌-◌, ◌*◌, ◌<◌, ◌≤◌, List, [], ◌∷◌, ◌++◌, take, drop, length, set, refl, arith, ap, append_assoc, length-append, length-take, rules}
 use Rattle.std.proofs.lemmas.List.{drop-drop, take_at, take_all}
-use Rattle.pf_isa.specs.Bytes.{number, bytes, lanes, packed, map2}
+use Rattle.pf_machine.specs.Meaning.Bytes.{number, bytes, lanes, packed, map2}
 use Rattle.pf_neon.specs.declared.op.Lanes.{Lanes}
 use Rattle.pf_neon.specs.declared.op.Lanes.TheVariants.{Bytes, Halves, Words}
-use Rattle.pf_neon.specs.Forms.{width, count}
-use Rattle.pf_neon.specs.LaneLengths.{length-bytes}
+use Rattle.pf_neon.specs.Meaning.Instructions.{width, count}
+use Rattle.pf_neon.specs.Steps.LaneLengths.{length-bytes}
 
 set_four : (xs : List ℕ) (n a b c d : ℕ) → suc (suc (suc (suc n))) ≤ length xs → set (set (set (set xs n a) (suc n) b) (suc (suc n)) c) (suc (suc (suc n))) d ≡ take n xs ++ (a ∷ b ∷ c ∷ d ∷ drop (suc (suc (suc (suc n)))) xs)
 set_four (x ∷ y ∷ z ∷ w ∷ xs) zero a b c d h = refl

@@ -1,8 +1,2 @@
-pub mod Forms
-pub mod Lines
-pub mod Reads
-pub mod Neon
-pub mod LaneLengths
-pub mod FormLaws
-pub mod ControlLaws
-pub mod TableLaws
+pub mod Meaning
+pub mod Steps

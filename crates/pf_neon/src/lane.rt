@@ -1,6 +1,6 @@
 ghost use Rattle.std.specs.Prelude.{◌≡◌, ◌+◌, ◌*◌, ◌≤◌, ◌++◌, take, drop};
-ghost use Rattle.pf_isa.specs.Bytes.{number, bytes};
-ghost use Rattle.pf_neon.specs.Forms.{width, count, lane_function, lanewise};
+ghost use Rattle.pf_machine.specs.Meaning.Bytes.{number, bytes};
+ghost use Rattle.pf_neon.specs.Meaning.Instructions.{width, count, lane_function, lanewise};
 
 use crate::op::{Lanes, Mnemonic};
 

@@ -8,4 +8,4 @@ mod op;
 mod reads;
 
 pub use neon::Neon;
-pub use op::{Form, Lanes, Mnemonic, Op};
+pub use op::{Instruction, Lanes, Mnemonic, Op};

@@ -1,8 +1,9 @@
 ghost use Rattle.std.specs.Prelude.{◌≡◌, ◌+◌, ◌*◌, ◌≤◌, ◌++◌, length};
-ghost use Rattle.pf_neon.specs.Lines.{word, suffix, vector_text, general_text, value_text, at_text, place_text, comma, text, offset_text, sum_word, control_text};
+ghost use Rattle.pf_neon.specs.Meaning.Lines.{word, suffix, vector_text, general_text, value_text, at_text, place_text, comma, text, offset_text, sum_word, control_text};
 
-use crate::op::{Form, Lanes, Mnemonic};
-use pf_isa::{Control, ShortLine};
+use crate::op::{Instruction, Lanes, Mnemonic};
+use pf_machine::Control;
+use pf_text::ShortLine;
 
 fn word(name: Mnemonic) -> &'static [u8]
     ensures value { result.now ≡ word name }
@@ -76,24 +77,24 @@ fn place(line: ShortLine, base: u8, offset: u32) -> ShortLine
 }
 
 /// The line of a vector instruction.
-pub fn form_line(form: Form) -> ShortLine
-    ensures { result ≡ text form }
+pub fn instruction_line(instruction: Instruction) -> ShortLine
+    ensures { result ≡ text instruction }
 {
     let line = ShortLine::new();
-    match form {
-        Form::Load { to, base, j } => {
+    match instruction {
+        Instruction::Load { to, base, j } => {
             let line = comma(line.word(b"ldr q").number(to));
             place(line, base, 16 * u32::from(j))
         }
-        Form::Store { from, base, j } => {
+        Instruction::Store { from, base, j } => {
             let line = comma(line.word(b"str q").number(from));
             place(line, base, 16 * u32::from(j))
         }
-        Form::Copy { to, from } => {
+        Instruction::Copy { to, from } => {
             let line = comma(vector(line.word(b"mov "), Lanes::Bytes, to));
             vector(line, Lanes::Bytes, from)
         }
-        Form::Lanewise {
+        Instruction::Lanewise {
             name,
             lanes,
             to,

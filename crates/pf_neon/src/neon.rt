@@ -1,16 +1,16 @@
 ghost use Rattle.std.specs.Prelude.{◌≡◌, ◌<◌, refl, length, slice_index_or, slice_set, [], All};
 ghost use Rattle.pf_ints.specs.declared.target.Target.TheVariants.{Neon as NeonTarget};
-ghost use Rattle.pf_isa.specs.Files.{renamed_vector};
-ghost use Rattle.pf_neon.specs.Forms.{IsForm, renamed};
-ghost use Rattle.pf_neon.specs.Neon.{table};
-ghost use Rattle.pf_neon.specs.TableLaws.{is_table};
+ghost use Rattle.pf_machine.specs.Meaning.RegisterFiles.{renamed_vector};
+ghost use Rattle.pf_neon.specs.Meaning.Instructions.{IsNeonInstruction, renamed};
+ghost use Rattle.pf_neon.specs.Meaning.Neon.{table};
+ghost use Rattle.pf_neon.specs.Steps.TableLaws.{neon_is_table};
 
 use crate::lane::lanewise;
-use crate::lines::{control_line, form_line};
-use crate::op::{Form, Op};
+use crate::lines::{control_line, instruction_line};
+use crate::op::{Instruction, Op};
 use crate::reads;
 use pf_ints::{Memory, Target};
-use pf_isa::{Access, Ctl, Isa, Reg, RegFile, RegList};
+use pf_machine::{Access, Ctl, Isa, Reg, RegFile, RegList};
 use std::alloc::Global;
 
 /// The instructions of A64 Advanced SIMD.
@@ -22,31 +22,31 @@ fn renamed(from: u32, to: u32, vector: u32) -> u32
     if vector == from { to } else { vector }
 }
 
-fn renamed_form(form: Form, from: u32, to: u32) -> Form
-    ensures { result ≡ renamed form from to }
+fn renamed_instruction(instruction: Instruction, from: u32, to: u32) -> Instruction
+    ensures { result ≡ renamed instruction from to }
 {
-    match form {
-        Form::Load { to: r, base, j } => Form::Load {
+    match instruction {
+        Instruction::Load { to: r, base, j } => Instruction::Load {
             to: renamed(from, to, r),
             base,
             j,
         },
-        Form::Store { from: r, base, j } => Form::Store {
+        Instruction::Store { from: r, base, j } => Instruction::Store {
             from: renamed(from, to, r),
             base,
             j,
         },
-        Form::Copy { to: r, from: s } => Form::Copy {
+        Instruction::Copy { to: r, from: s } => Instruction::Copy {
             to: renamed(from, to, r),
             from: renamed(from, to, s),
         },
-        Form::Lanewise {
+        Instruction::Lanewise {
             name,
             lanes,
             to: r,
             left: s,
             right: t,
-        } => Form::Lanewise {
+        } => Instruction::Lanewise {
             name,
             lanes,
             to: renamed(from, to, r),
@@ -97,7 +97,7 @@ impl Isa for Neon {
 
     ghost table = { table };
 
-    ghost is_op = { IsForm };
+    ghost is_op = { IsNeonInstruction };
 
     ghost target_is = { refl };
 
@@ -107,65 +107,65 @@ impl Isa for Neon {
 
     ghost vectors_are = { refl };
 
-    ghost laws = { is_table };
+    ghost laws = { neon_is_table };
 
     fn known(op: &Op) {
-        let _form = &op.form;
+        let _instruction = &op.instruction;
     }
 
     fn uses(op: &Op) -> RegList {
-        match op.form {
-            Form::Load { .. } => RegList::new(),
-            Form::Store { from, .. } => RegList::new().with(Reg::V(from)),
-            Form::Copy { from, .. } => RegList::new().with(Reg::V(from)),
-            Form::Lanewise { left, right, .. } => RegList::new()
+        match op.instruction {
+            Instruction::Load { .. } => RegList::new(),
+            Instruction::Store { from, .. } => RegList::new().with(Reg::V(from)),
+            Instruction::Copy { from, .. } => RegList::new().with(Reg::V(from)),
+            Instruction::Lanewise { left, right, .. } => RegList::new()
                 .with(Reg::V(left))
                 .with(Reg::V(right)),
         }
     }
 
     fn defs(op: &Op) -> RegList {
-        match op.form {
-            Form::Load { to, .. } => RegList::new().with(Reg::V(to)),
-            Form::Store { .. } => RegList::new(),
-            Form::Copy { to, .. } => RegList::new().with(Reg::V(to)),
-            Form::Lanewise { to, .. } => RegList::new().with(Reg::V(to)),
+        match op.instruction {
+            Instruction::Load { to, .. } => RegList::new().with(Reg::V(to)),
+            Instruction::Store { .. } => RegList::new(),
+            Instruction::Copy { to, .. } => RegList::new().with(Reg::V(to)),
+            Instruction::Lanewise { to, .. } => RegList::new().with(Reg::V(to)),
         }
     }
 
     fn cost(op: &Op) -> u32 {
-        match op.form {
-            Form::Load { .. } | Form::Store { .. } | Form::Copy { .. } => 0,
-            Form::Lanewise { name, .. } => name.cost(),
+        match op.instruction {
+            Instruction::Load { .. } | Instruction::Store { .. } | Instruction::Copy { .. } => 0,
+            Instruction::Lanewise { name, .. } => name.cost(),
         }
     }
 
     fn access(op: &Op) -> Option<Access> {
-        match op.form {
-            Form::Load { to, base, j } => Some(Access {
+        match op.instruction {
+            Instruction::Load { to, base, j } => Some(Access {
                 load: true,
                 vector: to,
                 base,
                 offset: 16 * u32::from(j),
             }),
-            Form::Store { from, base, j } => Some(Access {
+            Instruction::Store { from, base, j } => Some(Access {
                 load: false,
                 vector: from,
                 base,
                 offset: 16 * u32::from(j),
             }),
-            Form::Copy { .. } | Form::Lanewise { .. } => None,
+            Instruction::Copy { .. } | Instruction::Lanewise { .. } => None,
         }
     }
 
     fn effect(op: &Op, regs: &mut RegFile) {
-        match op.form {
-            Form::Load { .. } | Form::Store { .. } => unreachable!(),
-            Form::Copy { to, from } => {
+        match op.instruction {
+            Instruction::Load { .. } | Instruction::Store { .. } => unreachable!(),
+            Instruction::Copy { to, from } => {
                 let bytes = content(regs, from);
                 put(regs, to, &bytes);
             }
-            Form::Lanewise {
+            Instruction::Lanewise {
                 name,
                 lanes,
                 to,
@@ -179,8 +179,8 @@ impl Isa for Neon {
     }
 
     fn rename(op: Op, from: u32, to: u32) -> Op {
-        let form = renamed_form(op.form, from, to);
-        Op { form }
+        let instruction = renamed_instruction(op.instruction, from, to);
+        Op { instruction }
     }
 
     fn fixed(_name: u32) -> bool {
@@ -196,7 +196,7 @@ impl Isa for Neon {
     }
 
     fn print(alloc: Global, op: &Op) -> Result<Vec<u8>, Memory> {
-        Vec::from_slice(alloc, form_line(op.form).as_slice())
+        Vec::from_slice(alloc, instruction_line(op.instruction).as_slice())
     }
 
     fn parse(line: &[u8]) -> Option<Op> {

@@ -1,7 +1,7 @@
 ghost use Rattle.std.specs.Prelude.{◌≡◌, ◌<◌, ◌≤◌, IsTrue};
-ghost use Rattle.pf_neon.specs.Forms.{IsForm, is_row, name_cost};
+ghost use Rattle.pf_neon.specs.Meaning.Instructions.{IsNeonInstruction, is_row, name_cost};
 
-use pf_isa::role;
+use pf_machine::role;
 use std::marker::Model;
 
 /// How a vector is divided into lanes.
@@ -35,7 +35,7 @@ impl Mnemonic {
 
 /// Vector instructions, by the shape of their operands.
 #[derive(Clone, Copy, Debug, PartialEq, Eq)]
-pub enum Form {
+pub enum Instruction {
     /// Loads a vector at `j` vectors behind the address in the general register `base`.
     Load {
         to: u32,
@@ -67,28 +67,28 @@ pub enum Form {
 /// the general registers 0 to 7, by their roles, and one of the places 0 to 7.
 #[derive(Clone, Copy, Debug, PartialEq, Eq)]
 pub struct Op {
-    pub(crate) form: Form,
+    pub(crate) instruction: Instruction,
 }
 
 impl Model for Op {
-    ghost use Rattle.pf_neon.specs.declared.op.Form.{Form};
+    ghost use Rattle.pf_neon.specs.declared.op.Instruction.{Instruction};
 
-    ghost Value = { Form };
+    ghost Value = { Instruction };
 
-    ghost use Rattle.pf_neon.specs.Forms.{IsForm};
+    ghost use Rattle.pf_neon.specs.Meaning.Instructions.{IsNeonInstruction};
 
-    ghost view = { λ o. o.form };
+    ghost view = { λ o. o.instruction };
 
-    ghost invariant = { λ o. IsForm o.form };
+    ghost invariant = { λ o. IsNeonInstruction o.instruction };
 
-    ghost inverse = { λ f. record { form = f } };
+    ghost inverse = { λ f. record { instruction = f } };
 }
 
 impl Op {
     /// `ldr`: loads the vector `to` at `j` vectors behind the pointer register.
     pub fn load(to: u32, j: u8) -> Op
         requires { j ≤ 7 }
-        ensures { result ≡ Form.Load to 5 j }
+        ensures { result ≡ Instruction.Load to 5 j }
     {
         Op::load_at(to, role::POINTER, j)
     }
@@ -97,16 +97,16 @@ impl Op {
     pub fn load_at(to: u32, base: u8, j: u8) -> Op
         requires base { base < 8 }
         requires place { j ≤ 7 }
-        ensures { result ≡ Form.Load to base j }
+        ensures { result ≡ Instruction.Load to base j }
     {
-        let form = Form::Load { to, base, j };
-        Op { form }
+        let instruction = Instruction::Load { to, base, j };
+        Op { instruction }
     }
 
     /// `str`: stores the vector `from` at `j` vectors behind the pointer register.
     pub fn store(from: u32, j: u8) -> Op
         requires { j ≤ 7 }
-        ensures { result ≡ Form.Store from 5 j }
+        ensures { result ≡ Instruction.Store from 5 j }
     {
         Op::store_at(from, role::POINTER, j)
     }
@@ -115,47 +115,47 @@ impl Op {
     pub fn store_at(from: u32, base: u8, j: u8) -> Op
         requires base { base < 8 }
         requires place { j ≤ 7 }
-        ensures { result ≡ Form.Store from base j }
+        ensures { result ≡ Instruction.Store from base j }
     {
-        let form = Form::Store { from, base, j };
-        Op { form }
+        let instruction = Instruction::Store { from, base, j };
+        Op { instruction }
     }
 
     /// `mov`: copies the vector `from` to `to`.
     pub fn copy(to: u32, from: u32) -> Op
-        ensures { result ≡ Form.Copy to from }
+        ensures { result ≡ Instruction.Copy to from }
     {
-        let form = Form::Copy { to, from };
-        Op { form }
+        let instruction = Instruction::Copy { to, from };
+        Op { instruction }
     }
 
     /// The instruction of this name on these lanes.
     pub fn lanewise(name: Mnemonic, lanes: Lanes, to: u32, left: u32, right: u32) -> Op
         requires { IsTrue (is_row name lanes) }
-        ensures { result ≡ Form.Lanewise name lanes to left right }
+        ensures { result ≡ Instruction.Lanewise name lanes to left right }
     {
-        let form = Form::Lanewise {
+        let instruction = Instruction::Lanewise {
             name,
             lanes,
             to,
             left,
             right,
         };
-        Op { form }
+        Op { instruction }
     }
 
     /// `umin`: the lesser of each two lanes, without signs.
     pub fn umin(lanes: Lanes, to: u32, left: u32, right: u32) -> Op
-        ensures { result ≡ Form.Lanewise Mnemonic.Umin lanes to left right }
+        ensures { result ≡ Instruction.Lanewise Mnemonic.Umin lanes to left right }
     {
         Op::lanewise(Mnemonic::Umin, lanes, to, left, right)
     }
 
     /// The shape of the instruction, with its operands.
-    pub fn form(&self) -> Form
+    pub fn instruction(&self) -> Instruction
         ensures value { result ≡ self.now }
-        ensures kept { IsForm self.now }
+        ensures kept { IsNeonInstruction self.now }
     {
-        self.form
+        self.instruction
     }
 }

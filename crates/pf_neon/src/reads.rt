@@ -1,13 +1,14 @@
 ghost use Rattle.std.specs.Prelude.{◌≡◌, ◌<◌, ◌≤◌, MatchOption, IfSome, None, Some};
-ghost use Rattle.pf_isa.specs.Tables.{IsOver, ReadsOp, ReadsControl};
-ghost use Rattle.pf_neon.specs.Forms.{IsForm};
-ghost use Rattle.pf_neon.specs.Neon.{table};
-ghost use Rattle.pf_neon.specs.Reads.{below, lanes_of, place_read, load_read, store_read, copy_read, lanewise_read, form_read, two_read, entry_read, pointer_load_read, pointer_store_read, set_read, amount, sum_read, byte_load_read, half_load_read, byte_store_read, half_store_read, compare_read, below_read, onward_read, memory_read, jump_read, control_read};
+ghost use Rattle.pf_machine.specs.Meaning.Tables.{IsOver, ReadsOp, ReadsControl};
+ghost use Rattle.pf_neon.specs.Meaning.Instructions.{IsNeonInstruction};
+ghost use Rattle.pf_neon.specs.Meaning.Neon.{table};
+ghost use Rattle.pf_neon.specs.Steps.Reads.{below, lanes_of, place_read, load_read, store_read, copy_read, lanewise_read, instruction_read, two_read, entry_read, pointer_load_read, pointer_store_read, set_read, amount, sum_read, byte_load_read, half_load_read, byte_store_read, half_store_read, compare_read, below_read, onward_read, memory_read, jump_read, control_read};
 
-use crate::lines::{control_line, form_line};
+use crate::lines::{control_line, instruction_line};
 use crate::op::{Lanes, Mnemonic, Op};
 use pf_ints::Name;
-use pf_isa::{Control, Ctl, behind, checked, next_number, tighten};
+use pf_machine::{Control, Ctl, checked};
+use pf_text::{behind, next_number, tighten};
 
 /// The next number, where it is below the limit, and what follows it.
 fn below(limit: u32, text: &[u8]) -> Option<(u32, &[u8])>
@@ -91,8 +92,8 @@ fn umin(text: &[u8]) -> Option<Op>
 }
 
 /// The vector instruction that a tight line may be.
-fn form(text: &[u8]) -> Option<Op>
-    ensures value { result ≡ form_read text.now }
+fn instruction(text: &[u8]) -> Option<Op>
+    ensures value { result ≡ instruction_read text.now }
     ensures over { IfSome result (λ op. IsOver table op) }
 {
     if let Some(rest) = behind(b"ldr q", text) {
@@ -109,11 +110,11 @@ fn form(text: &[u8]) -> Option<Op>
 
 /// The vector instruction over the machine's vectors that the line is, up to blanks.
 pub fn parse(line: &[u8]) -> Option<Op>
-    ensures { ReadsOp table IsForm line.now result }
+    ensures { ReadsOp table IsNeonInstruction line.now result }
 {
     let tight = tighten(line)?;
-    let op = form(tight.as_slice())?;
-    let printed = form_line(op.form).tightened();
+    let op = instruction(tight.as_slice())?;
+    let printed = instruction_line(op.instruction).tightened();
     if printed.is_same(&tight) {
         Some(op)
     } else {

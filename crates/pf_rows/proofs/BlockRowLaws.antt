@@ -7,22 +7,22 @@ use Rattle.std.proofs.lemmas.Nat.{mul-le}
 use Rattle.std.proofs.lemmas.Bool.{cases_lt}
 use Rattle.std.proofs.lemmas.List.{take_all, take-append-drop, drop-drop, length-map, length-replicate}
 use Rattle.std.proofs.lemmas.List.Elements.{All-replicate}
-use Rattle.pf_ints.specs.Images.{Picture}
-use Rattle.pf_terms.specs.Kernels.{Source, Keeps}
-use Rattle.pf_isa.specs.declared.registers.RegFile.{RegFile}
-use Rattle.pf_isa.specs.declared.code.Line.{Line}
-use Rattle.pf_isa.specs.declared.block.Item.{Item}
-use Rattle.pf_isa.specs.declared.program.Head.{Head}
-use Rattle.pf_isa.specs.Bytes.{number, bytes, packed}
-use Rattle.pf_isa.specs.Blocks.{BVal}
-use Rattle.pf_isa.specs.Runs.{Places, IsPlaced, pixel_bytes, columns, rows, row_entries, row_budget, memory, output_size}
-use Rattle.pf_isa.specs.RowEnds.{row_size, with_row, RowDone}
-use Rattle.pf_isa.specs.Steps.{State, started}
-use Rattle.pf_isa.specs.Tables.{Table, IsTable, IsFile}
-use Rattle.pf_isa.proofs.ByteLaws.{bytes-number}
-use Rattle.pf_isa.proofs.MemoryLaws.{image_bytes, take-drop-part}
-use Rattle.pf_rows.specs.BlockRows.{tap_widths, start_of, pixel_part, AreBlocks, IsGiven, IsBlockRow, IsRowBlock, no_decl}
-use Rattle.pf_rows.specs.RowCode.{row_code, row_labels, block_lines, next_lines, tail_lines, last_lines, narrow_lines, back_lines, IsOne, row_text}
+use Rattle.pf_ints.specs.Meaning.Images.{Picture}
+use Rattle.pf_values.specs.Meaning.Kernels.{Source, Keeps, no_decl}
+use Rattle.pf_machine.specs.declared.registers.RegFile.{RegFile}
+use Rattle.pf_machine.specs.declared.code.Line.{Line}
+use Rattle.pf_machine.specs.declared.block.Item.{Item}
+use Rattle.pf_machine.specs.declared.program.Head.{Head}
+use Rattle.pf_machine.specs.Meaning.Bytes.{number, bytes, packed}
+use Rattle.pf_machine.specs.Meaning.Blocks.{BVal}
+use Rattle.pf_machine.specs.Meaning.Runs.{Places, IsPlaced, pixel_bytes, columns, rows, row_entries, row_budget, memory, output_size}
+use Rattle.pf_machine.specs.Meaning.RowEnds.{row_size, with_row, RowDone}
+use Rattle.pf_machine.specs.Meaning.MachineSteps.{State, started}
+use Rattle.pf_machine.specs.Meaning.Tables.{Table, IsTable, IsFile}
+use Rattle.pf_machine.proofs.ByteLaws.{bytes-number}
+use Rattle.pf_machine.proofs.MemoryLaws.{image_bytes, take-drop-part}
+use Rattle.pf_rows.specs.Meaning.BlockRows.{tap_widths, start_of, pixel_part, AreBlocks, IsGiven, IsBlockRow, IsRowBlock}
+use Rattle.pf_rows.specs.Steps.RowCode.{row_code, row_labels, block_lines, next_lines, tail_lines, last_lines, narrow_lines, back_lines, IsOne, row_text}
 use Rattle.pf_rows.proofs.Cells.{part, length-part, Agree}
 use Rattle.pf_rows.proofs.RowPlaces.{RowPlace, span}
 use Rattle.pf_rows.proofs.Wide.{wide_taps, wide_tap}

@@ -4,23 +4,23 @@ use Rattle.std.proofs.Math.Nat.{mul_comm, mul-le-mul_left}
 use Rattle.std.proofs.lemmas.Nat.{mul-le}
 use Rattle.std.proofs.lemmas.List.{take-append-drop, length-take-le}
 use Rattle.std.proofs.lemmas.List.Elements.{All-take, All-drop, All-get_or}
-use Rattle.pf_ints.specs.Images.{Picture}
-use Rattle.pf_terms.specs.Kernels.{no_picture}
-use Rattle.pf_isa.specs.declared.registers.RegFile.{RegFile}
-use Rattle.pf_isa.specs.declared.memory.Region.{Region}
-use Rattle.pf_isa.specs.declared.control.Control.TheVariants.{LoadPtr, StorePtr, Imm}
-use Rattle.pf_isa.specs.declared.code.Line.{Line}
-use Rattle.pf_isa.specs.declared.code.Line.TheVariants.{Control as Controls}
-use Rattle.pf_isa.specs.declared.code.Label.{Label}
-use Rattle.pf_isa.specs.Bytes.{number, bytes, packed}
-use Rattle.pf_isa.specs.Memory.{loaded, stored}
-use Rattle.pf_isa.specs.Runs.{Places, pixel_bytes}
-use Rattle.pf_isa.specs.Tables.{Table}
-use Rattle.pf_isa.specs.Steps.{pointer_bytes, place_of}
-use Rattle.pf_isa.proofs.ByteLaws.{packed_below, bytes-number, length-bytes}
-use Rattle.pf_isa.proofs.MemoryLaws.{image_bytes, overwritten, length-overwritten, overwritten-overwritten, take-drop-part, stored-scratch}
-use Rattle.pf_rows.specs.Scratch.{buffer_at, table_bytes}
-use Rattle.pf_rows.specs.RowCode.{scratch_lines, copy_turn, copy_label, tap_copy}
+use Rattle.pf_ints.specs.Meaning.Images.{Picture}
+use Rattle.pf_values.specs.Meaning.Kernels.{no_picture}
+use Rattle.pf_machine.specs.declared.registers.RegFile.{RegFile}
+use Rattle.pf_machine.specs.declared.memory.Region.{Region}
+use Rattle.pf_machine.specs.declared.control.Control.TheVariants.{LoadPtr, StorePtr, Imm}
+use Rattle.pf_machine.specs.declared.code.Line.{Line}
+use Rattle.pf_machine.specs.declared.code.Line.TheVariants.{Control as Controls}
+use Rattle.pf_machine.specs.declared.code.Label.{Label}
+use Rattle.pf_machine.specs.Meaning.Bytes.{number, bytes, packed}
+use Rattle.pf_machine.specs.Meaning.Memory.{loaded, stored}
+use Rattle.pf_machine.specs.Meaning.Runs.{Places, pixel_bytes}
+use Rattle.pf_machine.specs.Meaning.Tables.{Table}
+use Rattle.pf_machine.specs.Meaning.MachineSteps.{pointer_bytes, place_of}
+use Rattle.pf_machine.proofs.ByteLaws.{packed_below, bytes-number, length-bytes}
+use Rattle.pf_machine.proofs.MemoryLaws.{image_bytes, overwritten, length-overwritten, overwritten-overwritten, take-drop-part, stored-scratch}
+use Rattle.pf_rows.specs.Meaning.Scratch.{buffer_at, table_bytes}
+use Rattle.pf_rows.specs.Steps.RowCode.{scratch_lines, copy_turn, copy_label, tap_copy}
 use Rattle.pf_rows.proofs.Paths.{Stands, stands-front, stands-back, now, Comes, comes-on, comes-one}
 use Rattle.pf_rows.proofs.Pointers.{scratch_count, scratch_cheap, length-scratch_lines, comes-scratch}
 use Rattle.pf_rows.proofs.Cells.{part, length-part}

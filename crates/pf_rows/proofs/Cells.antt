@@ -6,7 +6,7 @@ use Rattle.std.proofs.Math.Seq.{take-add}
 use Rattle.std.proofs.lemmas.List.{drop_at, drop-drop, take_all, take-append-le, drop-append-le, get_or-set_same, get_or-set_other, get_or-replicate, length-set, length-replicate, length-take-le}
 use Rattle.std.proofs.lemmas.Nat.{column_fits}
 use Rattle.std.proofs.lemmas.Bool.{cases_order, cases_eq}
-use Rattle.pf_isa.proofs.MemoryLaws.{overwritten, take-drop-part}
+use Rattle.pf_machine.proofs.MemoryLaws.{overwritten, take-drop-part}
 
 -- a part of bytes
 abbrev pub part : ℕ → ℕ → List ℕ → List ℕ

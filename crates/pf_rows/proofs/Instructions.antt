@@ -4,20 +4,20 @@ use Rattle.std.specs.Prelude.{codes, replicate, Contains}
 use Rattle.std.specs.List.{last_or}
 use Rattle.std.proofs.lemmas.Bool.{le-leb, or_left, or_right, and_from, eq-eqb}
 use Rattle.std.proofs.lemmas.List.Elements.{All-nil, All-cons, All-head, All-tail, All-append, All-replicate, All-get_or}
-use Rattle.pf_ints.specs.Words.{is_name}
-use Rattle.pf_isa.specs.declared.control.Control.TheVariants.{LoadPtr, StorePtr, Imm, AddImm, AddReg, Compare, Below, Jump, Return}
-use Rattle.pf_isa.specs.declared.code.Line.{Line}
-use Rattle.pf_isa.specs.declared.code.Line.TheVariants.{Vector, Control as Controls}
-use Rattle.pf_isa.specs.declared.code.Label.{Label}
-use Rattle.pf_isa.specs.declared.block.Item.{Item}
-use Rattle.pf_isa.specs.declared.block.Item.TheVariants.{Vector as Operation, TapLoad, OutStore, SlotLoad, SlotStore}
-use Rattle.pf_isa.specs.Control.{is_offset}
-use Rattle.pf_isa.specs.Tables.{Table, IsOver}
-use Rattle.pf_isa.specs.Blocks.{IsWithin}
-use Rattle.pf_isa.specs.Programs.{IsInstructionOf, IsLast}
-use Rattle.pf_rows.specs.Scratch.{slot_at, buffer_at}
-use Rattle.pf_rows.specs.BlockRows.{IsStep}
-use Rattle.pf_rows.specs.RowCode.{begin_lines, pixel_lines, last_pages, scratch_lines, item_lines, block_lines, next_lines, tail_lines, last_lines, load_value, store_value, copy_turn, copy_label, tap_copy, tap_copies, narrow_lines, back_lines, row_code, row_labels}
+use Rattle.pf_text.specs.Meaning.Words.{is_name}
+use Rattle.pf_machine.specs.declared.control.Control.TheVariants.{LoadPtr, StorePtr, Imm, AddImm, AddReg, Compare, Below, Jump, Return}
+use Rattle.pf_machine.specs.declared.code.Line.{Line}
+use Rattle.pf_machine.specs.declared.code.Line.TheVariants.{Vector, Control as Controls}
+use Rattle.pf_machine.specs.declared.code.Label.{Label}
+use Rattle.pf_machine.specs.declared.block.Item.{Item}
+use Rattle.pf_machine.specs.declared.block.Item.TheVariants.{Vector as Operation, TapLoad, OutStore, SlotLoad, SlotStore}
+use Rattle.pf_machine.specs.Meaning.Control.{is_offset}
+use Rattle.pf_machine.specs.Meaning.Tables.{Table, IsOver}
+use Rattle.pf_machine.specs.Meaning.Blocks.{IsWithin}
+use Rattle.pf_machine.specs.Meaning.Programs.{IsInstructionOf, IsLast}
+use Rattle.pf_rows.specs.Meaning.Scratch.{slot_at, buffer_at}
+use Rattle.pf_rows.specs.Meaning.BlockRows.{IsBlockItem}
+use Rattle.pf_rows.specs.Steps.RowCode.{begin_lines, pixel_lines, last_pages, scratch_lines, item_lines, block_lines, next_lines, tail_lines, last_lines, load_value, store_value, copy_turn, copy_label, tap_copy, tap_copies, narrow_lines, back_lines, row_code, row_labels}
 use Rattle.pf_rows.proofs.LabelLaws.{block_named, tail_named, last_named, narrow_named, back_named, loop_named, copy_named, block_there, tail_there, to_last_there, narrow_there, back_there, loop_there, copy_there}
 
 -- numbers that may be added
@@ -110,7 +110,7 @@ module _ (I O : Type 0) (t : Table O) (labels : List Label) where
 
 module _ (I O : Type 0) (t : Table O) (widths : List ℕ) (width : ℕ) (block : List (Item O)) (few : length widths ≤ 64) (most : t.vector ≤ 128) (some : 1 ≤ t.vector) (slots : ℕ)
     (loads : (to part : ℕ) → to < t.vectors → part ≤ 1 → IsOver t (t.load to part)) (keeps : (from part : ℕ) → from < t.vectors → part ≤ 1 → IsOver t (t.store from part))
-    (small : All (λ w. w ≤ 2) widths) (small_out : width ≤ 2) (within : All (IsWithin t t.vectors slots) block) (steps : All (IsStep widths width) block) where
+    (small : All (λ w. w ≤ 2) widths) (small_out : width ≤ 2) (within : All (IsWithin t t.vectors slots) block) (steps : All (IsBlockItem widths width) block) where
   abbrev labels : List Label
   labels = row_labels I t widths width block
 
@@ -123,7 +123,7 @@ module _ (I O : Type 0) (t : Table O) (widths : List ℕ) (width : ℕ) (block :
   abbrev single : (line : Line I O) → Q line → All Q (line ∷ [])
   single line is = All-cons Q line [] is (All-nil Q)
 
-  item_is : (item : Item O) → IsWithin t t.vectors slots item → IsStep widths width item → All Q (item_lines t widths width item)
+  item_is : (item : Item O) → IsWithin t t.vectors slots item → IsBlockItem widths width item → All Q (item_lines t widths width item)
   item_is (Operation op) within step = single (Vector op) (record { uses = within.1; defs = within.2 })
   item_is (TapLoad to tap part) within step =
       let by = get_or widths tap 0 in
@@ -142,11 +142,11 @@ module _ (I O : Type 0) (t : Table O) (widths : List ℕ) (width : ℕ) (block :
       let offset = slot_at t.vector taps slot in
       All-append Q (scratch_lines 5 offset) (Vector (t.store from 0) ∷ []) (scratch_is I O t labels 5 offset (omega arith)) (single (Vector (t.store from 0)) (keeps from 0 within.0 (omega arith)))
 
-  block_is : (items : List (Item O)) → All (IsWithin t t.vectors slots) items → All (IsStep widths width) items → All Q (block_lines t widths width items)
+  block_is : (items : List (Item O)) → All (IsWithin t t.vectors slots) items → All (IsBlockItem widths width) items → All Q (block_lines t widths width items)
   block_is [] within steps = All-nil Q
   block_is (item ∷ items) within steps =
-      All-append Q (item_lines t widths width item) (block_lines t widths width items) (item_is item (All-head (IsWithin t t.vectors slots) item items within) (All-head (IsStep widths width) item items steps))
-      (block_is items (All-tail (IsWithin t t.vectors slots) item items within) (All-tail (IsStep widths width) item items steps))
+      All-append Q (item_lines t widths width item) (block_lines t widths width items) (item_is item (All-head (IsWithin t t.vectors slots) item items within) (All-head (IsBlockItem widths width) item items steps))
+      (block_is items (All-tail (IsWithin t t.vectors slots) item items within) (All-tail (IsBlockItem widths width) item items steps))
 
   copy_is : (k w : ℕ) → k < taps → All Q (tap_copy t.vector taps k w)
   copy_is k w known =

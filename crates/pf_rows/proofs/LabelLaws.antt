@@ -7,17 +7,17 @@ use Rattle.std.proofs.lemmas.Bool.{agree_below, agree_below_at, cases_eq, falseâ
 use Rattle.std.proofs.lemmas.List.{map-append}
 use Rattle.std.proofs.lemmas.List.Kept.{AllPairs-cons}
 use Rattle.std.proofs.lemmas.List.Elements.{All-nil, All-cons, All-append, All-weaker, Contains-get_or, Contains-append_right, Contains-append_left}
-use Rattle.pf_ints.specs.Words.{is_name, is_reserved}
-use Rattle.pf_isa.specs.declared.control.Control.TheVariants.{StorePtr, AddImm, Imm, Jump}
-use Rattle.pf_isa.specs.declared.code.Line.{Line}
-use Rattle.pf_isa.specs.declared.code.Line.TheVariants.{Control as Controls}
-use Rattle.pf_isa.specs.declared.code.Label.{Label}
-use Rattle.pf_isa.specs.declared.block.Item.{Item}
-use Rattle.pf_isa.specs.Tables.{Table}
-use Rattle.pf_isa.specs.Programs.{IsLabel}
+use Rattle.pf_text.specs.Meaning.Words.{is_name, is_reserved}
+use Rattle.pf_machine.specs.declared.control.Control.TheVariants.{StorePtr, AddImm, Imm, Jump}
+use Rattle.pf_machine.specs.declared.code.Line.{Line}
+use Rattle.pf_machine.specs.declared.code.Line.TheVariants.{Control as Controls}
+use Rattle.pf_machine.specs.declared.code.Label.{Label}
+use Rattle.pf_machine.specs.declared.block.Item.{Item}
+use Rattle.pf_machine.specs.Meaning.Tables.{Table}
+use Rattle.pf_machine.specs.Meaning.Programs.{IsLabel}
 use Rattle.pf_rows.proofs.Parts.{bytes_eq-same, copy_label-other}
-use Rattle.pf_rows.specs.Scratch.{buffer_at}
-use Rattle.pf_rows.specs.RowCode.{block_lines, next_lines, tail_lines, last_lines, narrow_lines, back_lines, row_code, row_labels, copy_labels, copy_label, tap_copy, tap_copies, label, next_at, narrow_at, back_at, scratch_lines}
+use Rattle.pf_rows.specs.Meaning.Scratch.{buffer_at}
+use Rattle.pf_rows.specs.Steps.RowCode.{block_lines, next_lines, tail_lines, last_lines, narrow_lines, back_lines, row_code, row_labels, copy_labels, copy_label, tap_copy, tap_copies, label, next_at, narrow_at, back_at, scratch_lines}
 
 pub block_named : is_name (codes "block") â‰¡ true
 unfolding is_name is_reserved

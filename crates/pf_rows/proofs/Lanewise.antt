@@ -7,20 +7,21 @@ use Rattle.std.proofs.lemmas.Bool.{cases_lt, cond-true, cond-false, lt-ltb, le-l
 use Rattle.std.proofs.lemmas.List.{take_all, length-map, get_or-map, length-replicate}
 use Rattle.std.proofs.lemmas.List.FromFn.{get_or-map-range_with_len}
 use Rattle.std.proofs.Math.Nat.{mul_comm}
-use Rattle.pf_ints.specs.Images.{Picture}
-use Rattle.pf_terms.specs.TermTexts.{no_tap}
-use Rattle.pf_isa.specs.declared.registers.RegFile.{RegFile}
-use Rattle.pf_isa.specs.declared.block.Item.{Item}
-use Rattle.pf_isa.specs.declared.program.Head.{Head}
-use Rattle.pf_isa.specs.Bytes.{bytes}
-use Rattle.pf_isa.specs.Blocks.{BVal}
-use Rattle.pf_isa.specs.Runs.{pixel_bytes, columns}
-use Rattle.pf_isa.specs.RowEnds.{RowDone, row_values, row_in_memory}
-use Rattle.pf_isa.specs.Tables.{Table, IsTable}
-use Rattle.pf_isa.proofs.ByteLaws.{bytes_below, lane_at}
-use Rattle.pf_isa.proofs.RowLaws.{leaves, length-row_in_memory, length-row_values}
-use Rattle.pf_rows.specs.BlockRows.{tap_widths, start_of, pixel_part, tap_pixel, IsBlockRow, IsLanewise, IsRowBlock, RunsBlock, LeavesLanes, no_decl}
-use Rattle.pf_rows.specs.RowCode.{IsOne, row_text}
+use Rattle.pf_ints.specs.Meaning.Images.{Picture}
+use Rattle.pf_values.specs.Meaning.NamedTerms.{no_tap}
+use Rattle.pf_machine.specs.declared.registers.RegFile.{RegFile}
+use Rattle.pf_machine.specs.declared.block.Item.{Item}
+use Rattle.pf_machine.specs.declared.program.Head.{Head}
+use Rattle.pf_machine.specs.Meaning.Bytes.{bytes}
+use Rattle.pf_machine.specs.Meaning.Blocks.{BVal}
+use Rattle.pf_machine.specs.Meaning.Runs.{pixel_bytes, columns}
+use Rattle.pf_machine.specs.Meaning.RowEnds.{RowDone, row_values, row_in_memory}
+use Rattle.pf_machine.specs.Meaning.Tables.{Table, IsTable}
+use Rattle.pf_machine.proofs.ByteLaws.{bytes_below, lane_at}
+use Rattle.pf_machine.proofs.RowLaws.{leaves, length-row_in_memory, length-row_values}
+use Rattle.pf_rows.specs.Meaning.BlockRows.{tap_widths, start_of, pixel_part, tap_pixel, IsBlockRow, IsLanewise, IsRowBlock, RunsBlock, LeavesLanes}
+use Rattle.pf_values.specs.Meaning.Kernels.{no_decl}
+use Rattle.pf_rows.specs.Steps.RowCode.{IsOne, row_text}
 use Rattle.pf_rows.proofs.Cells.{part, length-part, Cells, cells_of, cells-of, cells-joined, length-cells_of, get_or-cells_of}
 use Rattle.pf_rows.proofs.RowPlaces.{span}
 use Rattle.pf_rows.proofs.BlockRowLaws.{block_row, started_file}

@@ -2,18 +2,18 @@
 use Rattle.std.proofs.Common.{◌≡◌, ℕ, zero, suc, ◌+◌, ◌*◌, ◌/◌, ◌%◌, ◌≤◌, List, [], ◌∷◌, ◌++◌, length, get_or, All, false, refl, arith, rules}
 use Rattle.std.specs.Prelude.{codes, replicate}
 use Rattle.std.proofs.lemmas.List.Elements.{All-nil, All-cons, All-head, All-tail, All-append, All-replicate, All-weaker, All-from_recursion, All-get_or}
-use Rattle.pf_isa.specs.declared.control.Control.TheVariants.{LoadPtr, StorePtr, Imm, AddImm, AddReg, Compare, Below, Jump, Return}
-use Rattle.pf_isa.specs.declared.code.Line.{Line}
-use Rattle.pf_isa.specs.declared.code.Line.TheVariants.{Vector, Control as Controls}
-use Rattle.pf_isa.specs.declared.code.Label.{Label}
-use Rattle.pf_isa.specs.declared.block.Item.{Item}
-use Rattle.pf_isa.specs.declared.block.Item.TheVariants.{Vector as Operation, TapLoad, OutStore, SlotLoad, SlotStore}
-use Rattle.pf_isa.specs.Tables.{Table, IsTable}
-use Rattle.pf_isa.specs.Blocks.{IsWithin}
-use Rattle.pf_isa.specs.Moved.{Moved, WritesOnly, OfControl, MovesPixel, MovesTable, MovesEnd, MovesPointer, MovesValue, StoresValue, Compares, StoresPointer, AccessesPointer}
-use Rattle.pf_rows.specs.Scratch.{slot_at, buffer_at}
-use Rattle.pf_rows.specs.BlockRows.{IsStep}
-use Rattle.pf_rows.specs.RowCode.{pixel_lines, last_pages, page_lines, scratch_lines, item_lines, block_lines, next_lines, tail_lines, last_lines, load_value, store_value, copy_turn, copy_label, tap_copy, tap_copies, narrow_lines, back_lines, row_code, row_labels, label, copy_labels, next_at, narrow_at, back_at}
+use Rattle.pf_machine.specs.declared.control.Control.TheVariants.{LoadPtr, StorePtr, Imm, AddImm, AddReg, Compare, Below, Jump, Return}
+use Rattle.pf_machine.specs.declared.code.Line.{Line}
+use Rattle.pf_machine.specs.declared.code.Line.TheVariants.{Vector, Control as Controls}
+use Rattle.pf_machine.specs.declared.code.Label.{Label}
+use Rattle.pf_machine.specs.declared.block.Item.{Item}
+use Rattle.pf_machine.specs.declared.block.Item.TheVariants.{Vector as Operation, TapLoad, OutStore, SlotLoad, SlotStore}
+use Rattle.pf_machine.specs.Meaning.Tables.{Table, IsTable}
+use Rattle.pf_machine.specs.Meaning.Blocks.{IsWithin}
+use Rattle.pf_machine.specs.Meaning.Moved.{Moved, WritesOnly, OfControl, MovesPixel, MovesTable, MovesEnd, MovesPointer, MovesValue, StoresValue, Compares, StoresPointer, AccessesPointer}
+use Rattle.pf_rows.specs.Meaning.Scratch.{slot_at, buffer_at}
+use Rattle.pf_rows.specs.Meaning.BlockRows.{IsBlockItem}
+use Rattle.pf_rows.specs.Steps.RowCode.{pixel_lines, last_pages, page_lines, scratch_lines, item_lines, block_lines, next_lines, tail_lines, last_lines, load_value, store_value, copy_turn, copy_label, tap_copy, tap_copies, narrow_lines, back_lines, row_code, row_labels, label, copy_labels, next_at, narrow_at, back_at}
 
 -- what holds of each line behind the first
 abbrev pub Moves : {I O : Type 0} → Table O → ℕ → Line I O → Type 0
@@ -86,7 +86,7 @@ module _ (I O : Type 0) (t : Table O) (taps : ℕ) where
     one_line : (line : Line I O) → M line → All M (line ∷ [])
     one_line line moves = All-cons M line [] moves (All-nil M)
 
-    item_moves : (slots width : ℕ) (widths : List ℕ) (item : Item O) → length widths ≡ taps → All (λ w. w ≤ 2) widths → width ≤ 2 → IsWithin t t.vectors slots item → IsStep widths width item → All M (item_lines t widths width item)
+    item_moves : (slots width : ℕ) (widths : List ℕ) (item : Item O) → length widths ≡ taps → All (λ w. w ≤ 2) widths → width ≤ 2 → IsWithin t t.vectors slots item → IsBlockItem widths width item → All M (item_lines t widths width item)
     item_moves slots width widths (Operation op) count few low within step =
         let plain = within.0 in
         one_line (Vector op) (tt, tt, tt, tt, tt, tt, tt, tt, tt, tt, tt, rw plain tt)
@@ -106,12 +106,12 @@ module _ (I O : Type 0) (t : Table O) (taps : ℕ) where
         let offset = slot_at t.vector (length widths) slot in
         All-append M (scratch_lines 5 offset) (Vector (t.store from 0) ∷ []) (scratch_moves offset) (one_line (Vector (t.store from 0)) (store_moves from 0 (omega arith)))
 
-    block_moves : (slots width : ℕ) (widths : List ℕ) (block : List (Item O)) → length widths ≡ taps → All (λ w. w ≤ 2) widths → width ≤ 2 → All (IsWithin t t.vectors slots) block → All (IsStep widths width) block → All M (block_lines t widths width block)
+    block_moves : (slots width : ℕ) (widths : List ℕ) (block : List (Item O)) → length widths ≡ taps → All (λ w. w ≤ 2) widths → width ≤ 2 → All (IsWithin t t.vectors slots) block → All (IsBlockItem widths width) block → All M (block_lines t widths width block)
     block_moves slots width widths [] count few low within steps = All-nil M
     block_moves slots width widths (item ∷ block) count few low within steps =
         All-append M (item_lines t widths width item) (block_lines t widths width block)
-        (item_moves slots width widths item count few low (All-head (IsWithin t t.vectors slots) item block within) (All-head (IsStep widths width) item block steps))
-        (block_moves slots width widths block count few low (All-tail (IsWithin t t.vectors slots) item block within) (All-tail (IsStep widths width) item block steps))
+        (item_moves slots width widths item count few low (All-head (IsWithin t t.vectors slots) item block within) (All-head (IsBlockItem widths width) item block steps))
+        (block_moves slots width widths block count few low (All-tail (IsWithin t t.vectors slots) item block within) (All-tail (IsBlockItem widths width) item block steps))
 
   turn_moves : (from to : List (Line I O)) (width : ℕ) (name : List ℕ) → All M from → All M to → All M (copy_turn from to width name)
   turn_moves from to width name one two =
@@ -166,7 +166,7 @@ rest_lines t widths width block =
     Controls (LoadPtr 1 4 (length widths + 2)) ∷ Controls (LoadPtr 2 4 (length widths + 1)) ∷ Controls (Imm 7 t.vector) ∷ Controls (Compare 1 7) ∷ Controls (Below (codes "narrow")) ∷ Controls (Imm 3 0)
     ∷ (block_lines t widths width block ++ (next_lines t.vector ++ (tail_lines ++ (last_lines t.vector ++ (narrow_lines t.vector widths ++ back_lines t.vector (length widths) width)))))
 
-module _ (I O : Type 0) (t : Table O) (is_op : O → Type 0) (laws : IsTable t is_op) (slots width : ℕ) (widths : List ℕ) (block : List (Item O)) (few : All (λ w. w ≤ 2) widths) (low : width ≤ 2) (within : All (IsWithin t t.vectors slots) block) (steps : All (IsStep widths width) block) where
+module _ (I O : Type 0) (t : Table O) (is_op : O → Type 0) (laws : IsTable t is_op) (slots width : ℕ) (widths : List ℕ) (block : List (Item O)) (few : All (λ w. w ≤ 2) widths) (low : width ≤ 2) (within : All (IsWithin t t.vectors slots) block) (steps : All (IsBlockItem widths width) block) where
   abbrev N : Line I O → Type 0
   N line = Moves t (length widths) line
 

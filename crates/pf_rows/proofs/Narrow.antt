@@ -6,18 +6,18 @@ use Rattle.std.proofs.lemmas.Nat.{mul-le}
 use Rattle.std.proofs.lemmas.List.{length-set}
 use Rattle.std.proofs.lemmas.List.Elements.{All-weaker, All-get_or}
 use Rattle.std.proofs.lemmas.List.FromFn.{get_or-map-range_with_len}
-use Rattle.pf_ints.specs.Images.{Picture}
-use Rattle.pf_isa.specs.declared.memory.Region.{Region}
-use Rattle.pf_isa.specs.declared.code.Line.{Line}
-use Rattle.pf_isa.specs.declared.code.Label.{Label}
-use Rattle.pf_isa.specs.Bytes.{number, bytes, packed}
-use Rattle.pf_isa.specs.Memory.{loaded, stored}
-use Rattle.pf_isa.specs.Steps.{wrapped, pointer_bytes}
-use Rattle.pf_isa.specs.Runs.{Places}
-use Rattle.pf_isa.specs.Tables.{Table}
-use Rattle.pf_isa.proofs.MemoryLaws.{overwritten, length-overwritten, take-drop-part, loaded-scratch, stored-scratch}
-use Rattle.pf_isa.proofs.StepLaws.{wrapped_small}
-use Rattle.pf_rows.specs.Scratch.{slot_at, buffer_at}
+use Rattle.pf_ints.specs.Meaning.Images.{Picture}
+use Rattle.pf_machine.specs.declared.memory.Region.{Region}
+use Rattle.pf_machine.specs.declared.code.Line.{Line}
+use Rattle.pf_machine.specs.declared.code.Label.{Label}
+use Rattle.pf_machine.specs.Meaning.Bytes.{number, bytes, packed}
+use Rattle.pf_machine.specs.Meaning.Memory.{loaded, stored}
+use Rattle.pf_machine.specs.Meaning.MachineSteps.{register_wrapped, pointer_bytes}
+use Rattle.pf_machine.specs.Meaning.Runs.{Places}
+use Rattle.pf_machine.specs.Meaning.Tables.{Table}
+use Rattle.pf_machine.proofs.MemoryLaws.{overwritten, length-overwritten, take-drop-part, loaded-scratch, stored-scratch}
+use Rattle.pf_machine.proofs.StepLaws.{wrapped_small}
+use Rattle.pf_rows.specs.Meaning.Scratch.{slot_at, buffer_at}
 use Rattle.pf_rows.proofs.Cells.{part, length-part, Agree, agree-trans, agree-before, agree-behind, Cells, cells-agree, cells-set}
 use Rattle.pf_rows.proofs.Steps.{Desk}
 use Rattle.pf_rows.proofs.RowPlaces.{RowPlace, span, number-pointer, some-pointer, most-pointer, slots-agree, slot-given, slot-stored}
@@ -71,7 +71,7 @@ module _ {I O : Type 0} (t : Table O) (code : List (Line I O)) (labels : List La
     order j k less = let room : 2 * t.vector * j + 2 * t.vector * 1 ≤ 2 * t.vector * k = span (2 * t.vector) j 1 k (omega arith) in omega arith
 
     narrow_entry : (kept output : List (List ℕ)) (rs : List Region) → Narrow before out kept output rs → (k : ℕ) → k ≤ length widths
-        → (held : List ℕ) × (loaded rs (wrapped t.target (at.scratch + 8 * k)) (pointer_bytes t.target) ≡ Some held) × (number held ≡ address k)
+        → (held : List ℕ) × (loaded rs (register_wrapped t.target (at.scratch + 8 * k)) (pointer_bytes t.target) ≡ Some held) × (number held ≡ address k)
     narrow_entry kept output rs w k inside =
         let pb = pointer_bytes t.target in
         let some_bytes = some-pointer t.target in
@@ -81,12 +81,12 @@ module _ {I O : Type 0} (t : Table O) (code : List (Line I O)) (labels : List La
         let room_k = room_of k inside in
         let low = placed.scratch_low in
         let long = w.scratch_long in
-        let here : wrapped t.target (at.scratch + 8 * k) ≡ at.scratch + 8 * k = wrapped_small t.target (at.scratch + 8 * k) (omega arith) in
+        let here : register_wrapped t.target (at.scratch + 8 * k) ≡ at.scratch + 8 * k = wrapped_small t.target (at.scratch + 8 * k) (omega arith) in
         let load : loaded (memo w.scratch out) (at.scratch + 8 * k) pb ≡ Some (part (8 * k) pb w.scratch) = loaded-scratch pictures at (packed 8 entries) w.scratch out (placed.apart w.scratch out long out_long) (8 * k) pb some_bytes (omega arith) in
         let same = w.same in
         let held : part (8 * k) pb w.scratch ≡ bytes pb (address k) = same.each (8 * k) pb (omega arith) (omega arith) ∙ filled.entry k (omega arith) in (
           bytes pb (address k),
-          ap (λ r. loaded r (wrapped t.target (at.scratch + 8 * k)) pb) w.is ∙ ap (λ a. loaded (memo w.scratch out) a pb) here ∙ load ∙ ap Some held,
+          ap (λ r. loaded r (register_wrapped t.target (at.scratch + 8 * k)) pb) w.is ∙ ap (λ a. loaded (memo w.scratch out) a pb) here ∙ load ∙ ap Some held,
           number-pointer t.target (address k) (omega arith),
         )
 

@@ -6,25 +6,25 @@ use Rattle.std.proofs.Math.Nat.{mul_comm, mul-le-mul_left}
 use Rattle.std.proofs.lemmas.Nat.{mul-le}
 use Rattle.std.proofs.lemmas.List.{length-replicate, take_all, take-append-drop, length-take-le}
 use Rattle.std.proofs.lemmas.Bool.{le-ltb, cond-false}
-use Rattle.pf_ints.specs.Images.{Picture}
-use Rattle.pf_isa.specs.declared.registers.RegFile.{RegFile}
-use Rattle.pf_isa.specs.declared.memory.Region.{Region}
-use Rattle.pf_isa.specs.declared.control.Control.TheVariants.{LoadPtr, Imm, Return}
-use Rattle.pf_isa.specs.declared.code.Line.{Line}
-use Rattle.pf_isa.specs.declared.code.Line.TheVariants.{Control as Controls}
-use Rattle.pf_isa.specs.declared.code.Label.{Label}
-use Rattle.pf_isa.specs.declared.block.Item.{Item}
-use Rattle.pf_isa.specs.Bytes.{number, bytes, packed, lanes}
-use Rattle.pf_isa.specs.Memory.{loaded, stored}
-use Rattle.pf_isa.specs.Runs.{Places}
-use Rattle.pf_isa.specs.Steps.{State}
-use Rattle.pf_isa.specs.Tables.{Table, IsTable, IsFile}
-use Rattle.pf_isa.specs.Blocks.{Bench, items_run, IsWithin}
-use Rattle.pf_isa.proofs.ByteLaws.{lane_at, get_or-lanes, length-lanes, length-packed, length-bytes}
-use Rattle.pf_isa.proofs.MemoryLaws.{image_bytes, overwritten, length-overwritten, overwritten-overwritten, take-drop-part, loaded-scratch}
-use Rattle.pf_rows.specs.Scratch.{buffer_at}
-use Rattle.pf_rows.specs.BlockRows.{IsStep, StoresEach, start_of}
-use Rattle.pf_rows.specs.RowCode.{block_lines, next_at, narrow_at, back_at, scratch_lines, copy_turn, IsOne}
+use Rattle.pf_ints.specs.Meaning.Images.{Picture}
+use Rattle.pf_machine.specs.declared.registers.RegFile.{RegFile}
+use Rattle.pf_machine.specs.declared.memory.Region.{Region}
+use Rattle.pf_machine.specs.declared.control.Control.TheVariants.{LoadPtr, Imm, Return}
+use Rattle.pf_machine.specs.declared.code.Line.{Line}
+use Rattle.pf_machine.specs.declared.code.Line.TheVariants.{Control as Controls}
+use Rattle.pf_machine.specs.declared.code.Label.{Label}
+use Rattle.pf_machine.specs.declared.block.Item.{Item}
+use Rattle.pf_machine.specs.Meaning.Bytes.{number, bytes, packed, lanes}
+use Rattle.pf_machine.specs.Meaning.Memory.{loaded, stored}
+use Rattle.pf_machine.specs.Meaning.Runs.{Places}
+use Rattle.pf_machine.specs.Meaning.MachineSteps.{State}
+use Rattle.pf_machine.specs.Meaning.Tables.{Table, IsTable, IsFile}
+use Rattle.pf_machine.specs.Meaning.Blocks.{Bench, items_run, IsWithin}
+use Rattle.pf_machine.proofs.ByteLaws.{lane_at, get_or-lanes, length-lanes, length-packed, length-bytes}
+use Rattle.pf_machine.proofs.MemoryLaws.{image_bytes, overwritten, length-overwritten, overwritten-overwritten, take-drop-part, loaded-scratch}
+use Rattle.pf_rows.specs.Meaning.Scratch.{buffer_at}
+use Rattle.pf_rows.specs.Meaning.BlockRows.{IsBlockItem, StoresEach, start_of}
+use Rattle.pf_rows.specs.Steps.RowCode.{block_lines, next_at, narrow_at, back_at, scratch_lines, copy_turn, IsOne}
 use Rattle.pf_rows.proofs.Paths.{Stands, stands-front, stands-back, now, Comes, comes-on, comes-one}
 use Rattle.pf_rows.proofs.Pointers.{scratch_count, scratch_cheap, length-scratch_lines, comes-scratch}
 use Rattle.pf_rows.proofs.Cells.{part, length-part, part-within, Agree, agree-same, agree-before, agree-behind, cells-none, cells-joined, cells_of, length-cells_of}
@@ -44,7 +44,7 @@ pub record Finds (vector n : ℕ) (pictures : List Picture) (widths : List ℕ) 
   pub each : (k j : ℕ) → k < length widths → j < vector → x + j < n
       → part (get_or widths k 0 * j) (get_or widths k 0) (get_or blocks k []) ≡ part (place k + get_or widths k 0 * (x + j)) (get_or widths k 0) (image_bytes pictures (image k))
 
-module _ {I O : Type 0} (t : Table O) (is_op : O → Type 0) (laws : IsTable t is_op) (code : List (Line I O)) (labels : List Label) (pictures : List Picture) (at : Places) (entries widths : List ℕ) (width slots n scratch_size output_size row : ℕ) (image place : ℕ → ℕ) (placed : RowPlace t.vector pictures at entries widths width slots n scratch_size output_size row image place) (block : List (Item O)) (laid : Laid t code labels widths width block) (ones : All (IsOne is_op) block) (within : All (IsWithin t t.vectors slots) block) (steps : All (IsStep widths width) block) (stores : StoresEach width block) (narrow : n < t.vector) (some_pixel : 1 ≤ n) where
+module _ {I O : Type 0} (t : Table O) (is_op : O → Type 0) (laws : IsTable t is_op) (code : List (Line I O)) (labels : List Label) (pictures : List Picture) (at : Places) (entries widths : List ℕ) (width slots n scratch_size output_size row : ℕ) (image place : ℕ → ℕ) (placed : RowPlace t.vector pictures at entries widths width slots n scratch_size output_size row image place) (block : List (Item O)) (laid : Laid t code labels widths width block) (ones : All (IsOne is_op) block) (within : All (IsWithin t t.vectors slots) block) (steps : All (IsBlockItem widths width) block) (stores : StoresEach width block) (narrow : n < t.vector) (some_pixel : 1 ≤ n) where
   abbrev memo : List ℕ → List ℕ → List Region
   memo = mem t pictures at entries widths width slots n scratch_size output_size row image place placed
 

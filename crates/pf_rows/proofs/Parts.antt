@@ -4,13 +4,13 @@ use Rattle.std.specs.Prelude.{codes}
 use Rattle.std.specs.Str.{bytes_eq}
 use Rattle.std.proofs.lemmas.Bool.{false_from_ne_true}
 use Rattle.std.proofs.lemmas.Slice.Eq.{bytes_eq-Decides}
-use Rattle.pf_isa.specs.declared.code.Line.{Line}
-use Rattle.pf_isa.specs.declared.code.Label.{Label}
-use Rattle.pf_isa.specs.declared.block.Item.{Item}
-use Rattle.pf_isa.specs.Tables.{Table}
-use Rattle.pf_isa.specs.Steps.{place_of}
-use Rattle.pf_isa.proofs.StepLaws.{place_of-found, place_of-later}
-use Rattle.pf_rows.specs.RowCode.{begin_lines, block_lines, next_lines, tail_lines, last_lines, narrow_lines, back_lines, row_code, row_labels, copy_labels, copy_label, tap_copy, label, next_at, narrow_at, back_at}
+use Rattle.pf_machine.specs.declared.code.Line.{Line}
+use Rattle.pf_machine.specs.declared.code.Label.{Label}
+use Rattle.pf_machine.specs.declared.block.Item.{Item}
+use Rattle.pf_machine.specs.Meaning.Tables.{Table}
+use Rattle.pf_machine.specs.Meaning.MachineSteps.{place_of}
+use Rattle.pf_machine.proofs.StepLaws.{place_of-found, place_of-later}
+use Rattle.pf_rows.specs.Steps.RowCode.{begin_lines, block_lines, next_lines, tail_lines, last_lines, narrow_lines, back_lines, row_code, row_labels, copy_labels, copy_label, tap_copy, label, next_at, narrow_at, back_at}
 use Rattle.pf_rows.proofs.Paths.{Stands, stands-front, stands-back, stands-whole}
 use Rattle.pf_rows.proofs.Ways.{Laid, Copies}
 

@@ -1,13 +1,13 @@
 -- Instructions at a place in code, and a row that comes from one state to another.
 use Rattle.std.proofs.Common.{◌≡◌, ℕ, suc, ◌+◌, List, [], ◌∷◌, ◌++◌, length, Bool, Some, refl, arith, ap, subst, ◌∙◌, append_assoc, length-append}
 use Rattle.std.specs.Prelude.{slice_get}
-use Rattle.pf_isa.specs.declared.registers.RegFile.{RegFile}
-use Rattle.pf_isa.specs.declared.memory.Region.{Region}
-use Rattle.pf_isa.specs.declared.code.Line.{Line}
-use Rattle.pf_isa.specs.declared.code.Label.{Label}
-use Rattle.pf_isa.specs.Tables.{Table}
-use Rattle.pf_isa.specs.Steps.{State, Moved, run, step, line_step}
-use Rattle.pf_isa.proofs.StepLaws.{run_moved, slice_get-behind}
+use Rattle.pf_machine.specs.declared.registers.RegFile.{RegFile}
+use Rattle.pf_machine.specs.declared.memory.Region.{Region}
+use Rattle.pf_machine.specs.declared.code.Line.{Line}
+use Rattle.pf_machine.specs.declared.code.Label.{Label}
+use Rattle.pf_machine.specs.Meaning.Tables.{Table}
+use Rattle.pf_machine.specs.Meaning.MachineSteps.{State, Continues, run, step, line_step}
+use Rattle.pf_machine.proofs.StepLaws.{run_moved, slice_get-behind}
 
 -- the instructions stand in the code from this place on
 abbrev pub Stands : {A : Type 0} → List A → ℕ → List A → Type 0
@@ -48,7 +48,7 @@ module _ {I O : Type 0} (t : Table O) (code : List (Line I O)) (labels : List La
   comes-on c d r s q first second =
       record { by = λ m. let sum : c + d + m ≡ c + (d + m) = omega arith in ap (λ k. run t code labels k r) sum ∙ first.by (d + m) ∙ second.by m }
 
-  pub comes-one : (line : Line I O) (s next : State) → slice_get code s.at ≡ Some line → line_step t labels (length code) line s ≡ Moved next → Comes 1 s next
+  pub comes-one : (line : Line I O) (s next : State) → slice_get code s.at ≡ Some line → line_step t labels (length code) line s ≡ Continues next → Comes 1 s next
   comes-one line s next there moved =
-      let here : step t code labels s ≡ Moved next = rw there moved in
+      let here : step t code labels s ≡ Continues next = rw there moved in
       record { by = λ m. let sum : 1 + m ≡ suc m = omega arith in ap (λ k. run t code labels k s) sum ∙ run_moved t code labels m s next here }

@@ -3,18 +3,18 @@ use Rattle.std.proofs.Common.{◌≡◌, ℕ, zero, suc, ◌+◌, ◌-◌, ◌*�
 use Rattle.std.specs.Prelude.{slice_get}
 use Rattle.std.proofs.Math.Nat.{mul-le-mul_right}
 use Rattle.std.proofs.lemmas.Bool.{lt-ltb, le-ltb}
-use Rattle.pf_isa.specs.declared.registers.RegFile.{RegFile}
-use Rattle.pf_isa.specs.declared.memory.Region.{Region}
-use Rattle.pf_isa.specs.declared.control.Control.TheVariants.{StorePtr, AddImm, LoadByte, LoadHalf, StoreByte, StoreHalf, Compare, Below}
-use Rattle.pf_isa.specs.declared.code.Line.{Line}
-use Rattle.pf_isa.specs.declared.code.Line.TheVariants.{Control as Controls}
-use Rattle.pf_isa.specs.declared.code.Label.{Label}
-use Rattle.pf_isa.specs.Bytes.{number, bytes}
-use Rattle.pf_isa.specs.Memory.{loaded, stored}
-use Rattle.pf_isa.specs.Tables.{Table}
-use Rattle.pf_isa.specs.Steps.{wrapped, pointer_bytes, place_of}
-use Rattle.pf_isa.proofs.StepLaws.{wrapped_small}
-use Rattle.pf_rows.specs.RowCode.{pixel_lines, load_value, store_value, copy_turn}
+use Rattle.pf_machine.specs.declared.registers.RegFile.{RegFile}
+use Rattle.pf_machine.specs.declared.memory.Region.{Region}
+use Rattle.pf_machine.specs.declared.control.Control.TheVariants.{StorePtr, AddImm, LoadByte, LoadHalf, StoreByte, StoreHalf, Compare, Below}
+use Rattle.pf_machine.specs.declared.code.Line.{Line}
+use Rattle.pf_machine.specs.declared.code.Line.TheVariants.{Control as Controls}
+use Rattle.pf_machine.specs.declared.code.Label.{Label}
+use Rattle.pf_machine.specs.Meaning.Bytes.{number, bytes}
+use Rattle.pf_machine.specs.Meaning.Memory.{loaded, stored}
+use Rattle.pf_machine.specs.Meaning.Tables.{Table}
+use Rattle.pf_machine.specs.Meaning.MachineSteps.{register_wrapped, pointer_bytes, place_of}
+use Rattle.pf_machine.proofs.StepLaws.{wrapped_small}
+use Rattle.pf_rows.specs.Steps.RowCode.{pixel_lines, load_value, store_value, copy_turn}
 use Rattle.pf_rows.proofs.Paths.{Stands, stands-front, stands-back, now, Comes, comes-on, comes-one}
 use Rattle.pf_rows.proofs.Pointers.{length-pixel_lines, comes-pixels}
 
@@ -70,7 +70,7 @@ module _ {I O : Type 0} (t : Table O) (code : List (Line I O)) (labels : List La
   pub pointer_stored : (k a tb n s x u p v e : ℕ) (flag : Bool) (f : RegFile) (rs next : List Region) → s + 8 * k < 2 ^ 32 → slice_get code a ≡ Some (Controls (StorePtr 2 k 7)) → stored rs (s + 8 * k) (bytes (pointer_bytes t.target) e) ≡ Some next
       → Comes t code labels 1 (now a (tb ∷ n ∷ s ∷ x ∷ u ∷ p ∷ v ∷ e ∷ []) flag f rs) (now (a + 1) (tb ∷ n ∷ s ∷ x ∷ u ∷ p ∷ v ∷ e ∷ []) flag f next)
   pointer_stored k a tb n s x u p v e flag f rs next low there store =
-      let small : wrapped t.target (s + 8 * k) ≡ s + 8 * k = wrapped_small t.target (s + 8 * k) low in
+      let small : register_wrapped t.target (s + 8 * k) ≡ s + 8 * k = wrapped_small t.target (s + 8 * k) low in
       comes-one t code labels (Controls (StorePtr 2 k 7)) _ _ there (rw (small, store) refl)
 
   -- A loop that copies n pixels of so many bytes from one address to another: memory before and after each, and the instructions that set p and e.
@@ -120,7 +120,7 @@ module _ {I O : Type 0} (t : Table O) (code : List (Line I O)) (labels : List La
         let four = copy.sets_e x (source + x * width) (number (held x)) e flag inside in
         let five = comes-pixels t code labels width (a + lf + width + 1 + lt) 7 target x (tb ∷ n ∷ s ∷ x ∷ u ∷ (source + x * width) ∷ number (held x) ∷ target ∷ []) flag f (rs x) at5_front (omega arith) (omega arith) refl refl (omega arith) in
         let six = value_stored width (a + lf + width + 1 + lt + width) tb n s x u (source + x * width) (number (held x)) (target + x * width) flag f (rs x) (rs (suc x)) copy.some copy.few at6.0 (copy.store x inside) in
-        let next : wrapped t.target (x + 1) ≡ x + 1 = wrapped_small t.target (x + 1) (omega arith) in
+        let next : register_wrapped t.target (x + 1) ≡ x + 1 = wrapped_small t.target (x + 1) (omega arith) in
         let base = a + lf + width + 1 + lt + width + 1 in
         let seven : Comes t code labels 1 (now base (tb ∷ n ∷ s ∷ x ∷ u ∷ (source + x * width) ∷ number (held x) ∷ (target + x * width) ∷ []) flag f (rs (suc x))) (now (base + 1) (tb ∷ n ∷ s ∷ (x + 1) ∷ u ∷ (source + x * width) ∷ number (held x) ∷ (target + x * width) ∷ []) flag f (rs (suc x))) =
         comes-one t code labels (Controls (AddImm 3 3 false 1)) _ _ at6.1.0 (rw next refl) in

@@ -7,25 +7,25 @@ use Rattle.std.proofs.lemmas.Nat.{column_fits, mul-le}
 use Rattle.std.proofs.lemmas.List.{get_or_at, get_or-map, length-map, get_or_append_left, get_or-append-add}
 use Rattle.std.proofs.lemmas.List.Elements.{All-get_or, All-weaker, All-map}
 use Rattle.std.proofs.lemmas.Slice.Zip.{get_or-zip, length-zip}
-use Rattle.pf_ints.specs.Images.{Picture, IsPicture, IsPixelType}
-use Rattle.pf_ints.specs.Lanes.{bit_count}
+use Rattle.pf_ints.specs.Meaning.Images.{Picture, IsPicture, IsPixelType}
+use Rattle.pf_ints.specs.Meaning.Lanes.{bit_count}
 use Rattle.pf_ints.specs.declared.lane.LaneType.{LaneType}
 use Rattle.pf_ints.specs.declared.lane.Bits.{Bits}
 use Rattle.pf_ints.specs.declared.lane.Bits.TheVariants.{Eight, Sixteen, ThirtyTwo}
-use Rattle.pf_terms.specs.declared.names.Tap.{Tap}
-use Rattle.pf_terms.specs.TermTexts.{no_tap}
-use Rattle.pf_terms.specs.Kernels.{Source, Keeps, KeepsRange, no_picture, width_of, height_of, out_width, out_height, tap_column, tap_row}
-use Rattle.pf_isa.specs.declared.program.Head.{Head}
-use Rattle.pf_isa.specs.declared.memory.Region.{Region}
-use Rattle.pf_isa.specs.Bytes.{bytes, packed}
-use Rattle.pf_isa.specs.Memory.{nowhere}
-use Rattle.pf_isa.specs.Heads.{IsHead, IsDecl, IsTap}
-use Rattle.pf_isa.specs.Runs.{Places, IsPlaced, pixel_bytes, columns, rows, tap_address, row_entries, memory, output_size}
-use Rattle.pf_isa.proofs.MemoryLaws.{image_bytes, memory-image, memory-output, output_place, length-memory, length-image_regions}
-use Rattle.pf_isa.proofs.RowLaws.{row_apart, row_low, length-row_entries, placed_kept, output_in_rows}
-use Rattle.pf_isa.proofs.ByteLaws.{length-packed, lane_at}
-use Rattle.pf_rows.specs.Scratch.{scratch_bytes}
-use Rattle.pf_rows.specs.BlockRows.{no_decl, tap_widths, tap_pixel}
+use Rattle.pf_values.specs.declared.names.Tap.{Tap}
+use Rattle.pf_values.specs.Meaning.NamedTerms.{no_tap}
+use Rattle.pf_values.specs.Meaning.Kernels.{Source, Keeps, KeepsRange, no_picture, width_of, height_of, out_width, out_height, tap_column, tap_row, no_decl}
+use Rattle.pf_machine.specs.declared.program.Head.{Head}
+use Rattle.pf_machine.specs.declared.memory.Region.{Region}
+use Rattle.pf_machine.specs.Meaning.Bytes.{bytes, packed}
+use Rattle.pf_machine.specs.Meaning.Memory.{nowhere}
+use Rattle.pf_machine.specs.Meaning.Heads.{IsHead, IsDecl, IsTap}
+use Rattle.pf_machine.specs.Meaning.Runs.{Places, IsPlaced, pixel_bytes, columns, rows, tap_address, row_entries, memory, output_size}
+use Rattle.pf_machine.proofs.MemoryLaws.{image_bytes, memory-image, memory-output, output_place, length-memory, length-image_regions}
+use Rattle.pf_machine.proofs.RowLaws.{row_apart, row_low, length-row_entries, placed_kept, output_in_rows}
+use Rattle.pf_machine.proofs.ByteLaws.{length-packed, lane_at}
+use Rattle.pf_rows.specs.Meaning.Scratch.{scratch_bytes}
+use Rattle.pf_rows.specs.Meaning.BlockRows.{tap_widths, tap_pixel}
 use Rattle.pf_rows.proofs.Cells.{part}
 use Rattle.pf_rows.proofs.Taps.{columns_at, columns_fit, rows_fit}
 use Rattle.pf_rows.proofs.RowPlaces.{RowPlace}

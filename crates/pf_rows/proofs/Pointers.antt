@@ -2,16 +2,16 @@
 use Rattle.std.proofs.Common.{◌≡◌, ◌≢◌, ℕ, zero, suc, ◌+◌, ◌*◌, ◌/◌, ◌%◌, ◌^◌, ◌<◌, ◌≤◌, List, [], ◌∷◌, length, set, get_or, Bool, false, Some, refl, arith, ap, sym, subst, ◌∙◌, length-append}
 use Rattle.std.specs.Prelude.{slice_get, replicate}
 use Rattle.std.proofs.lemmas.List.{set-set, set-get_or, get_or-set_same, get_or-set_other, length-set, length-replicate}
-use Rattle.pf_isa.specs.declared.registers.RegFile.{RegFile}
-use Rattle.pf_isa.specs.declared.memory.Region.{Region}
-use Rattle.pf_isa.specs.declared.control.Control.TheVariants.{AddImm, AddReg}
-use Rattle.pf_isa.specs.declared.code.Line.{Line}
-use Rattle.pf_isa.specs.declared.code.Line.TheVariants.{Control as Controls}
-use Rattle.pf_isa.specs.declared.code.Label.{Label}
-use Rattle.pf_isa.specs.Tables.{Table}
-use Rattle.pf_isa.specs.Steps.{wrapped}
-use Rattle.pf_isa.proofs.StepLaws.{wrapped_small}
-use Rattle.pf_rows.specs.RowCode.{pixel_lines, last_pages, scratch_lines}
+use Rattle.pf_machine.specs.declared.registers.RegFile.{RegFile}
+use Rattle.pf_machine.specs.declared.memory.Region.{Region}
+use Rattle.pf_machine.specs.declared.control.Control.TheVariants.{AddImm, AddReg}
+use Rattle.pf_machine.specs.declared.code.Line.{Line}
+use Rattle.pf_machine.specs.declared.code.Line.TheVariants.{Control as Controls}
+use Rattle.pf_machine.specs.declared.code.Label.{Label}
+use Rattle.pf_machine.specs.Meaning.Tables.{Table}
+use Rattle.pf_machine.specs.Meaning.MachineSteps.{register_wrapped}
+use Rattle.pf_machine.proofs.StepLaws.{wrapped_small}
+use Rattle.pf_rows.specs.Steps.RowCode.{pixel_lines, last_pages, scratch_lines}
 use Rattle.pf_rows.proofs.Paths.{Stands, stands-front, stands-back, now, Comes, comes-none, comes-on, comes-one}
 
 pub length-pixel_lines : (I O : Type 0) (r width : ℕ) → length (pixel_lines {I = I} {O = O} r width) ≡ width
@@ -48,7 +48,7 @@ module _ {I O : Type 0} (t : Table O) (code : List (Line I O)) (labels : List La
   adds : (a r by base : ℕ) (g : List ℕ) (flag : Bool) (f : RegFile) (rs : List Region) → slice_get code a ≡ Some (Controls (AddImm r r false by)) → get_or g r 0 ≡ base → base + by < 2 ^ 32
       → Comes t code labels 1 (now a g flag f rs) (now (a + 1) (set g r (base + by)) flag f rs)
   adds a r by base g flag f rs there held small =
-      let sum : wrapped t.target (get_or g r 0 + by) ≡ base + by = ap (λ b. wrapped t.target (b + by)) held ∙ wrapped_small t.target (base + by) small in
+      let sum : register_wrapped t.target (get_or g r 0 + by) ≡ base + by = ap (λ b. register_wrapped t.target (b + by)) held ∙ wrapped_small t.target (base + by) small in
       comes-one t code labels (Controls (AddImm r r false by)) (now a g flag f rs) (now (a + 1) (set g r (base + by)) flag f rs) there (rw sum refl)
 
   -- the register goes on by x pixels
@@ -61,7 +61,7 @@ module _ {I O : Type 0} (t : Table O) (code : List (Line I O)) (labels : List La
       rw (here, sum, same) (comes-none t code labels (now a g flag f rs))
   comes-pixels (suc width) a r base x g flag f rs there other inside held pixel small =
       let part : x * suc width ≡ x + x * width = omega arith in
-      let sum : wrapped t.target (get_or g r 0 + get_or g 3 0) ≡ base + x = ap (λ b. wrapped t.target (b + get_or g 3 0)) held ∙ ap (λ b. wrapped t.target (base + b)) pixel ∙ wrapped_small t.target (base + x) (omega arith) in
+      let sum : register_wrapped t.target (get_or g r 0 + get_or g 3 0) ≡ base + x = ap (λ b. register_wrapped t.target (b + get_or g 3 0)) held ∙ ap (λ b. register_wrapped t.target (base + b)) pixel ∙ wrapped_small t.target (base + x) (omega arith) in
       let one : Comes t code labels 1 (now a g flag f rs) (now (a + 1) (set g r (base + x)) flag f rs) = comes-one t code labels (Controls (AddReg r r 3)) (now a g flag f rs) (now (a + 1) (set g r (base + x)) flag f rs) there.0 (rw sum refl) in
       let rest = comes-pixels width (a + 1) r (base + x) x (set g r (base + x)) flag f rs there.1 other (rw length-set inside) (get_or-set_same g r (base + x) 0 inside)
       (get_or-set_other g r 3 (base + x) 0 (λ same. other (sym same)) ∙ pixel) (omega arith) in
@@ -116,7 +116,7 @@ module _ {I O : Type 0} (t : Table O) (code : List (Line I O)) (labels : List La
       let front : List (Line I O) = replicate many (Controls (AddImm r r false 16773120)) in
       let last : List (Line I O) = last_pages r left in
       let split : offset ≡ low + (16773120 * many + 4096 * left) = omega arith in
-      let sum : wrapped t.target (get_or g 2 0 + low) ≡ scratch + low = ap (λ b. wrapped t.target (b + low)) held ∙ wrapped_small t.target (scratch + low) (omega arith) in
+      let sum : register_wrapped t.target (get_or g 2 0 + low) ≡ scratch + low = ap (λ b. register_wrapped t.target (b + low)) held ∙ wrapped_small t.target (scratch + low) (omega arith) in
       let g' = set g r (scratch + low) in
       let inside' : r < length g' = rw length-set inside in
       let g'' = set g' r (scratch + low + 16773120 * many) in

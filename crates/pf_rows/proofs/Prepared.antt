@@ -4,23 +4,23 @@ use Rattle.std.specs.Prelude.{codes}
 use Rattle.std.proofs.lemmas.List.{take_all, length-take-le}
 use Rattle.std.proofs.lemmas.List.Elements.{All-get_or}
 use Rattle.std.proofs.lemmas.Bool.{cases_lt}
-use Rattle.pf_ints.specs.Images.{Picture}
-use Rattle.pf_isa.specs.declared.registers.RegFile.{RegFile}
-use Rattle.pf_isa.specs.declared.memory.Region.{Region}
-use Rattle.pf_isa.specs.declared.control.Control.TheVariants.{StorePtr, Imm, AddImm, Jump}
-use Rattle.pf_isa.specs.declared.code.Line.{Line}
-use Rattle.pf_isa.specs.declared.code.Line.TheVariants.{Control as Controls}
-use Rattle.pf_isa.specs.declared.code.Label.{Label}
-use Rattle.pf_isa.specs.Bytes.{bytes, packed}
-use Rattle.pf_isa.specs.Memory.{stored}
-use Rattle.pf_isa.specs.Runs.{Places}
-use Rattle.pf_isa.specs.Tables.{Table}
-use Rattle.pf_isa.specs.Steps.{wrapped, pointer_bytes, place_of}
-use Rattle.pf_isa.proofs.ByteLaws.{length-bytes}
-use Rattle.pf_isa.proofs.MemoryLaws.{image_bytes, overwritten, length-overwritten, stored-scratch}
-use Rattle.pf_isa.proofs.StepLaws.{wrapped_small}
-use Rattle.pf_rows.specs.Scratch.{buffer_at}
-use Rattle.pf_rows.specs.RowCode.{scratch_lines, tap_copy, tap_copies, narrow_lines}
+use Rattle.pf_ints.specs.Meaning.Images.{Picture}
+use Rattle.pf_machine.specs.declared.registers.RegFile.{RegFile}
+use Rattle.pf_machine.specs.declared.memory.Region.{Region}
+use Rattle.pf_machine.specs.declared.control.Control.TheVariants.{StorePtr, Imm, AddImm, Jump}
+use Rattle.pf_machine.specs.declared.code.Line.{Line}
+use Rattle.pf_machine.specs.declared.code.Line.TheVariants.{Control as Controls}
+use Rattle.pf_machine.specs.declared.code.Label.{Label}
+use Rattle.pf_machine.specs.Meaning.Bytes.{bytes, packed}
+use Rattle.pf_machine.specs.Meaning.Memory.{stored}
+use Rattle.pf_machine.specs.Meaning.Runs.{Places}
+use Rattle.pf_machine.specs.Meaning.Tables.{Table}
+use Rattle.pf_machine.specs.Meaning.MachineSteps.{register_wrapped, pointer_bytes, place_of}
+use Rattle.pf_machine.proofs.ByteLaws.{length-bytes}
+use Rattle.pf_machine.proofs.MemoryLaws.{image_bytes, overwritten, length-overwritten, stored-scratch}
+use Rattle.pf_machine.proofs.StepLaws.{wrapped_small}
+use Rattle.pf_rows.specs.Meaning.Scratch.{buffer_at}
+use Rattle.pf_rows.specs.Steps.RowCode.{scratch_lines, tap_copy, tap_copies, narrow_lines}
 use Rattle.pf_rows.proofs.Paths.{Stands, stands-front, stands-back, now, Comes, comes-none, comes-on, comes-one}
 use Rattle.pf_rows.proofs.Pointers.{scratch_count, scratch_cheap, length-scratch_lines, comes-scratch}
 use Rattle.pf_rows.proofs.Cells.{part, length-part, part-before, part-behind, part-within}
@@ -191,7 +191,7 @@ module _ {I O : Type 0} (t : Table O) (code : List (Line I O)) (labels : List La
       }
 
   -- t becomes the scratch, and the block begins
-  over_scratch : (a tb n s x u p v e : ℕ) (flag : Bool) (f : RegFile) (rs : List Region) → Stands code a (Controls (AddImm 0 2 false 0) ∷ Controls (Imm 3 0) ∷ Controls (Jump (codes "block")) ∷ []) → wrapped t.target (s + 0) ≡ s → place_of labels (length code) (codes "block") ≡ 7
+  over_scratch : (a tb n s x u p v e : ℕ) (flag : Bool) (f : RegFile) (rs : List Region) → Stands code a (Controls (AddImm 0 2 false 0) ∷ Controls (Imm 3 0) ∷ Controls (Jump (codes "block")) ∷ []) → register_wrapped t.target (s + 0) ≡ s → place_of labels (length code) (codes "block") ≡ 7
       → Comes t code labels 3 (now a (tb ∷ n ∷ s ∷ x ∷ u ∷ p ∷ v ∷ e ∷ []) flag f rs) (now 7 (s ∷ n ∷ s ∷ 0 ∷ u ∷ p ∷ v ∷ e ∷ []) flag f rs)
   over_scratch a tb n s x u p v e flag f rs there same to_block =
       let one : Comes t code labels 1 (now a (tb ∷ n ∷ s ∷ x ∷ u ∷ p ∷ v ∷ e ∷ []) flag f rs) (now (a + 1) (s ∷ n ∷ s ∷ x ∷ u ∷ p ∷ v ∷ e ∷ []) flag f rs) = comes-one t code labels (Controls (AddImm 0 2 false 0)) _ _ there.0 (rw same refl) in
@@ -243,7 +243,7 @@ module _ {I O : Type 0} (t : Table O) (code : List (Line I O)) (labels : List La
       let put : stored (memo copies.left output) (at.scratch + 8 * taps) pointer ≡ Some (memo after output) =
       stored-scratch pictures at (packed 8 entries) copies.left output (placed.apart copies.left output left_long output_long) (8 * taps) pointer (omega arith) (omega arith) in
       let three = pointer_stored t code labels taps (b + many) at.table n at.scratch copies.x' at.table copies.p' copies.v' (at.scratch + offset) copies.flag' f (memo copies.left output) (memo after output) (omega arith) at_end.0 put in
-      let base : wrapped t.target (at.scratch + 0) ≡ at.scratch = let zeroth : at.scratch + 0 ≡ at.scratch = omega arith in ap (λ m. wrapped t.target m) zeroth ∙ wrapped_small t.target at.scratch (omega arith) in
+      let base : register_wrapped t.target (at.scratch + 0) ≡ at.scratch = let zeroth : at.scratch + 0 ≡ at.scratch = omega arith in ap (λ m. register_wrapped t.target m) zeroth ∙ wrapped_small t.target at.scratch (omega arith) in
       let four = over_scratch (b + many + 1) at.table n at.scratch copies.x' at.table copies.p' copies.v' (at.scratch + offset) copies.flag' f (memo after output) at_end.1 base to_block in
       let all = comes-on t code labels copies.count (many + (1 + 3)) _ _ _ copies.comes (comes-on t code labels many (1 + 3) _ _ _ two (comes-on t code labels 1 3 _ _ _ three four)) in
       let low_buffer = buffer_low t.vector taps taps most few (omega arith) in

@@ -1,22 +1,21 @@
 -- Where a row's taps, output and scratch are in memory.
-use Rattle.std.proofs.Common.{◌≡◌, ℕ, ◌+◌, ◌*◌, ◌^◌, ◌<◌, ◌≤◌, List, [], length, take, drop, set, get_or, All, Some, arith, ap, sym, ◌∙◌}
+use Rattle.std.proofs.Common.{◌≡◌, ℕ, ◌+◌, ◌*◌, ◌^◌, ◌<◌, ◌≤◌, List, [], length, take, drop, set, get_or, All, Some, arith, ap, sym, ◌∙◌, ⊎_elim}
 use Rattle.std.specs.List.{AllPairs}
 use Rattle.std.proofs.Math.Nat.{mul_comm, mul-add, mul-le-mul_left}
 use Rattle.std.proofs.lemmas.List.{take-take, get_or-set_same, get_or-set_other, length-set}
 use Rattle.std.proofs.lemmas.Bool.{cases_eq}
-use Rattle.std.proofs.Common.{⊎_elim}
-use Rattle.pf_ints.specs.Images.{Picture}
+use Rattle.pf_ints.specs.Meaning.Images.{Picture}
 use Rattle.pf_ints.specs.declared.target.Target.{Target}
 use Rattle.pf_ints.specs.declared.target.Target.TheVariants.{Neon, Avx2, Hvx}
-use Rattle.pf_isa.specs.declared.memory.Region.{Region}
-use Rattle.pf_isa.specs.Bytes.{number, bytes, packed}
-use Rattle.pf_isa.specs.Memory.{Apart, loaded, stored}
-use Rattle.pf_isa.specs.Steps.{wrapped, pointer_bytes}
-use Rattle.pf_isa.specs.Runs.{Places, memory}
-use Rattle.pf_isa.proofs.ByteLaws.{entry_at, length-packed, number-bytes, take-bytes}
-use Rattle.pf_isa.proofs.MemoryLaws.{image_bytes, overwritten, length-overwritten, loaded-table, loaded-image, loaded-scratch, stored-scratch, stored-output}
-use Rattle.pf_isa.proofs.StepLaws.{wrapped_small}
-use Rattle.pf_rows.specs.Scratch.{buffer_at, slot_at, scratch_bytes}
+use Rattle.pf_machine.specs.declared.memory.Region.{Region}
+use Rattle.pf_machine.specs.Meaning.Bytes.{number, bytes, packed}
+use Rattle.pf_machine.specs.Meaning.Memory.{Apart, loaded, stored}
+use Rattle.pf_machine.specs.Meaning.MachineSteps.{register_wrapped, pointer_bytes}
+use Rattle.pf_machine.specs.Meaning.Runs.{Places, memory}
+use Rattle.pf_machine.proofs.ByteLaws.{entry_at, length-packed, number-bytes, take-bytes}
+use Rattle.pf_machine.proofs.MemoryLaws.{image_bytes, overwritten, length-overwritten, loaded-table, loaded-image, loaded-scratch, stored-scratch, stored-output}
+use Rattle.pf_machine.proofs.StepLaws.{wrapped_small}
+use Rattle.pf_rows.specs.Meaning.Scratch.{buffer_at, slot_at, scratch_bytes}
 use Rattle.pf_rows.proofs.Cells.{part, Agree, Cells, cells-agree, cells-set}
 
 -- A row of n pixels: its table, where its taps lie in their images, its place in the output, and the scratch.
@@ -77,16 +76,16 @@ module _ (vector : ℕ) (pictures : List Picture) (at : Places) (entries widths 
 
   -- an entry of the row's table
   pub entry-given : (target : Target) (k : ℕ) (scratch output : List ℕ) → k < length entries → get_or entries k 0 < 2 ^ 32 → length scratch ≡ scratch_size → length output ≡ output_size
-      → (held : List ℕ) × (loaded (holding scratch output) (wrapped target (at.table + 8 * k)) (pointer_bytes target) ≡ Some held) × (number held ≡ get_or entries k 0)
+      → (held : List ℕ) × (loaded (holding scratch output) (register_wrapped target (at.table + 8 * k)) (pointer_bytes target) ≡ Some held) × (number held ≡ get_or entries k 0)
   entry-given target k scratch output inside small kept out =
       let size = placed.size in
       let low = placed.table_low in
       let long : length (packed 8 entries) ≡ 8 * length entries = length-packed 8 entries in
       let some = some-pointer target in
       let most = most-pointer target in
-      let address : wrapped target (at.table + 8 * k) ≡ at.table + 8 * k = wrapped_small target (at.table + 8 * k) (omega arith) in
+      let address : register_wrapped target (at.table + 8 * k) ≡ at.table + 8 * k = wrapped_small target (at.table + 8 * k) (omega arith) in
       let held = take (pointer_bytes target) (drop (8 * k) (packed 8 entries)) in
-      let load : loaded (holding scratch output) (wrapped target (at.table + 8 * k)) (pointer_bytes target) ≡ Some held =
+      let load : loaded (holding scratch output) (register_wrapped target (at.table + 8 * k)) (pointer_bytes target) ≡ Some held =
       ap (λ a. loaded (holding scratch output) a (pointer_bytes target)) address ∙ loaded-table pictures at (packed 8 entries) scratch output (placed.apart scratch output kept out) (8 * k) (pointer_bytes target) some (omega arith) in
       (held, load, number-entry target entries k inside small)
 

@@ -3,21 +3,22 @@ use Rattle.std.proofs.Common.{◌≡◌, ℕ, ◌+◌, ◌*◌, ◌^◌, ◌<◌
 use Rattle.std.specs.Prelude.{codes}
 use Rattle.std.proofs.lemmas.List.{length-map}
 use Rattle.std.proofs.lemmas.List.Elements.{All-get_or, All-weaker, All-map}
-use Rattle.pf_terms.specs.declared.names.Tap.{Tap}
-use Rattle.pf_isa.specs.declared.code.Line.{Line}
-use Rattle.pf_isa.specs.declared.code.Label.{Label}
-use Rattle.pf_isa.specs.declared.block.Item.{Item}
-use Rattle.pf_isa.specs.declared.block.Item.TheVariants.{Vector as Operation, TapLoad, OutStore, SlotLoad, SlotStore}
-use Rattle.pf_isa.specs.Blocks.{IsWithin}
-use Rattle.pf_isa.specs.declared.program.Head.{Head}
-use Rattle.pf_isa.specs.Heads.{IsHead, IsDecl, IsTap}
-use Rattle.pf_isa.specs.Moved.{Moved, Work}
-use Rattle.pf_isa.specs.Programs.{IsProgram, Text}
-use Rattle.pf_isa.specs.Runs.{pixel_bytes}
-use Rattle.pf_isa.specs.Tables.{Table, IsTable}
-use Rattle.pf_rows.specs.Scratch.{slot_at}
-use Rattle.pf_rows.specs.BlockRows.{no_decl, tap_widths, IsRowBlock, block_cost}
-use Rattle.pf_rows.specs.RowCode.{begin_lines, block_lines, next_lines, tail_lines, last_lines, narrow_lines, row_code, row_labels, copy_labels, label, next_at, back_at, row_text, IsNear, IsPixel}
+use Rattle.pf_values.specs.declared.names.Tap.{Tap}
+use Rattle.pf_machine.specs.declared.code.Line.{Line}
+use Rattle.pf_machine.specs.declared.code.Label.{Label}
+use Rattle.pf_machine.specs.declared.block.Item.{Item}
+use Rattle.pf_machine.specs.declared.block.Item.TheVariants.{Vector as Operation, TapLoad, OutStore, SlotLoad, SlotStore}
+use Rattle.pf_machine.specs.Meaning.Blocks.{IsWithin}
+use Rattle.pf_machine.specs.declared.program.Head.{Head}
+use Rattle.pf_machine.specs.Meaning.Heads.{IsHead, IsDecl, IsTap}
+use Rattle.pf_machine.specs.Meaning.Moved.{Moved, Work}
+use Rattle.pf_machine.specs.Meaning.Programs.{IsProgram, ProgramOf}
+use Rattle.pf_machine.specs.Meaning.Runs.{pixel_bytes}
+use Rattle.pf_machine.specs.Meaning.Tables.{Table, IsTable}
+use Rattle.pf_rows.specs.Meaning.Scratch.{slot_at}
+use Rattle.pf_rows.specs.Meaning.BlockRows.{tap_widths, IsRowBlock, block_cost}
+use Rattle.pf_values.specs.Meaning.Kernels.{no_decl}
+use Rattle.pf_rows.specs.Steps.RowCode.{begin_lines, block_lines, next_lines, tail_lines, last_lines, narrow_lines, row_code, row_labels, copy_labels, label, next_at, back_at, row_text, SlotEndsBelow, IsPixel}
 use Rattle.pf_rows.proofs.RowPlaces.{span}
 use Rattle.pf_rows.proofs.Placed.{pixel_one_or_two}
 use Rattle.pf_rows.proofs.Moves.{row_moved}
@@ -123,7 +124,7 @@ module _ (I O : Type 0) (t : Table O) (widths : List ℕ) (width : ℕ) (block :
 
 -- What the parts of a row's code ask of the block
 
-near_item : {O : Type 0} (t : Table O) (vector taps slots : ℕ) (item : Item O) → slot_at vector taps slots ≤ 2 ^ 30 → IsWithin t t.vectors slots item → IsNear vector taps (2 ^ 30) item
+near_item : {O : Type 0} (t : Table O) (vector taps slots : ℕ) (item : Item O) → slot_at vector taps slots ≤ 2 ^ 30 → IsWithin t t.vectors slots item → SlotEndsBelow vector taps (2 ^ 30) item
 near_item t vector taps slots (Operation op) low within = tt
 near_item t vector taps slots (TapLoad to tap part) low within = tt
 near_item t vector taps slots (OutStore from part) low within = tt
@@ -136,14 +137,14 @@ near_item t vector taps slots (SlotStore from slot) low within =
     let room : vector * slot + vector * 1 ≤ vector * slots = span vector slot 1 slots (omega arith) in
     omega arith
 
-pub near_block : {O : Type 0} (t : Table O) (h : Head) (slots : ℕ) (block : List (Item O)) → IsRowBlock t h slots block → (widths : List ℕ) → widths ≡ tap_widths h → All (λ i. IsNear t.vector (length widths) (2 ^ 30) i) block
+pub near_block : {O : Type 0} (t : Table O) (h : Head) (slots : ℕ) (block : List (Item O)) → IsRowBlock t h slots block → (widths : List ℕ) → widths ≡ tap_widths h → All (λ i. SlotEndsBelow t.vector (length widths) (2 ^ 30) i) block
 near_block t h slots block fit widths same =
     let clean = fit.clean in
     let head = fit.head in
     let low = head.scratch in
     let count : length widths ≡ length h.taps = ap length same ∙ widths_count h in
     let room : slot_at t.vector (length widths) slots ≤ 2 ^ 30 = subst (λ c. slot_at t.vector c slots ≤ 2 ^ 30) (sym count) (subst (λ s. s ≤ 2 ^ 30) fit.scratch low) in
-    All-weaker (IsWithin t t.vectors slots) (λ i. IsNear t.vector (length widths) (2 ^ 30) i) (λ i within. near_item t t.vector (length widths) slots i room within) block clean.within
+    All-weaker (IsWithin t t.vectors slots) (λ i. SlotEndsBelow t.vector (length widths) (2 ^ 30) i) (λ i within. near_item t t.vector (length widths) slots i room within) block clean.within
 
 pub widths_pixels : (h : Head) → IsHead h → (widths : List ℕ) → widths ≡ tap_widths h → All IsPixel widths
 widths_pixels h is widths same =
@@ -154,7 +155,7 @@ widths_pixels h is widths same =
 
 -- The whole text
 
-abbrev pub text_of : {I O : Type 0} → Head → List (Line I O) → List Label → Text I O
+abbrev pub text_of : {I O : Type 0} → Head → List (Line I O) → List Label → ProgramOf I O
 text_of head code labels = record { head = head; code = code; labels = labels }
 
 pub text_is : (I O : Type 0) (t : Table O) (h : Head) (block : List (Item O)) (widths : List ℕ) (width : ℕ) (code : List (Line I O)) (labels : List Label) → code ≡ row_code t widths width block → labels ≡ row_labels I t widths width block → widths ≡ tap_widths h → width ≡ pixel_bytes h.out_ty → text_of h code labels ≡ row_text I t h block

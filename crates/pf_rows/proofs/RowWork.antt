@@ -4,16 +4,16 @@ use Rattle.std.specs.Prelude.{codes, replicate}
 use Rattle.std.specs.List.{sum_by}
 use Rattle.std.proofs.lemmas.List.Sums.{sum-map, sum_by-append, sum_by-cons}
 use Rattle.std.proofs.lemmas.List.Elements.{All-head, All-tail, All-get_or}
-use Rattle.pf_isa.specs.declared.control.Control.TheVariants.{LoadPtr, StorePtr, Imm, AddImm, Compare, Below, Jump, Return}
-use Rattle.pf_isa.specs.declared.code.Line.{Line}
-use Rattle.pf_isa.specs.declared.code.Line.TheVariants.{Vector, Control as Controls}
-use Rattle.pf_isa.specs.declared.block.Item.{Item}
-use Rattle.pf_isa.specs.declared.block.Item.TheVariants.{Vector as Operation, TapLoad, OutStore, SlotLoad, SlotStore}
-use Rattle.pf_isa.specs.Tables.{Table, IsTable}
-use Rattle.pf_isa.specs.Moved.{Work, line_cost}
-use Rattle.pf_rows.specs.Scratch.{slot_at, buffer_at}
-use Rattle.pf_rows.specs.BlockRows.{IsStep, item_cost, block_cost}
-use Rattle.pf_rows.specs.RowCode.{begin_lines, pixel_lines, last_pages, scratch_lines, item_lines, block_lines, next_lines, tail_lines, last_lines, load_value, store_value, copy_turn, copy_label, tap_copy, tap_copies, narrow_lines, back_lines, row_code}
+use Rattle.pf_machine.specs.declared.control.Control.TheVariants.{LoadPtr, StorePtr, Imm, AddImm, Compare, Below, Jump, Return}
+use Rattle.pf_machine.specs.declared.code.Line.{Line}
+use Rattle.pf_machine.specs.declared.code.Line.TheVariants.{Vector, Control as Controls}
+use Rattle.pf_machine.specs.declared.block.Item.{Item}
+use Rattle.pf_machine.specs.declared.block.Item.TheVariants.{Vector as Operation, TapLoad, OutStore, SlotLoad, SlotStore}
+use Rattle.pf_machine.specs.Meaning.Tables.{Table, IsTable}
+use Rattle.pf_machine.specs.Meaning.Moved.{Work, line_cost}
+use Rattle.pf_rows.specs.Meaning.Scratch.{slot_at, buffer_at}
+use Rattle.pf_rows.specs.Meaning.BlockRows.{IsBlockItem, item_cost, block_cost}
+use Rattle.pf_rows.specs.Steps.RowCode.{begin_lines, pixel_lines, last_pages, scratch_lines, item_lines, block_lines, next_lines, tail_lines, last_lines, load_value, store_value, copy_turn, copy_label, tap_copy, tap_copies, narrow_lines, back_lines, row_code}
 
 module _ (I O : Type 0) (t : Table O) where
   abbrev W : List (Line I O) → ℕ
@@ -57,7 +57,7 @@ module _ (I O : Type 0) (t : Table O) where
   work_kept (suc (suc width)) rest = omega arith
 
   module _ (is_op : O → Type 0) (laws : IsTable t is_op) where
-    work_item : (width : ℕ) (widths : List ℕ) (item : Item O) → All (λ w. w ≤ 2) widths → width ≤ 2 → IsStep widths width item → W (item_lines t widths width item) ≡ item_cost t item
+    work_item : (width : ℕ) (widths : List ℕ) (item : Item O) → All (λ w. w ≤ 2) widths → width ≤ 2 → IsBlockItem widths width item → W (item_lines t widths width item) ≡ item_cost t item
     work_item width widths (Operation op) few low step = omega arith
     work_item width widths (TapLoad to tap part) few low step =
         let by = get_or widths tap 0 in
@@ -85,11 +85,11 @@ module _ (I O : Type 0) (t : Table O) where
         let free = laws.store_cost from 0 in
         omega arith
 
-    work_block : (width : ℕ) (widths : List ℕ) (block : List (Item O)) → All (λ w. w ≤ 2) widths → width ≤ 2 → All (IsStep widths width) block → W (block_lines t widths width block) ≡ block_cost t block
+    work_block : (width : ℕ) (widths : List ℕ) (block : List (Item O)) → All (λ w. w ≤ 2) widths → width ≤ 2 → All (IsBlockItem widths width) block → W (block_lines t widths width block) ≡ block_cost t block
     work_block width widths [] few low steps = refl
     work_block width widths (item ∷ block) few low steps =
-        let one = work_item width widths item few low (All-head (IsStep widths width) item block steps) in
-        let rest = work_block width widths block few low (All-tail (IsStep widths width) item block steps) in
+        let one = work_item width widths item few low (All-head (IsBlockItem widths width) item block steps) in
+        let rest = work_block width widths block few low (All-tail (IsBlockItem widths width) item block steps) in
         let f : Item O → ℕ = λ i. item_cost t i in
         let cost : block_cost t (item ∷ block) ≡ item_cost t item + block_cost t block = sum-map f (item ∷ block) ∙ sum_by-cons f item block ∙ ap (λ m. f item + m) (sym (sum-map f block)) in
         work-append (item_lines t widths width item) (block_lines t widths width block) ∙ omega arith
@@ -158,7 +158,7 @@ module _ (I O : Type 0) (t : Table O) where
       let all_of : W (back_lines vector taps width) ≡ W (turn ++ end) = refl in
       all_of ∙ omega arith
 
-  pub row_work : (is_op : O → Type 0) → IsTable t is_op → (width : ℕ) (widths : List ℕ) (block : List (Item O)) → All (λ w. w ≤ 2) widths → width ≤ 2 → All (IsStep widths width) block → Work t (row_code {I = I} t widths width block) ≡ block_cost t block
+  pub row_work : (is_op : O → Type 0) → IsTable t is_op → (width : ℕ) (widths : List ℕ) (block : List (Item O)) → All (λ w. w ≤ 2) widths → width ≤ 2 → All (IsBlockItem widths width) block → Work t (row_code {I = I} t widths width block) ≡ block_cost t block
   row_work is_op laws width widths block few low steps =
       let back : List (Line I O) = back_lines t.vector (length widths) width in
       let narrow : List (Line I O) = narrow_lines t.vector widths in

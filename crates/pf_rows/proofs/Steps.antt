@@ -4,25 +4,25 @@ use Rattle.std.proofs.lemmas.List.{get_or-set_same, get_or-set_other, length-set
 use Rattle.std.specs.List.{list_any}
 use Rattle.std.proofs.lemmas.Bool.{cases_eq, eqb-true, or_cases}
 use Rattle.std.proofs.lemmas.List.Elements.{All-head, All-tail, All-set, All-get_or}
-use Rattle.pf_isa.specs.declared.registers.Reg.TheVariants.{V}
-use Rattle.pf_isa.specs.declared.registers.RegFile.{RegFile}
-use Rattle.pf_isa.specs.declared.memory.Region.{Region}
-use Rattle.pf_isa.specs.declared.control.Control.TheVariants.{LoadPtr}
-use Rattle.pf_isa.specs.declared.code.Line.{Line}
-use Rattle.pf_isa.specs.declared.code.Line.TheVariants.{Vector, Control as Controls}
-use Rattle.pf_isa.specs.declared.code.Label.{Label}
-use Rattle.pf_isa.specs.declared.block.Item.{Item}
-use Rattle.pf_isa.specs.declared.block.Item.TheVariants.{Vector as Operation, TapLoad, OutStore, SlotLoad, SlotStore}
-use Rattle.pf_isa.specs.Bytes.{number}
-use Rattle.pf_isa.specs.Files.{read, write}
-use Rattle.pf_isa.specs.Memory.{loaded, stored}
-use Rattle.pf_isa.specs.Tables.{Table, IsTable, IsFile, CanRun, after}
-use Rattle.pf_isa.specs.Blocks.{Bench, item_step, items_run, IsWithin}
-use Rattle.pf_isa.specs.Steps.{State, wrapped, pointer_bytes}
-use Rattle.pf_isa.proofs.StepLaws.{wrapped_small}
-use Rattle.pf_rows.specs.Scratch.{slot_at}
-use Rattle.pf_rows.specs.BlockRows.{IsStep, stores_part}
-use Rattle.pf_rows.specs.RowCode.{pixel_lines, scratch_lines, item_lines, block_lines, IsOne}
+use Rattle.pf_machine.specs.declared.registers.Reg.TheVariants.{V}
+use Rattle.pf_machine.specs.declared.registers.RegFile.{RegFile}
+use Rattle.pf_machine.specs.declared.memory.Region.{Region}
+use Rattle.pf_machine.specs.declared.control.Control.TheVariants.{LoadPtr}
+use Rattle.pf_machine.specs.declared.code.Line.{Line}
+use Rattle.pf_machine.specs.declared.code.Line.TheVariants.{Vector, Control as Controls}
+use Rattle.pf_machine.specs.declared.code.Label.{Label}
+use Rattle.pf_machine.specs.declared.block.Item.{Item}
+use Rattle.pf_machine.specs.declared.block.Item.TheVariants.{Vector as Operation, TapLoad, OutStore, SlotLoad, SlotStore}
+use Rattle.pf_machine.specs.Meaning.Bytes.{number}
+use Rattle.pf_machine.specs.Meaning.RegisterFiles.{read, write}
+use Rattle.pf_machine.specs.Meaning.Memory.{loaded, stored}
+use Rattle.pf_machine.specs.Meaning.Tables.{Table, IsTable, IsFile, CanRun, after}
+use Rattle.pf_machine.specs.Meaning.Blocks.{Bench, item_step, items_run, IsWithin}
+use Rattle.pf_machine.specs.Meaning.MachineSteps.{State, register_wrapped, pointer_bytes}
+use Rattle.pf_machine.proofs.StepLaws.{wrapped_small}
+use Rattle.pf_rows.specs.Meaning.Scratch.{slot_at}
+use Rattle.pf_rows.specs.Meaning.BlockRows.{IsBlockItem, stores_part}
+use Rattle.pf_rows.specs.Steps.RowCode.{pixel_lines, scratch_lines, item_lines, block_lines, IsOne}
 use Rattle.pf_rows.proofs.Paths.{Stands, stands-front, stands-back, now, Comes, comes-none, comes-on, comes-one}
 use Rattle.pf_rows.proofs.Pointers.{length-pixel_lines, scratch_count, length-scratch_lines, comes-pixels, comes-scratch}
 
@@ -35,7 +35,7 @@ pub record Desk {O : Type 0} (t : Table O) (tb s x : ℕ) (widths : List ℕ) (w
   pub low : (k : ℕ) → k < length widths → address k + x * get_or widths k 0 + get_or widths k 0 * t.vector < 2 ^ 32
   pub low_out : address (length widths) + x * width + width * t.vector < 2 ^ 32
   pub low_slots : (slot : ℕ) → slot < slots → s + slot_at t.vector (length widths) slot + t.vector < 2 ^ 32
-  pub entry : (kept output : List (List ℕ)) (rs : List Region) → Holds kept output rs → (k : ℕ) → k ≤ length widths → (held : List ℕ) × (loaded rs (wrapped t.target (tb + 8 * k)) (pointer_bytes t.target) ≡ Some held) × (number held ≡ address k)
+  pub entry : (kept output : List (List ℕ)) (rs : List Region) → Holds kept output rs → (k : ℕ) → k ≤ length widths → (held : List ℕ) × (loaded rs (register_wrapped t.target (tb + 8 * k)) (pointer_bytes t.target) ≡ Some held) × (number held ≡ address k)
   pub tap : (kept output : List (List ℕ)) (rs : List Region) → Holds kept output rs → (k part : ℕ) → k < length widths → part < get_or widths k 0
       → loaded rs (address k + x * get_or widths k 0 + part * t.vector) t.vector ≡ Some (take t.vector (drop (t.vector * part) (get_or taps k [])))
   pub out : (kept output : List (List ℕ)) (rs : List Region) → Holds kept output rs → (part : ℕ) (new : List ℕ) → part < width → length new ≡ t.vector
@@ -103,7 +103,7 @@ module _ {I O : Type 0} (t : Table O) (is_op : O → Type 0) (laws : IsTable t i
     pub fills : (part : ℕ) → part < width → stored_by part ≡ true → length (get_or b'.output part []) ≡ t.vector
 
   -- p becomes the address of a tap's pixel x, or the output's
-  to_pixel : (a p k by : ℕ) (f : RegFile) (rs : List Region) (held : List ℕ) → Stands code a (Controls (LoadPtr 5 0 k) ∷ pixel_lines 5 by) → loaded rs (wrapped t.target (tb + 8 * k)) (pointer_bytes t.target) ≡ Some held → number held ≡ address k → address k + x * by < 2 ^ 32
+  to_pixel : (a p k by : ℕ) (f : RegFile) (rs : List Region) (held : List ℕ) → Stands code a (Controls (LoadPtr 5 0 k) ∷ pixel_lines 5 by) → loaded rs (register_wrapped t.target (tb + 8 * k)) (pointer_bytes t.target) ≡ Some held → number held ≡ address k → address k + x * by < 2 ^ 32
       → Comes t code labels (1 + by) (at_desk a p f rs) (at_desk (a + 1 + by) (address k + x * by) f rs)
   to_pixel a p k by f rs held there load is small =
       let one : Comes t code labels 1 (at_desk a p f rs) (at_desk (a + 1) (number held) f rs) = comes-one t code labels (Controls (LoadPtr 5 0 k)) (at_desk a p f rs) (at_desk (a + 1) (number held) f rs) there.0 (rw load refl) in
@@ -152,7 +152,7 @@ module _ {I O : Type 0} (t : Table O) (is_op : O → Type 0) (laws : IsTable t i
       let at_last : Stands code (a + 1 + by) last = subst (λ m. Stands code m last) place (stands-back code a front last there) in
       let access = laws.load_access to part (omega arith) in
       let there_low : pointer + part * t.vector < 2 ^ 32 = part_low t.vector part by pointer part_in few low in
-      let small : wrapped t.target (pointer + part * t.vector) ≡ pointer + part * t.vector = wrapped_small t.target (pointer + part * t.vector) there_low in
+      let small : register_wrapped t.target (pointer + part * t.vector) ≡ pointer + part * t.vector = wrapped_small t.target (pointer + part * t.vector) there_low in
       let load = desk.tap b.slots b.output rs holds k part tap_in part_in in
       let file' : RegFile = write b.file (V to) held in
       let two : Comes t code labels 1 (at_desk (a + 1 + by) pointer b.file rs) (at_desk (a + 1 + by + 1) pointer file' rs) =
@@ -189,7 +189,7 @@ module _ {I O : Type 0} (t : Table O) (is_op : O → Type 0) (laws : IsTable t i
       let at_last : Stands code (a + 1 + width) last = subst (λ m. Stands code m last) place (stands-back code a front last there) in
       let access = laws.store_access from part (omega arith) in
       let there_low : pointer + part * t.vector < 2 ^ 32 = part_low t.vector part width pointer part_in few low in
-      let small : wrapped t.target (pointer + part * t.vector) ≡ pointer + part * t.vector = wrapped_small t.target (pointer + part * t.vector) there_low in
+      let small : register_wrapped t.target (pointer + part * t.vector) ≡ pointer + part * t.vector = wrapped_small t.target (pointer + part * t.vector) there_low in
       let size : length new ≡ t.vector = length-read t t.vectors from b.file file known in
       let put = desk.out b.slots b.output rs holds part new part_in size in
       let next = put.0 in
@@ -232,7 +232,7 @@ module _ {I O : Type 0} (t : Table O) (is_op : O → Type 0) (laws : IsTable t i
       let at_last : Stands code (a + many) last = subst (λ m. Stands code (a + m) last) (length-scratch_lines I O 5 offset) (stands-back code a front last there) in
       let access = laws.load_access to 0 (omega arith) in
       let none : s + offset + 0 * t.vector ≡ s + offset = omega arith in
-      let small : wrapped t.target (s + offset) ≡ s + offset = wrapped_small t.target (s + offset) (omega arith) in
+      let small : register_wrapped t.target (s + offset) ≡ s + offset = wrapped_small t.target (s + offset) (omega arith) in
       let load = desk.slot b.slots b.output rs holds k inside in
       let given = load.0 in
       let held = get_or b.slots k [] in
@@ -264,7 +264,7 @@ module _ {I O : Type 0} (t : Table O) (is_op : O → Type 0) (laws : IsTable t i
       let at_last : Stands code (a + many) last = subst (λ m. Stands code (a + m) last) (length-scratch_lines I O 5 offset) (stands-back code a front last there) in
       let access = laws.store_access from 0 (omega arith) in
       let none : s + offset + 0 * t.vector ≡ s + offset = omega arith in
-      let small : wrapped t.target (s + offset) ≡ s + offset = wrapped_small t.target (s + offset) (omega arith) in
+      let small : register_wrapped t.target (s + offset) ≡ s + offset = wrapped_small t.target (s + offset) (omega arith) in
       let put = desk.keep b.slots b.output rs holds k (read b.file (V from)) inside (length-read t t.vectors from b.file file known) in
       let next = put.0 in
       let store = put.1 in
@@ -287,7 +287,7 @@ module _ {I O : Type 0} (t : Table O) (is_op : O → Type 0) (laws : IsTable t i
   resized by c d a p rs b b' same takes = subst (λ m. Takes by m a p rs b b') same takes
 
   -- one item
-  item_takes : (item : Item O) (a p : ℕ) (rs : List Region) (b : Bench) → Stands code a (item_lines t widths width item) → IsOne is_op item → IsWithin t t.vectors slots item → IsStep widths width item → IsFile t t.vectors b.file → length b.output ≡ width → Holds b.slots b.output rs
+  item_takes : (item : Item O) (a p : ℕ) (rs : List Region) (b : Bench) → Stands code a (item_lines t widths width item) → IsOne is_op item → IsWithin t t.vectors slots item → IsBlockItem widths width item → IsFile t t.vectors b.file → length b.output ≡ width → Holds b.slots b.output rs
       → Takes (λ part. stores_part part item) (length (item_lines {I = I} t widths width item)) a p rs b (item_step t taps item b)
   item_takes (Operation op) a p rs b there one within step file wide holds = operation_takes op a p rs b there one within file wide holds
   item_takes (TapLoad to k part) a p rs b there one within step file wide holds =
@@ -313,7 +313,7 @@ module _ {I O : Type 0} (t : Table O) (is_op : O → Type 0) (laws : IsTable t i
       resized (λ _. false) (scratch_count offset + 1) _ a p rs b _ size (slot_store_takes from k a p rs b there within.0 within.1 file wide holds)
 
   -- the whole block
-  pub block_takes : (block : List (Item O)) (a p : ℕ) (rs : List Region) (b : Bench) → Stands code a (block_lines t widths width block) → All (IsOne is_op) block → All (IsWithin t t.vectors slots) block → All (IsStep widths width) block → IsFile t t.vectors b.file → length b.output ≡ width → Holds b.slots b.output rs
+  pub block_takes : (block : List (Item O)) (a p : ℕ) (rs : List Region) (b : Bench) → Stands code a (block_lines t widths width block) → All (IsOne is_op) block → All (IsWithin t t.vectors slots) block → All (IsBlockItem widths width) block → IsFile t t.vectors b.file → length b.output ≡ width → Holds b.slots b.output rs
       → Takes (λ part. list_any (λ item. stores_part part item) block) (length (block_lines {I = I} t widths width block)) a p rs b (items_run t taps block b)
   block_takes [] a p rs b there ones within steps file wide holds =
       let here : a ≡ a + 0 = omega arith in
@@ -330,8 +330,8 @@ module _ {I O : Type 0} (t : Table O) (is_op : O → Type 0) (laws : IsTable t i
   block_takes (item ∷ more) a p rs b there ones within steps file wide holds =
       let front : List (Line I O) = item_lines t widths width item in
       let back : List (Line I O) = block_lines t widths width more in
-      let one = item_takes item a p rs b (stands-front code a front back there) (All-head (IsOne is_op) item more ones) (All-head (IsWithin t t.vectors slots) item more within) (All-head (IsStep widths width) item more steps) file wide holds in
-      let rest = block_takes more (a + length front) one.pointer one.left (item_step t taps item b) (stands-back code a front back there) (All-tail (IsOne is_op) item more ones) (All-tail (IsWithin t t.vectors slots) item more within) (All-tail (IsStep widths width) item more steps) one.file one.wide one.holds in
+      let one = item_takes item a p rs b (stands-front code a front back there) (All-head (IsOne is_op) item more ones) (All-head (IsWithin t t.vectors slots) item more within) (All-head (IsBlockItem widths width) item more steps) file wide holds in
+      let rest = block_takes more (a + length front) one.pointer one.left (item_step t taps item b) (stands-back code a front back there) (All-tail (IsOne is_op) item more ones) (All-tail (IsWithin t t.vectors slots) item more within) (All-tail (IsBlockItem widths width) item more steps) one.file one.wide one.holds in
       let size : length front + length back ≡ length (front ++ back) = sym (length-append front back) in
       let end : a + length front + length back ≡ a + length (front ++ back) = omega arith in
       let all = comes-on t code labels (length front) (length back) _ _ _ one.comes rest.comes in

@@ -3,10 +3,10 @@ use Rattle.std.proofs.Common.{◌≡◌, ℕ, zero, suc, ◌+◌, ◌<◌, ◌�
 use Rattle.std.specs.Prelude.{ℤ, pos, ◌+ℤ◌, ◌-ℤ◌, ◌≤ℤ◌, unsigned_abs}
 use Rattle.std.proofs.lemmas.Int.{ints, int_min_is, int_max_is}
 use Rattle.std.proofs.lemmas.List.{get_or-map, length-map}
-use Rattle.pf_ints.specs.Images.{Picture}
-use Rattle.pf_terms.specs.declared.names.Tap.{Tap}
-use Rattle.pf_terms.specs.TermTexts.{no_tap}
-use Rattle.pf_terms.specs.Kernels.{lowest, highest, left_reach, right_reach, up_reach, down_reach, width_of, height_of, out_width, out_height, tap_column, tap_row}
+use Rattle.pf_ints.specs.Meaning.Images.{Picture}
+use Rattle.pf_values.specs.declared.names.Tap.{Tap}
+use Rattle.pf_values.specs.Meaning.NamedTerms.{no_tap}
+use Rattle.pf_values.specs.Meaning.Kernels.{lowest, highest, left_reach, right_reach, up_reach, down_reach, width_of, height_of, out_width, out_height, tap_column, tap_row}
 
 lowest_low : (ns : List ℤ) → lowest ns ≤ℤ pos 0
 lowest_low [] = omega (arith, ints)

@@ -4,19 +4,19 @@ use Rattle.std.specs.Prelude.{codes}
 use Rattle.std.proofs.lemmas.Bool.{lt-ltb, le-ltb}
 use Rattle.pf_ints.specs.declared.target.Target.{Target}
 use Rattle.pf_ints.specs.declared.target.Target.TheVariants.{Neon, Avx2, Hvx}
-use Rattle.pf_isa.specs.declared.registers.RegFile.{RegFile}
-use Rattle.pf_isa.specs.declared.memory.Region.{Region}
-use Rattle.pf_isa.specs.declared.control.Control.TheVariants.{LoadPtr, Imm, AddImm, Compare, Below, Jump, Return}
-use Rattle.pf_isa.specs.declared.code.Line.{Line}
-use Rattle.pf_isa.specs.declared.code.Line.TheVariants.{Control as Controls}
-use Rattle.pf_isa.specs.declared.code.Label.{Label}
-use Rattle.pf_isa.specs.declared.block.Item.{Item}
-use Rattle.pf_isa.specs.Bytes.{number}
-use Rattle.pf_isa.specs.Memory.{loaded}
-use Rattle.pf_isa.specs.Tables.{Table}
-use Rattle.pf_isa.specs.Steps.{State, Returned, Ended, run, step, wrapped, pointer_bytes, place_of, sum_of}
-use Rattle.pf_isa.proofs.StepLaws.{wrapped_small, run_returned}
-use Rattle.pf_rows.specs.RowCode.{begin_lines, block_lines, next_lines, tail_lines, last_lines, narrow_lines, back_lines, next_at, narrow_at, back_at, tap_copy, copy_label}
+use Rattle.pf_machine.specs.declared.registers.RegFile.{RegFile}
+use Rattle.pf_machine.specs.declared.memory.Region.{Region}
+use Rattle.pf_machine.specs.declared.control.Control.TheVariants.{LoadPtr, Imm, AddImm, Compare, Below, Jump, Return}
+use Rattle.pf_machine.specs.declared.code.Line.{Line}
+use Rattle.pf_machine.specs.declared.code.Line.TheVariants.{Control as Controls}
+use Rattle.pf_machine.specs.declared.code.Label.{Label}
+use Rattle.pf_machine.specs.declared.block.Item.{Item}
+use Rattle.pf_machine.specs.Meaning.Bytes.{number}
+use Rattle.pf_machine.specs.Meaning.Memory.{loaded}
+use Rattle.pf_machine.specs.Meaning.Tables.{Table}
+use Rattle.pf_machine.specs.Meaning.MachineSteps.{State, Returned, Ended, run, step, register_wrapped, pointer_bytes, place_of, sum_of}
+use Rattle.pf_machine.proofs.StepLaws.{wrapped_small, run_returned}
+use Rattle.pf_rows.specs.Steps.RowCode.{begin_lines, block_lines, next_lines, tail_lines, last_lines, narrow_lines, back_lines, next_at, narrow_at, back_at, tap_copy, copy_label}
 use Rattle.pf_rows.proofs.Paths.{Stands, now, Comes, comes-on, comes-one}
 
 -- the labels of the taps' copies, from tap k on, whose copies begin at this place
@@ -56,12 +56,12 @@ module _ {I O : Type 0} (t : Table O) (code : List (Line I O)) (labels : List La
 
   -- a row begins, up to its choice
   begun : (tb n s : ℕ) (f : RegFile) (rs : List Region) (count scratch : List ℕ) → tb < 2 ^ 31 → t.vector < 65536
-      → loaded rs (wrapped t.target (tb + 8 * (taps + 2))) (pointer_bytes t.target) ≡ Some count → number count ≡ n
-      → loaded rs (wrapped t.target (tb + 8 * (taps + 1))) (pointer_bytes t.target) ≡ Some scratch → number scratch ≡ s
+      → loaded rs (register_wrapped t.target (tb + 8 * (taps + 2))) (pointer_bytes t.target) ≡ Some count → number count ≡ n
+      → loaded rs (register_wrapped t.target (tb + 8 * (taps + 1))) (pointer_bytes t.target) ≡ Some scratch → number scratch ≡ s
       → Comes t code labels 5 (now 0 (tb ∷ 0 ∷ 0 ∷ 0 ∷ 0 ∷ 0 ∷ 0 ∷ 0 ∷ []) false f rs) (now 5 (tb ∷ n ∷ s ∷ 0 ∷ tb ∷ 0 ∷ 0 ∷ t.vector ∷ []) (ltb n t.vector) f rs)
   begun tb n s f rs count scratch low small load is load' is' =
       let none : tb + 0 ≡ tb = omega arith in
-      let same : wrapped t.target (tb + 0) ≡ tb = ap (λ a. wrapped t.target a) none ∙ wrapped_small t.target tb (omega arith) in
+      let same : register_wrapped t.target (tb + 0) ≡ tb = ap (λ a. register_wrapped t.target a) none ∙ wrapped_small t.target tb (omega arith) in
       let there = laid.begin in
       let one : Comes t code labels 1 (now 0 (tb ∷ 0 ∷ 0 ∷ 0 ∷ 0 ∷ 0 ∷ 0 ∷ 0 ∷ []) false f rs) (now 1 (tb ∷ 0 ∷ 0 ∷ 0 ∷ tb ∷ 0 ∷ 0 ∷ 0 ∷ []) false f rs) =
       comes-one t code labels (Controls (AddImm 4 0 false 0)) _ _ there.0 (rw same refl) in
@@ -76,8 +76,8 @@ module _ {I O : Type 0} (t : Table O) (code : List (Line I O)) (labels : List La
       comes-on t code labels 1 4 _ _ _ one (comes-on t code labels 1 3 _ _ _ two (comes-on t code labels 1 2 _ _ _ three (comes-on t code labels 1 1 _ _ _ four five)))
 
   pub begins_wide : (tb n s : ℕ) (f : RegFile) (rs : List Region) (count scratch : List ℕ) → tb < 2 ^ 31 → t.vector < 65536 → t.vector ≤ n
-      → loaded rs (wrapped t.target (tb + 8 * (taps + 2))) (pointer_bytes t.target) ≡ Some count → number count ≡ n
-      → loaded rs (wrapped t.target (tb + 8 * (taps + 1))) (pointer_bytes t.target) ≡ Some scratch → number scratch ≡ s
+      → loaded rs (register_wrapped t.target (tb + 8 * (taps + 2))) (pointer_bytes t.target) ≡ Some count → number count ≡ n
+      → loaded rs (register_wrapped t.target (tb + 8 * (taps + 1))) (pointer_bytes t.target) ≡ Some scratch → number scratch ≡ s
       → Comes t code labels 7 (now 0 (tb ∷ 0 ∷ 0 ∷ 0 ∷ 0 ∷ 0 ∷ 0 ∷ 0 ∷ []) false f rs) (now 7 (tb ∷ n ∷ s ∷ 0 ∷ tb ∷ 0 ∷ 0 ∷ t.vector ∷ []) false f rs)
   begins_wide tb n s f rs count scratch low small wide load is load' is' =
       let there = laid.begin in
@@ -90,8 +90,8 @@ module _ {I O : Type 0} (t : Table O) (code : List (Line I O)) (labels : List La
       comes-on t code labels 5 2 _ _ _ start (comes-on t code labels 1 1 _ _ _ six seven)
 
   pub begins_narrow : (tb n s : ℕ) (f : RegFile) (rs : List Region) (count scratch : List ℕ) → tb < 2 ^ 31 → t.vector < 65536 → n < t.vector
-      → loaded rs (wrapped t.target (tb + 8 * (taps + 2))) (pointer_bytes t.target) ≡ Some count → number count ≡ n
-      → loaded rs (wrapped t.target (tb + 8 * (taps + 1))) (pointer_bytes t.target) ≡ Some scratch → number scratch ≡ s
+      → loaded rs (register_wrapped t.target (tb + 8 * (taps + 2))) (pointer_bytes t.target) ≡ Some count → number count ≡ n
+      → loaded rs (register_wrapped t.target (tb + 8 * (taps + 1))) (pointer_bytes t.target) ≡ Some scratch → number scratch ≡ s
       → Comes t code labels 6 (now 0 (tb ∷ 0 ∷ 0 ∷ 0 ∷ 0 ∷ 0 ∷ 0 ∷ 0 ∷ []) false f rs) (now (narrow_at I t widths width block) (tb ∷ n ∷ s ∷ 0 ∷ tb ∷ 0 ∷ 0 ∷ t.vector ∷ []) true f rs)
   begins_narrow tb n s f rs count scratch low small narrow load is load' is' =
       let there = laid.begin in
@@ -126,8 +126,8 @@ module _ {I O : Type 0} (t : Table O) (code : List (Line I O)) (labels : List La
   chosen tb n s x u p v e flag f rs wide low =
       let there = laid.next in
       let test : ltb n t.vector ≡ false = le-ltb n t.vector wide in
-      let on : wrapped t.target (x + t.vector) ≡ x + t.vector = wrapped_small t.target (x + t.vector) (omega arith) in
-      let end : wrapped t.target (x + t.vector + t.vector) ≡ x + t.vector + t.vector = wrapped_small t.target (x + t.vector + t.vector) low in
+      let on : register_wrapped t.target (x + t.vector) ≡ x + t.vector = wrapped_small t.target (x + t.vector) (omega arith) in
+      let end : register_wrapped t.target (x + t.vector + t.vector) ≡ x + t.vector + t.vector = wrapped_small t.target (x + t.vector + t.vector) low in
       let three : Comes t code labels 1 (now (b + 1 + 1) (tb ∷ n ∷ s ∷ x ∷ u ∷ p ∷ v ∷ t.vector ∷ []) (ltb n t.vector) f rs) (now (b + 1 + 1 + 1) (tb ∷ n ∷ s ∷ x ∷ u ∷ p ∷ v ∷ t.vector ∷ []) false f rs) =
       comes-one t code labels (Controls (Below (codes "back"))) _ _ there.1.1.0 (rw test refl) in
       let four : Comes t code labels 1 (now (b + 1 + 1 + 1) (tb ∷ n ∷ s ∷ x ∷ u ∷ p ∷ v ∷ t.vector ∷ []) false f rs) (now (b + 1 + 1 + 1 + 1) (tb ∷ n ∷ s ∷ (x + t.vector) ∷ u ∷ p ∷ v ∷ t.vector ∷ []) false f rs) =

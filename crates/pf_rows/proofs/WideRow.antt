@@ -6,21 +6,21 @@ use Rattle.std.proofs.Math.Nat.{mul_comm, mul-add, le-mul_of_pos_right}
 use Rattle.std.proofs.lemmas.List.{length-replicate}
 use Rattle.std.proofs.lemmas.Nat.{div-mul-add}
 use Rattle.std.proofs.lemmas.Bool.{cases_lt, lt-ltb, le-ltb, cond-true, cond-false}
-use Rattle.pf_ints.specs.Images.{Picture}
-use Rattle.pf_isa.specs.declared.registers.RegFile.{RegFile}
-use Rattle.pf_isa.specs.declared.memory.Region.{Region}
-use Rattle.pf_isa.specs.declared.code.Line.{Line}
-use Rattle.pf_isa.specs.declared.code.Label.{Label}
-use Rattle.pf_isa.specs.declared.block.Item.{Item}
-use Rattle.pf_isa.specs.Runs.{Places}
-use Rattle.pf_isa.specs.Steps.{State, run, Ended}
-use Rattle.pf_isa.proofs.StepLaws.{run_longer}
-use Rattle.pf_isa.specs.Tables.{Table, IsTable, IsFile}
-use Rattle.pf_isa.specs.Blocks.{Bench, items_run, IsWithin}
-use Rattle.pf_isa.proofs.MemoryLaws.{take-drop-part}
-use Rattle.pf_rows.specs.Scratch.{buffer_at}
-use Rattle.pf_rows.specs.BlockRows.{IsStep, StoresEach, start_of}
-use Rattle.pf_rows.specs.RowCode.{block_lines, next_at, IsOne}
+use Rattle.pf_ints.specs.Meaning.Images.{Picture}
+use Rattle.pf_machine.specs.declared.registers.RegFile.{RegFile}
+use Rattle.pf_machine.specs.declared.memory.Region.{Region}
+use Rattle.pf_machine.specs.declared.code.Line.{Line}
+use Rattle.pf_machine.specs.declared.code.Label.{Label}
+use Rattle.pf_machine.specs.declared.block.Item.{Item}
+use Rattle.pf_machine.specs.Meaning.Runs.{Places}
+use Rattle.pf_machine.specs.Meaning.MachineSteps.{State, run, Ended}
+use Rattle.pf_machine.proofs.StepLaws.{run_longer}
+use Rattle.pf_machine.specs.Meaning.Tables.{Table, IsTable, IsFile}
+use Rattle.pf_machine.specs.Meaning.Blocks.{Bench, items_run, IsWithin}
+use Rattle.pf_machine.proofs.MemoryLaws.{take-drop-part}
+use Rattle.pf_rows.specs.Meaning.Scratch.{buffer_at}
+use Rattle.pf_rows.specs.Meaning.BlockRows.{IsBlockItem, StoresEach, start_of}
+use Rattle.pf_rows.specs.Steps.RowCode.{block_lines, next_at, IsOne}
 use Rattle.pf_rows.proofs.Paths.{now, Comes, comes-on}
 use Rattle.pf_rows.proofs.Cells.{part, length-part, Agree, agree-trans, agree-same, agree-within, cells-none, cells-joined, cells_of, length-cells_of, get_or-cells_of, cells-of}
 use Rattle.pf_rows.proofs.Steps.{block_takes}
@@ -49,7 +49,7 @@ start_whole vector m q from to =
     let place : q ≡ m * vector + (q - vector * m) = omega arith in
     ap (λ k. vector * (k / vector)) place ∙ ap (λ k. vector * k) (div-mul-add m vector (q - vector * m) (omega arith))
 
-module _ {I O : Type 0} (t : Table O) (is_op : O → Type 0) (laws : IsTable t is_op) (code : List (Line I O)) (labels : List Label) (pictures : List Picture) (at : Places) (entries widths : List ℕ) (width slots n scratch_size output_size row : ℕ) (image place : ℕ → ℕ) (placed : RowPlace t.vector pictures at entries widths width slots n scratch_size output_size row image place) (block : List (Item O)) (laid : Laid t code labels widths width block) (ones : All (IsOne is_op) block) (within : All (IsWithin t t.vectors slots) block) (steps : All (IsStep widths width) block) (stores : StoresEach width block) where
+module _ {I O : Type 0} (t : Table O) (is_op : O → Type 0) (laws : IsTable t is_op) (code : List (Line I O)) (labels : List Label) (pictures : List Picture) (at : Places) (entries widths : List ℕ) (width slots n scratch_size output_size row : ℕ) (image place : ℕ → ℕ) (placed : RowPlace t.vector pictures at entries widths width slots n scratch_size output_size row image place) (block : List (Item O)) (laid : Laid t code labels widths width block) (ones : All (IsOne is_op) block) (within : All (IsWithin t t.vectors slots) block) (steps : All (IsBlockItem widths width) block) (stores : StoresEach width block) where
   abbrev m_of : List ℕ → List ℕ → List Region
   m_of = mem t pictures at entries widths width slots n scratch_size output_size row image place placed
 

@@ -1,3 +1,2 @@
-pub mod Scratch
-pub mod BlockRows
-pub mod RowCode
+pub mod Meaning
+pub mod Steps

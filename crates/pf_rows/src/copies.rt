@@ -1,8 +1,9 @@
 ghost use Rattle.std.specs.Prelude.{◌≡◌, ◌+◌, ◌*◌, ◌/◌, ◌%◌, ◌^◌, ◌<◌, ◌≤◌, ◌++◌, [], ◌∷◌, length, take, IsTrue, OnOk, All, codes, false, List, ℕ};
-ghost use Rattle.pf_ints.specs.Words.{is_name};
-ghost use Rattle.pf_rows.specs.Scratch.{buffer_at};
-ghost use Rattle.pf_rows.specs.RowCode.{copy_label, copy_labels, label, copy_turn, copy_end, load_value, narrow_lines, back_lines, scratch_lines, store_value, tap_copy, tap_copies, IsPixel};
-ghost use Rattle.pf_isa.specs.declared.code.Line.{Line};
+ghost use Rattle.pf_text.specs.Meaning.Words.{is_name};
+ghost use Rattle.pf_rows.specs.Meaning.Scratch.{buffer_at};
+ghost use Rattle.pf_rows.specs.Steps.RowCode.{copy_label, copy_labels, label, copy_turn, copy_end, load_value, narrow_lines, back_lines, scratch_lines, store_value, tap_copy, tap_copies, IsPixel};
+ghost use Rattle.pf_machine.specs.declared.code.Line.{Line};
+ghost use Rattle.pf_machine.specs.Meaning.Roles.{scratch_role, end_role};
 
 use crate::lines::{
     add, back_name, below, block_name, compare, control, copy_name, loop_name, pixels, pointer,
@@ -10,7 +11,7 @@ use crate::lines::{
 };
 use crate::scratch::buffer_offset;
 use pf_ints::{Memory, Name};
-use pf_isa::{Code, Control, Isa, Label, LabelList, role};
+use pf_machine::{Code, Control, Isa, Label, LabelList, role};
 
 /// Appends the load of a pixel's bytes.
 fn load_pixel<I: Isa>(code: &mut Code<I>, width: u8) -> Result<(), Memory>
@@ -54,7 +55,7 @@ fn copy_end<I: Isa>(code: &mut Code<I>, width: u8, label: Name) -> Result<(), Me
 /// Appends that the register's address becomes one of the scratch's table.
 fn keep<I: Isa>(code: &mut Code<I>, entry: u8) -> Result<(), Memory>
     ensures { OnOk result
-        (code.new ≡ code.old ++ Line.Control (Control.StorePtr 2 entry 7) ∷ []) }
+        (code.new ≡ code.old ++ Line.Control (Control.StorePtr scratch_role entry end_role) ∷ []) }
 {
     control(
         code,

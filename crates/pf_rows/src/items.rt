@@ -1,11 +1,11 @@
 ghost use Rattle.std.specs.Prelude.{◌≡◌, ◌+◌, ◌*◌, ◌/◌, ◌^◌, ◌<◌, ◌≤◌, ◌++◌, [], ◌∷◌, length, OnOk, All};
-ghost use Rattle.pf_rows.specs.BlockRows.{IsStep};
-ghost use Rattle.pf_rows.specs.RowCode.{item_lines, block_lines, IsOne, IsNear, IsPixel};
+ghost use Rattle.pf_rows.specs.Meaning.BlockRows.{IsBlockItem};
+ghost use Rattle.pf_rows.specs.Steps.RowCode.{item_lines, block_lines, IsOne, SlotEndsBelow, IsPixel};
 
 use crate::lines::{pixels, pointer, scratch};
 use crate::scratch::slot_offset;
 use pf_ints::Memory;
-use pf_isa::{Block, Code, Isa, Item, Line, role};
+use pf_machine::{Block, Code, Isa, Item, Line, role};
 
 /// Appends the instructions of a step of a block, over taps and an output whose pixels have so
 /// many bytes.
@@ -19,8 +19,8 @@ fn item<I: Isa>(
     requires taps { length widths.now ≤ 64 }
     requires pixels { All IsPixel widths.now }
     requires pixel { IsPixel width }
-    requires step { IsStep widths.now width item }
-    requires near { IsNear I.table.vector (length widths.now) (2 ^ 30) item }
+    requires step { IsBlockItem widths.now width item }
+    requires near { SlotEndsBelow I.table.vector (length widths.now) (2 ^ 30) item }
     ensures lines { OnOk result (code.new ≡ code.old ++ item_lines I.table widths.now width item) }
     ensures known { OnOk result (IsOne I.is_op item) }
 {
@@ -69,8 +69,8 @@ pub fn items<I: Isa>(
     requires taps { length widths.now ≤ 64 }
     requires pixels { All IsPixel widths.now }
     requires pixel { IsPixel width }
-    requires steps { All (λ i. IsStep widths.now width i) block }
-    requires near { All (λ i. IsNear I.table.vector (length widths.now) (2 ^ 30) i) block }
+    requires steps { All (λ i. IsBlockItem widths.now width i) block }
+    requires near { All (λ i. SlotEndsBelow I.table.vector (length widths.now) (2 ^ 30) i) block }
     ensures lines { OnOk result (code.new ≡ code.old ++ block_lines I.table widths.now width block) }
     ensures known { OnOk result (All (λ i. IsOne I.is_op i) block) }
 {

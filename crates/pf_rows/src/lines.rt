@@ -1,11 +1,11 @@
 ghost use Rattle.std.specs.Prelude.{◌≡◌, ◌+◌, ◌*◌, ◌/◌, ◌%◌, ◌^◌, ◌<◌, ◌≤◌, ◌++◌, [], ◌∷◌, length, IsTrue, OnOk, codes, false, true, List, ℕ};
-ghost use Rattle.pf_ints.specs.Words.{is_name};
-ghost use Rattle.pf_isa.specs.Control.{IsControl, is_offset};
-ghost use Rattle.pf_isa.specs.declared.control.Control.TheVariants.{Below};
-ghost use Rattle.pf_rows.specs.RowCode.{copy_label, last_lines, last_pages, next_lines, page_lines, pixel_lines, scratch_lines, tail_lines};
+ghost use Rattle.pf_text.specs.Meaning.Words.{is_name};
+ghost use Rattle.pf_machine.specs.Meaning.Control.{IsControl, is_offset};
+ghost use Rattle.pf_machine.specs.declared.control.Control.TheVariants.{Below};
+ghost use Rattle.pf_rows.specs.Steps.RowCode.{copy_label, last_lines, last_pages, next_lines, page_lines, pixel_lines, scratch_lines, tail_lines};
 
 use pf_ints::{Memory, Name};
-use pf_isa::{Code, Control, Ctl, Isa, Line, role};
+use pf_machine::{Code, Control, Ctl, Isa, Line, role};
 
 /// Appends a control instruction.
 pub fn control<I: Isa>(code: &mut Code<I>, control: Control) -> Result<(), Memory>

@@ -1,10 +1,11 @@
 ghost use Rattle.std.specs.Prelude.{◌≡◌, ◌+◌, ◌*◌, ◌/◌, ◌^◌, ◌<◌, ◌≤◌, ◌++◌, [], ◌∷◌, length, map, take, All, IfOk, OnOk, codes, slice_index_or};
-ghost use Rattle.pf_ints.specs.Images.{IsPixelType};
-ghost use Rattle.pf_isa.specs.Heads.{IsHead};
-ghost use Rattle.pf_isa.specs.Moved.{Moved, Work};
-ghost use Rattle.pf_isa.specs.Runs.{pixel_bytes};
-ghost use Rattle.pf_rows.specs.BlockRows.{IsRowBlock, IsStep, LeavesLanes, RunsBlock, block_cost, tap_widths, no_decl};
-ghost use Rattle.pf_rows.specs.RowCode.{back_lines, begin_lines, block_lines, copy_labels, label, last_lines, narrow_lines, next_lines, row_code, row_labels, tail_lines, IsNear, IsOne, IsPixel, row_text};
+ghost use Rattle.pf_ints.specs.Meaning.Images.{IsPixelType};
+ghost use Rattle.pf_machine.specs.Meaning.Heads.{IsHead};
+ghost use Rattle.pf_machine.specs.Meaning.Moved.{Moved, Work};
+ghost use Rattle.pf_machine.specs.Meaning.Runs.{pixel_bytes};
+ghost use Rattle.pf_rows.specs.Meaning.BlockRows.{IsRowBlock, IsBlockItem, LeavesLanes, RunsBlock, block_cost, tap_widths};
+ghost use Rattle.pf_values.specs.Meaning.Kernels.{no_decl};
+ghost use Rattle.pf_rows.specs.Steps.RowCode.{back_lines, begin_lines, block_lines, copy_labels, label, last_lines, narrow_lines, next_lines, row_code, row_labels, tail_lines, SlotEndsBelow, IsOne, IsPixel, row_text};
 
 use crate::copies::{back, mark, narrow};
 use crate::items::items;
@@ -13,7 +14,7 @@ use crate::lines::{
     tail_name,
 };
 use pf_ints::{LaneType, Memory, Sequence};
-use pf_isa::{Block, Code, Control, Head, Isa, LabelList, Program, role};
+use pf_machine::{Block, Code, Control, Head, Isa, LabelList, Program, role};
 use std::alloc::Global;
 
 /// The bytes of a pixel of each tap.
@@ -108,8 +109,8 @@ fn lines<I: Isa>(
     requires taps { length widths.now ≤ 64 }
     requires pixels { All IsPixel widths.now }
     requires pixel { IsPixel width }
-    requires steps { All (λ i. IsStep widths.now width i) block }
-    requires near { All (λ i. IsNear I.table.vector (length widths.now) (2 ^ 30) i) block }
+    requires steps { All (λ i. IsBlockItem widths.now width i) block }
+    requires near { All (λ i. SlotEndsBelow I.table.vector (length widths.now) (2 ^ 30) i) block }
     ensures code { IfOk result (λ p. p.0 ≡ row_code I.table widths.now width block) }
     ensures labels { IfOk result (λ p. p.1 ≡ row_labels I I.table widths.now width block) }
     ensures known { IfOk result (λ _. All (λ i. IsOne I.is_op i) block) }

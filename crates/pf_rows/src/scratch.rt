@@ -1,5 +1,5 @@
 ghost use Rattle.std.specs.Prelude.{◌≡◌, ◌+◌, ◌*◌, ◌/◌, ◌^◌, ◌≤◌, if◌then◌else◌, nat_le};
-ghost use Rattle.pf_rows.specs.Scratch.{table_bytes, buffer_at, slot_at, scratch_bytes};
+ghost use Rattle.pf_rows.specs.Meaning.Scratch.{table_bytes, buffer_at, slot_at, scratch_bytes};
 
 /// Where buffer number `k` begins in the scratch of a row of so many taps.
 pub fn buffer_offset(vector: u32, taps: usize, k: usize) -> u32

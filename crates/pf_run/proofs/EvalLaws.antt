@@ -2,39 +2,37 @@
 use Rattle.std.proofs.Common.{◌≡◌, refl, sym, ◌∙◌, ap, subst, ℕ, ◌+◌, ◌*◌, ◌<◌, ◌≤◌, Bool, true, false, List, [], ◌∷◌, ◌++◌, length, map, take, drop, get_or, All, arith, length-append}
 use Rattle.std.specs.Prelude.{ℤ, pos, nat_lt, ◌&&◌, ◌+ℤ◌, ◌-ℤ◌, ◌≤ℤ◌, int_le, unsigned_abs, zip}
 use Rattle.std.proofs.lemmas.Bool.Decides.{nat_tests}
-use Rattle.std.proofs.lemmas.Int.{ints}
-use Rattle.pf_ints.specs.Lanes.{IsIn, least, greatest, is_in}
+use Rattle.std.proofs.lemmas.Int.{ints, int_min_is, int_max_is}
+use Rattle.pf_ints.specs.Meaning.Lanes.{IsIn, least, greatest, is_in}
 use Rattle.pf_ints.specs.declared.lane.LaneType.{LaneType}
-use Rattle.pf_terms.specs.declared.names.DefName.{DefName}
-use Rattle.pf_terms.specs.declared.names.Names.{Names}
-use Rattle.pf_terms.specs.declared.term.Env.{Env}
-use Rattle.pf_terms.specs.declared.term.Leaf.{Leaf as LeafOf}
-use Rattle.pf_terms.specs.declared.term.Leaf.TheVariants.{Tap, Const, Def}
-use Rattle.pf_terms.specs.declared.term.Term.{Term, roll-Term, map-Term}
-use Rattle.pf_terms.specs.declared.term.Term.TheOpen.{Term-F}
-use Rattle.pf_terms.specs.declared.term.Term.TheOpen.Term-F.{Leaf, Node}
-use Rattle.pf_terms.specs.declared.term.Term.TheFolds.{fold-roll-Term, ind-Term}
-use Rattle.pf_terms.specs.Terms.{all_true, is_env_of, is_env_leaf, env_step}
-use Rattle.pf_terms.specs.TermTexts.{is_named, is_named_leaf, is_named_tap, named_step, no_tap, no_image, no_def}
-use Rattle.pf_terms.proofs.NodeRanges.{same_type_is}
+use Rattle.pf_values.specs.declared.names.DefName.{DefName}
+use Rattle.pf_values.specs.declared.names.Names.{Names}
+use Rattle.pf_values.specs.declared.term.Env.{Env}
+use Rattle.pf_values.specs.declared.term.Leaf.{Leaf as LeafOf}
+use Rattle.pf_values.specs.declared.term.Leaf.TheVariants.{Tap, Const, Def}
+use Rattle.pf_values.specs.declared.term.Term.{Term, roll-Term, map-Term}
+use Rattle.pf_values.specs.declared.term.Term.TheOpen.{Term-F}
+use Rattle.pf_values.specs.declared.term.Term.TheOpen.Term-F.{Leaf, Node}
+use Rattle.pf_values.specs.declared.term.Term.TheFolds.{fold-roll-Term, ind-Term}
+use Rattle.pf_values.specs.Meaning.Terms.{all_true, is_env_of, is_env_leaf, env_step, Val, IsWellTyped, stated_type}
+use Rattle.pf_values.specs.Meaning.NamedTerms.{is_named, is_named_leaf, is_named_tap, named_step, no_tap, no_image, no_def}
+use Rattle.pf_values.proofs.NodeRanges.{same_type_is}
 use Rattle.std.proofs.lemmas.List.{get_or_append_left, get_or_at, get_or-map, length-map, take_more, drop_more, take_all, drop_all, map-append}
 use Rattle.std.proofs.lemmas.List.Elements.{All-nil, All-cons, All-get_or, All-from_get_or, All-weaker}
 use Rattle.std.proofs.lemmas.Slice.Zip.{get_or-zip, length-zip}
 use Rattle.std.proofs.lemmas.Nat.{column_fits}
-use Rattle.std.proofs.lemmas.Int.{int_min_is, int_max_is}
-use Rattle.pf_ints.specs.Images.{Picture, IsPicture}
-use Rattle.pf_terms.specs.declared.kernel.Definition.{Definition}
-use Rattle.pf_terms.specs.declared.kernel.ImageDecl.{ImageDecl}
-use Rattle.pf_terms.specs.declared.names.Tap.{Tap as TapOf}
-use Rattle.pf_terms.specs.KernelNames.{IsNearTap}
-use Rattle.pf_terms.specs.Kernels.{Source, Keeps, KeepsRange, no_picture, left_reach, right_reach, up_reach, down_reach, width_of, height_of, tap_column, tap_row, tap_value, tap_values, def_values}
-use Rattle.pf_terms.specs.Terms.{Val, IsWellTyped, stated_type}
-use Rattle.pf_kernel.specs.Kernels.{AreDefinitions, names_behind, def_name, image_name}
+use Rattle.pf_ints.specs.Meaning.Images.{Picture, IsPicture}
+use Rattle.pf_values.specs.declared.kernel.Definition.{Definition}
+use Rattle.pf_values.specs.declared.kernel.ImageDecl.{ImageDecl}
+use Rattle.pf_values.specs.declared.names.Tap.{Tap as TapOf}
+use Rattle.pf_terms.specs.Meaning.KernelNames.{IsNearTap}
+use Rattle.pf_values.specs.Meaning.Kernels.{Source, Keeps, KeepsRange, no_picture, left_reach, right_reach, up_reach, down_reach, width_of, height_of, tap_column, tap_row, tap_value, tap_values, def_values}
+use Rattle.pf_kernel.specs.Meaning.Kernels.{AreDefinitions, names_behind, def_name, image_name}
 use Rattle.pf_run.specs.declared.reach.Reach.{Reach}
-use Rattle.pf_terms.specs.declared.reach.Axis.{Axis}
-use Rattle.pf_terms.specs.declared.reach.Axis.TheVariants.{Columns, Rows}
-use Rattle.pf_terms.specs.Reach.{offset_along, least_offset, greatest_offset}
-use Rattle.pf_run.specs.Pixels.{AreTaps, AreDefs, IsReach, LiesInside}
+use Rattle.pf_values.specs.declared.reach.Axis.{Axis}
+use Rattle.pf_values.specs.declared.reach.Axis.TheVariants.{Columns, Rows}
+use Rattle.pf_values.specs.Meaning.Reach.{offset_along, least_offset, greatest_offset}
+use Rattle.pf_run.specs.Steps.Pixels.{AreTapNumbers, AreDefs, IsReach, LiesInside}
 
 and_left : (a b : Bool) → (a && b) ≡ true → a ≡ true
 and_left true b h = refl
@@ -64,7 +62,7 @@ pub is_in_from : (t : LaneType) (n : ℤ) → IsIn t n → is_in t n ≡ true
 is_in_from t n inside = both (int_le (least t) n) (int_le n (greatest t)) (test_int (least t) n inside.low) (test_int n (greatest t) inside.high)
 
 -- an environment that matches the names serves each term that the names serve
-module _ (names : Names) (env : Env) (taps : AreTaps names.images names.taps env.taps) (defs : AreDefs names.defs env.defs) where
+module _ (names : Names) (env : Env) (taps : AreTapNumbers names.images names.taps env.taps) (defs : AreDefs names.defs env.defs) where
   leaf_served : (leaf : LeafOf) (ty : LaneType) → is_named_leaf names leaf ty ≡ true → is_env_leaf env leaf ty ≡ true
   leaf_served (Tap n) ty h =
       let t = get_or names.taps n no_tap in
@@ -148,9 +146,9 @@ module _ (s : Source) (taps : List ℤ) (defs : List Definition) (k : ℕ) (valu
   pub typed_here : IsWellTyped d.term
   typed_here = here_and_rest.0.formed
 
-  pub served_here : (env : Env) → env.taps ≡ taps → env.defs ≡ values → AreTaps (map image_name s.images) s.taps taps → is_env_of env d.term ≡ true
+  pub served_here : (env : Env) → env.taps ≡ taps → env.defs ≡ values → AreTapNumbers (map image_name s.images) s.taps taps → is_env_of env d.term ≡ true
   served_here env of_taps of_defs are =
-      served (names_behind s.images s.taps (take k defs)) env (subst (AreTaps (map image_name s.images) s.taps) (sym of_taps) are) (subst (AreDefs (map def_name (take k defs))) (sym of_defs) so_far.each) d.term here_and_rest.0.named
+      served (names_behind s.images s.taps (take k defs)) env (subst (AreTapNumbers (map image_name s.images) s.taps) (sym of_taps) are) (subst (AreDefs (map def_name (take k defs))) (sym of_defs) so_far.each) d.term here_and_rest.0.named
 
   pub one_def_more : (env : Env) (number : ℤ) (values' : List ℤ) → env.taps ≡ taps → env.defs ≡ values → number ≡ Val env d.term → IsIn (stated_type d.term) number → values' ≡ values ++ number ∷ [] → DefsSoFar s taps defs (k + 1) values'
   one_def_more env number values' of_taps of_defs value member now =
@@ -234,7 +232,7 @@ module _ (s : Source) (pictures : List Picture) (keeps : Keeps s pictures) (r : 
       let same : (get_or (map image_name s.images) t.image no_image).ty ≡ p.ty = ap (λ i. i.ty) (get_or-map image_name s.images t.image no_decl no_image declared) ∙ sym kept.ty in
       rw same (is_in_from p.ty (tap_value s.taps pictures x y t) member)
 
-  pub taps_are : (numbers : List ℤ) → numbers ≡ tap_values s.taps pictures x y → AreTaps (map image_name s.images) s.taps numbers
+  pub taps_are : (numbers : List ℤ) → numbers ≡ tap_values s.taps pictures x y → AreTapNumbers (map image_name s.images) s.taps numbers
   taps_are numbers same = record {
     count = ap (λ (l : List ℤ). length l) same ∙ length-map s.taps (tap_value s.taps pictures x y);
     each = λ n inside.

@@ -6,13 +6,13 @@ use Rattle.std.proofs.lemmas.Int.{ints}
 use Rattle.std.proofs.lemmas.Nat.{mul-le}
 use Rattle.std.proofs.lemmas.List.Concat.{flat_map-append}
 use Rattle.std.proofs.lemmas.List.FromFn.{map-range_with_len_more}
-use Rattle.pf_ints.specs.Images.{Picture, IsPicture, IsPixelType}
-use Rattle.pf_ints.specs.Lanes.{IsIn}
-use Rattle.pf_terms.specs.Kernels.{Source, Keeps, Out, out_value, out_width, out_height, left_reach, up_reach}
-use Rattle.pf_isa.specs.RowEnds.{row_values, image_values}
-use Rattle.pf_isa.proofs.RowLaws.{length-image_values, get_or-image_values}
+use Rattle.pf_ints.specs.Meaning.Images.{Picture, IsPicture, IsPixelType}
+use Rattle.pf_ints.specs.Meaning.Lanes.{IsIn}
+use Rattle.pf_values.specs.Meaning.Kernels.{Source, Keeps, Out, out_value, out_width, out_height, left_reach, up_reach}
+use Rattle.pf_machine.specs.Meaning.RowEnds.{row_values, image_values}
+use Rattle.pf_machine.proofs.RowLaws.{length-image_values, get_or-image_values}
 use Rattle.pf_run.specs.declared.reach.Reach.{Reach}
-use Rattle.pf_run.specs.Pixels.{IsReach, out_number}
+use Rattle.pf_run.specs.Steps.Pixels.{IsReach, out_number}
 use Rattle.pf_run.proofs.PlacedLaws.{columns_within, rows_within}
 use Rattle.pf_run.proofs.ReadyLaws.{small_first}
 

@@ -4,17 +4,17 @@ use Rattle.std.specs.Prelude.{slice_get}
 use Rattle.std.proofs.lemmas.Bool.Decides.{nat_tests}
 use Rattle.std.proofs.lemmas.List.Quantifiers.{position-Some}
 use Rattle.pf_ints.specs.declared.target.Target.{Target}
-use Rattle.pf_isa.specs.declared.access.Access.{Access}
-use Rattle.pf_isa.specs.declared.memory.Region.{Region}
-use Rattle.pf_isa.specs.declared.control.Control.{Control}
-use Rattle.pf_isa.specs.declared.control.Control.TheVariants.{LoadPtr, StorePtr, Imm, AddImm, AddReg, LoadByte, LoadHalf, StoreByte, StoreHalf, Compare, Below, Jump, Return}
-use Rattle.pf_isa.specs.declared.code.Line.{Line}
-use Rattle.pf_isa.specs.declared.code.Line.TheVariants.{Vector, Control as Controls}
-use Rattle.pf_isa.specs.declared.code.Label.{Label}
-use Rattle.pf_isa.specs.Bytes.{bytes}
-use Rattle.pf_isa.specs.Memory.{holds, writable, stored, nowhere, with_bytes}
-use Rattle.pf_isa.specs.Tables.{Table}
-use Rattle.pf_isa.specs.Steps.{State, Outcome, Moved, Returned, Trapped, Ended, follow, run, step, at_line, by_access, access_step, control_step, at_address, general_of, pointer_bytes, wrapped}
+use Rattle.pf_machine.specs.declared.access.Access.{Access}
+use Rattle.pf_machine.specs.declared.memory.Region.{Region}
+use Rattle.pf_machine.specs.declared.control.Control.{Control}
+use Rattle.pf_machine.specs.declared.control.Control.TheVariants.{LoadPtr, StorePtr, Imm, AddImm, AddReg, LoadByte, LoadHalf, StoreByte, StoreHalf, Compare, Below, Jump, Return}
+use Rattle.pf_machine.specs.declared.code.Line.{Line}
+use Rattle.pf_machine.specs.declared.code.Line.TheVariants.{Vector, Control as Controls}
+use Rattle.pf_machine.specs.declared.code.Label.{Label}
+use Rattle.pf_machine.specs.Meaning.Bytes.{bytes}
+use Rattle.pf_machine.specs.Meaning.Memory.{holds, writable, stored, nowhere, with_bytes}
+use Rattle.pf_machine.specs.Meaning.Tables.{Table}
+use Rattle.pf_machine.specs.Meaning.MachineSteps.{State, Outcome, Continues, Returned, Trapped, Ended, follow, run, step, step_at, by_access, access_step, control_step, at_address, general_of, pointer_bytes, register_wrapped}
 
 -- the region lies where it lay, and keeps its bytes where it may not be written
 pub record Alike (r q : Region) : Type 0 where
@@ -89,7 +89,7 @@ stored_alike rs qs address new is = by (writable rs address (length new)) refl
 
 -- a step leaves memory so: where it goes on, to this state
 abbrev pub KeepsMemory : List Region → Outcome → Type 0
-KeepsMemory rs (Moved s) = AllAlike rs s.regions
+KeepsMemory rs (Continues s) = AllAlike rs s.regions
 KeepsMemory rs Returned = Unit {0}
 KeepsMemory rs (Trapped address count) = Unit {0}
 
@@ -104,7 +104,7 @@ store_keeps rs address count next (Some qs) same stores = subst (λ l. AllAlike 
 
 control_keeps : (target : Target) (labels : List Label) (end : ℕ) (c : Control) (s : State) → KeepsMemory s.regions (control_step target labels end c s)
 control_keeps target labels end (LoadPtr to base entry) s = load_keeps s.regions _ _ _ _ (λ held. refl)
-control_keeps target labels end (StorePtr base entry from) s = store_keeps s.regions _ _ _ _ (λ qs. refl) (λ qs is. stored_alike s.regions qs (wrapped target (general_of s base + 8 * entry)) (bytes (pointer_bytes target) (general_of s from)) is)
+control_keeps target labels end (StorePtr base entry from) s = store_keeps s.regions _ _ _ _ (λ qs. refl) (λ qs is. stored_alike s.regions qs (register_wrapped target (general_of s base + 8 * entry)) (bytes (pointer_bytes target) (general_of s from)) is)
 control_keeps target labels end (Imm to n) s = all_alike s.regions
 control_keeps target labels end (AddImm to from down by) s = all_alike s.regions
 control_keeps target labels end (AddReg to left right) s = all_alike s.regions
@@ -126,7 +126,7 @@ module _ {I O : Type 0} (t : Table O) (code : List (Line I O)) (labels : List La
   op_keeps op s None = all_alike s.regions
   op_keeps op s (Some a) = access_keeps t.target t.vector a s a.load refl
 
-  line_keeps : (s : State) (o : Option (Line I O)) → KeepsMemory s.regions (at_line t labels (length code) s o)
+  line_keeps : (s : State) (o : Option (Line I O)) → KeepsMemory s.regions (step_at t labels (length code) s o)
   line_keeps s None = tt
   line_keeps s (Some (Vector op)) = op_keeps op s (t.access op)
   line_keeps s (Some (Controls c)) = control_keeps t.target labels (length code) c s
@@ -141,7 +141,7 @@ module _ {I O : Type 0} (t : Table O) (code : List (Line I O)) (labels : List La
   run_keeps (suc n) s last ends = by (step t code labels s) (step_keeps s) ends (λ next. run_keeps n next last)
     where
       by : (o : Outcome) → KeepsMemory s.regions o → follow (λ next. run t code labels n next) s o ≡ Ended last → ((next : State) → run t code labels n next ≡ Ended last → AllAlike next.regions last.regions) → AllAlike s.regions last.regions
-      by (Moved next) keeps ends more = all_alike_then s.regions next.regions last.regions keeps (more next ends)
+      by (Continues next) keeps ends more = all_alike_then s.regions next.regions last.regions keeps (more next ends)
       by Returned keeps ends more =
           let same : s.regions ≡ last.regions = cc in
           subst (λ l. AllAlike s.regions l) same (all_alike s.regions)

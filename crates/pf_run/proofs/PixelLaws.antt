@@ -7,11 +7,11 @@ use Rattle.std.proofs.lemmas.List.Elements.{All-from_get_or, All-weaker}
 use Rattle.pf_ints.specs.declared.lane.LaneType.{LaneType}
 use Rattle.pf_ints.specs.declared.lane.Bits.{Bits}
 use Rattle.pf_ints.specs.declared.lane.Bits.TheVariants.{Eight, Sixteen, ThirtyTwo}
-use Rattle.pf_ints.specs.Lanes.{lane_width, bit_count, IsIn}
-use Rattle.pf_ints.specs.Images.{IsPixelType, IsPicture}
-use Rattle.pf_isa.specs.Bytes.{bytes, packed}
-use Rattle.pf_isa.specs.Runs.{pixel_bytes, pixels_in_memory}
-use Rattle.pf_isa.proofs.ByteLaws.{packed-append, length-packed}
+use Rattle.pf_ints.specs.Meaning.Lanes.{lane_width, bit_count, IsIn}
+use Rattle.pf_ints.specs.Meaning.Images.{IsPixelType, IsPicture}
+use Rattle.pf_machine.specs.Meaning.Bytes.{bytes, packed}
+use Rattle.pf_machine.specs.Meaning.Runs.{pixel_bytes, pixels_in_memory}
+use Rattle.pf_machine.proofs.ByteLaws.{packed-append, length-packed}
 
 -- pixels of one byte are their bytes
 pub packed_one : (bs : List ℕ) → ((i : ℕ) → get_or bs i 0 < 256) → packed 1 bs ≡ bs

@@ -7,22 +7,22 @@ use Rattle.std.proofs.lemmas.Nat.{mul-le}
 use Rattle.std.proofs.lemmas.List.{length-replicate}
 use Rattle.std.proofs.lemmas.List.Elements.{All-nil, All-cons, All-head, All-tail, All-weaker}
 use Rattle.std.proofs.lemmas.List.Kept.{AllPairs-cons}
-use Rattle.pf_ints.specs.Images.{Picture, IsPicture, IsPixelType}
-use Rattle.pf_ints.specs.Lanes.{bit_count}
+use Rattle.pf_ints.specs.Meaning.Images.{Picture, IsPicture, IsPixelType}
+use Rattle.pf_ints.specs.Meaning.Lanes.{bit_count}
 use Rattle.pf_ints.specs.declared.lane.LaneType.{LaneType}
 use Rattle.pf_ints.specs.declared.lane.Bits.{Bits}
 use Rattle.pf_ints.specs.declared.lane.Bits.TheVariants.{Eight, Sixteen, ThirtyTwo}
-use Rattle.pf_terms.specs.declared.names.Tap.{Tap}
-use Rattle.pf_terms.specs.Kernels.{lowest, highest, left_reach, right_reach, up_reach, down_reach, width_of, height_of, out_width, out_height}
-use Rattle.pf_isa.specs.declared.program.Head.{Head}
-use Rattle.pf_isa.specs.declared.memory.Region.{Region}
-use Rattle.pf_isa.specs.Memory.{Apart}
-use Rattle.pf_isa.specs.Heads.{IsHead}
-use Rattle.pf_isa.specs.Runs.{IsPlaced, IsAligned, pixel_bytes, pixels_in_memory, region, image_regions, memory, columns, rows, table_size, output_size}
-use Rattle.pf_isa.proofs.ByteLaws.{length-packed}
-use Rattle.pf_terms.specs.declared.reach.Axis.{Axis}
-use Rattle.pf_terms.specs.Reach.{offset_along, least_offset, greatest_offset, extent}
-use Rattle.pf_run.specs.Placement.{start_behind, image_size, starts_from, start_after, run_places, blank_scratch, blank_output}
+use Rattle.pf_values.specs.declared.names.Tap.{Tap}
+use Rattle.pf_values.specs.Meaning.Kernels.{lowest, highest, left_reach, right_reach, up_reach, down_reach, width_of, height_of, out_width, out_height}
+use Rattle.pf_machine.specs.declared.program.Head.{Head}
+use Rattle.pf_machine.specs.declared.memory.Region.{Region}
+use Rattle.pf_machine.specs.Meaning.Memory.{Apart}
+use Rattle.pf_machine.specs.Meaning.Heads.{IsHead}
+use Rattle.pf_machine.specs.Meaning.Runs.{IsPlaced, IsAligned, pixel_bytes, pixels_in_memory, region, image_regions, memory, columns, rows, table_size, output_size}
+use Rattle.pf_machine.proofs.ByteLaws.{length-packed}
+use Rattle.pf_values.specs.declared.reach.Axis.{Axis}
+use Rattle.pf_values.specs.Meaning.Reach.{offset_along, least_offset, greatest_offset, extent}
+use Rattle.pf_run.specs.Meaning.Placement.{start_behind, image_size, starts_from, start_after, run_places, blank_scratch, blank_output}
 
 -- the regions lie one behind the other, from an address on and up to another
 abbrev Between : ℕ → ℕ → List Region → Type 0

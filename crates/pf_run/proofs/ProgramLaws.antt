@@ -1,27 +1,27 @@
 -- What a run of a program answers, by its rows.
 use Rattle.std.proofs.Common.{◌≡◌, ℕ, zero, suc, ◌+◌, ◌≤◌, List, length, get_or, true, Ok, Err, refl, sym, ap, subst, ◌∙◌, arith}
 use Rattle.std.proofs.lemmas.List.{length-replicate}
-use Rattle.pf_ints.specs.Images.{Picture, IsPixelType}
-use Rattle.pf_isa.specs.declared.memory.Region.{Region}
-use Rattle.pf_isa.specs.Heads.{IsHead}
-use Rattle.pf_isa.specs.Machines.{IsMemory}
-use Rattle.pf_isa.specs.Memory.{nowhere}
-use Rattle.pf_isa.specs.Programs.{Text}
-use Rattle.pf_isa.specs.Steps.{State, End, Ended, Stopped, Spent}
-use Rattle.pf_isa.specs.Tables.{Table}
-use Rattle.pf_isa.specs.Runs.{Finished, then_rows, rows_from, memory, region, pixels_in_memory, rows}
-use Rattle.pf_isa.proofs.MemoryLaws.{memory-output, output_place, length-memory, length-image_regions}
+use Rattle.pf_ints.specs.Meaning.Images.{Picture, IsPixelType}
+use Rattle.pf_machine.specs.declared.memory.Region.{Region}
+use Rattle.pf_machine.specs.Meaning.Heads.{IsHead}
+use Rattle.pf_machine.specs.Meaning.Machines.{IsMemory}
+use Rattle.pf_machine.specs.Meaning.Memory.{nowhere}
+use Rattle.pf_machine.specs.Meaning.Programs.{ProgramOf}
+use Rattle.pf_machine.specs.Meaning.MachineSteps.{State, End, Ended, Stopped, OutOfSteps}
+use Rattle.pf_machine.specs.Meaning.Tables.{Table}
+use Rattle.pf_machine.specs.Meaning.Runs.{Finished, then_rows, rows_from, memory, region, pixels_in_memory, rows}
+use Rattle.pf_machine.proofs.MemoryLaws.{memory-output, output_place, length-memory, length-image_regions}
 use Rattle.pf_run.specs.declared.fault.RunFault.{RunFault}
 use Rattle.pf_run.specs.declared.fault.RunFault.TheVariants.{Text as TextAt, Set, Outside, Spent as Overspent, Memory}
 use Rattle.pf_run.specs.declared.plan.Plan.{Plan}
-use Rattle.pf_run.specs.Answers.{IsReady, Ran, run_end}
-use Rattle.pf_run.specs.Placement.{run_places, blank_memory}
-use Rattle.pf_run.specs.Rows.{HasOutputAt, IsPlanOf, RowsAnswer}
-use Rattle.pf_run.specs.Sets.{KeepsAll}
+use Rattle.pf_run.specs.Meaning.Answers.{MayRun, Ran, run_end}
+use Rattle.pf_run.specs.Meaning.Placement.{run_places, blank_memory}
+use Rattle.pf_run.specs.Steps.Rows.{HasOutputAt, IsPlanOf, RowsAnswer}
+use Rattle.pf_run.specs.Meaning.Sets.{KeepsAll}
 use Rattle.pf_run.proofs.ReadyLaws.{ready}
 use Rattle.pf_run.proofs.RowLaws.{Held, blank_held, kept_by_row, row_end, entries, budget}
 
-module _ {I O : Type 0} (t : Table O) (p : Text I O) (pictures : List Picture) where
+module _ {I O : Type 0} (t : Table O) (p : ProgramOf I O) (pictures : List Picture) where
   -- after all rows memory is that of a run
   finished_from : (left y : ℕ) (rs qs : List Region) → Held p.head pictures (run_places p.head pictures) rs → rows_from t p 65536 (budget t p pictures) (entries t p pictures) left y rs ≡ Finished qs → Held p.head pictures (run_places p.head pictures) qs
   finished_from zero y rs qs held ends =
@@ -34,13 +34,13 @@ module _ {I O : Type 0} (t : Table O) (p : Text I O) (pictures : List Picture) w
           → Held p.head pictures (run_places p.head pictures) qs
       by (Ended s) is ends more = more s (kept_by_row t p pictures y rs s held is) ends
       by (Stopped at address count s) is ends more = absurd (cc)
-      by (Spent s) is ends more = absurd (cc)
+      by (OutOfSteps s) is ends more = absurd (cc)
 
   finished_held : (qs : List Region) → run_end t p pictures ≡ Finished qs → Held p.head pictures (run_places p.head pictures) qs
   finished_held qs ends = finished_from (rows p.head pictures) 0 (blank_memory p.head pictures (run_places p.head pictures)) qs (blank_held p.head pictures (run_places p.head pictures) (blank_memory p.head pictures (run_places p.head pictures)) refl) ends
 
   module _ (is : IsHead p.head) (kept : KeepsAll p.head.images p.head.taps pictures) where
-    pub is_ready : IsReady p pictures
+    pub is_ready : MayRun p pictures
     is_ready = record { keeps = kept; placed = (ready p.head pictures is kept).places }
 
     pub is_memory : (rs : List Region) → rs ≡ blank_memory p.head pictures (run_places p.head pictures) → IsMemory rs

@@ -4,21 +4,21 @@ use Rattle.std.specs.Prelude.{pos, ◌≤ℤ◌, unsigned_abs}
 use Rattle.std.proofs.lemmas.Int.{ints}
 use Rattle.std.proofs.lemmas.Nat.{mul-le}
 use Rattle.std.proofs.lemmas.List.Elements.{All-head, All-weaker}
-use Rattle.pf_ints.specs.Images.{Picture, IsPicture}
-use Rattle.pf_terms.specs.declared.term.Term.TheVariants.{Leaf}
-use Rattle.pf_terms.specs.declared.term.Leaf.TheVariants.{Tap as TapLeaf}
-use Rattle.pf_terms.specs.declared.kernel.ImageDecl.{ImageDecl}
-use Rattle.pf_terms.specs.declared.names.Tap.{Tap}
-use Rattle.pf_terms.specs.Kernels.{Source, Keeps, no_picture, left_reach, up_reach, width_of, height_of, out_width, out_height}
-use Rattle.pf_isa.specs.declared.program.Head.{Head}
-use Rattle.pf_isa.specs.Heads.{IsHead, IsTap}
-use Rattle.pf_isa.specs.Runs.{Places, IsPlaced, columns, rows}
+use Rattle.pf_ints.specs.Meaning.Images.{Picture, IsPicture}
+use Rattle.pf_values.specs.declared.term.Term.TheVariants.{Leaf}
+use Rattle.pf_values.specs.declared.term.Leaf.TheVariants.{Tap as TapLeaf}
+use Rattle.pf_values.specs.declared.kernel.ImageDecl.{ImageDecl}
+use Rattle.pf_values.specs.declared.names.Tap.{Tap}
+use Rattle.pf_values.specs.Meaning.Kernels.{Source, Keeps, no_picture, left_reach, up_reach, width_of, height_of, out_width, out_height}
+use Rattle.pf_machine.specs.declared.program.Head.{Head}
+use Rattle.pf_machine.specs.Meaning.Heads.{IsHead, IsTap}
+use Rattle.pf_machine.specs.Meaning.Runs.{Places, IsPlaced, columns, rows}
 use Rattle.pf_run.specs.declared.plan.Plan.{Plan}
 use Rattle.pf_run.specs.declared.reach.Reach.{Reach}
-use Rattle.pf_run.specs.Pixels.{IsReach}
-use Rattle.pf_run.specs.Rows.{IsPlan}
-use Rattle.pf_run.specs.Placement.{places_of, run_places, blank_scratch, blank_output}
-use Rattle.pf_run.specs.Sets.{KeepsAll}
+use Rattle.pf_run.specs.Steps.Pixels.{IsReach}
+use Rattle.pf_run.specs.Steps.Rows.{IsPlan}
+use Rattle.pf_run.specs.Meaning.Placement.{places_of, run_places, blank_scratch, blank_output}
+use Rattle.pf_run.specs.Meaning.Sets.{KeepsAll}
 use Rattle.pf_run.proofs.PlacedLaws.{columns_within, rows_within, placed, output_low, images_low}
 
 -- what is known of such images

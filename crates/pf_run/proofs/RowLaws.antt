@@ -4,22 +4,22 @@ use Rattle.std.specs.Prelude.{replicate}
 use Rattle.std.specs.List.{position}
 use Rattle.std.proofs.lemmas.Bool.{and_from, cond-true, lt-ltb}
 use Rattle.std.proofs.lemmas.List.{length-replicate, length-map}
-use Rattle.pf_ints.specs.Images.{Picture}
-use Rattle.pf_isa.specs.declared.program.Head.{Head}
-use Rattle.pf_isa.specs.declared.memory.Region.{Region}
-use Rattle.pf_isa.specs.Bytes.{packed}
-use Rattle.pf_isa.specs.Tables.{Table}
-use Rattle.pf_isa.specs.Programs.{Text}
-use Rattle.pf_isa.specs.Steps.{State, End, Ended, Stopped, Spent, run, started}
-use Rattle.pf_isa.specs.Machines.{HasTable, is_table, with_entries}
-use Rattle.pf_isa.specs.Runs.{Places, RunEnd, then_rows, rows_from, with_table, region, pixels_in_memory, image_regions, memory, row_entries, row_budget, columns, rows, table_size, output_size}
-use Rattle.pf_isa.proofs.ByteLaws.{length-packed}
+use Rattle.pf_ints.specs.Meaning.Images.{Picture}
+use Rattle.pf_machine.specs.declared.program.Head.{Head}
+use Rattle.pf_machine.specs.declared.memory.Region.{Region}
+use Rattle.pf_machine.specs.Meaning.Bytes.{packed}
+use Rattle.pf_machine.specs.Meaning.Tables.{Table}
+use Rattle.pf_machine.specs.Meaning.Programs.{ProgramOf}
+use Rattle.pf_machine.specs.Meaning.MachineSteps.{State, End, Ended, Stopped, OutOfSteps, run, started}
+use Rattle.pf_machine.specs.Meaning.Machines.{HasTable, is_table, with_entries}
+use Rattle.pf_machine.specs.Meaning.Runs.{Places, RunEnd, then_rows, rows_from, with_table, region, pixels_in_memory, image_regions, memory, row_entries, row_budget, columns, rows, table_size, output_size}
+use Rattle.pf_machine.proofs.ByteLaws.{length-packed}
 use Rattle.pf_run.specs.declared.fault.RunFault.{RunFault}
 use Rattle.pf_run.specs.declared.fault.RunFault.TheVariants.{Outside, Spent as Overspent}
 use Rattle.pf_run.specs.declared.plan.Plan.{Plan}
-use Rattle.pf_run.specs.Placement.{run_places, places_of, blank_memory, blank_scratch, blank_output}
-use Rattle.pf_run.specs.Answers.{run_end}
-use Rattle.pf_run.specs.Rows.{RowAnswers, RowsAnswer, IsPlanOf, entries_of}
+use Rattle.pf_run.specs.Meaning.Placement.{run_places, places_of, blank_memory, blank_scratch, blank_output}
+use Rattle.pf_run.specs.Meaning.Answers.{run_end}
+use Rattle.pf_run.specs.Steps.Rows.{RowAnswers, RowsAnswer, IsPlanOf, entries_of}
 use Rattle.pf_run.proofs.KeptLaws.{AllAlike, run_keeps}
 
 -- memory of a run, whatever its table, its scratch and its output hold
@@ -120,11 +120,11 @@ pub length-entries : (h : Head) (pictures : List Picture) (at : Places) (y : ℕ
 length-entries h pictures at y = simp (length-append, length-map) (omega arith)
 
 -- what the rows so far have left to do
-pub record SoFar {I O : Type 0} (t : Table O) (p : Text I O) (pictures : List Picture) (y : ℕ) (rs : List Region) : Type 0 where
+pub record SoFar {I O : Type 0} (t : Table O) (p : ProgramOf I O) (pictures : List Picture) (y : ℕ) (rs : List Region) : Type 0 where
   pub held : Held p.head pictures (run_places p.head pictures) rs
   pub onwards : rows_from t p 65536 (row_budget (length p.code) (length p.head.taps) (columns p.head pictures)) (λ z. row_entries p.head pictures (run_places p.head pictures) z) (rows p.head pictures - y) y rs ≡ run_end t p pictures
 
-module _ {I O : Type 0} (t : Table O) (p : Text I O) (pictures : List Picture) where
+module _ {I O : Type 0} (t : Table O) (p : ProgramOf I O) (pictures : List Picture) where
   abbrev pub entries : ℕ → List ℕ
   entries y = row_entries p.head pictures (run_places p.head pictures) y
 
@@ -154,14 +154,14 @@ module _ {I O : Type 0} (t : Table O) (p : Text I O) (pictures : List Picture) w
   went_on : (y : ℕ) (rs : List Region) (e : End) (new : State) (f : List Region → RunEnd) (end : RunEnd) → RowAnswers e budget (Ok tt) new → then_rows f y e ≡ end → (e ≡ Ended new) × (f new.regions ≡ end)
   went_on y rs (Ended s) new f end answers is = (ap Ended (sym answers.1), ap (λ z. f z.regions) answers.1 ∙ is)
   went_on y rs (Stopped at address count s) new f end answers is = absurd (cc)
-  went_on y rs (Spent s) new f end answers is = absurd (cc)
+  went_on y rs (OutOfSteps s) new f end answers is = absurd (cc)
 
   failed : (y : ℕ) (e : End) (fault : RunFault) (new : State) (f : List Region → RunEnd) (end : RunEnd) (rs : List Region) → RowAnswers e budget (Err fault) new → then_rows f y e ≡ end → RowsAnswer end budget (Err fault) rs
   failed y (Ended s) fault new f end rs answers is = absurd (cc)
   failed y (Stopped at address count s) fault new f end rs answers is =
       let told : Outside at address count ≡ fault = cc in
       subst (λ g. RowsAnswer end budget (Err g) rs) told (y, s, sym is)
-  failed y (Spent s) fault new f end rs answers is =
+  failed y (OutOfSteps s) fault new f end rs answers is =
       let told : Overspent budget ≡ fault = cc in
       subst (λ g. RowsAnswer end budget (Err g) rs) told (y, s, sym is, refl)
 
@@ -200,7 +200,7 @@ module _ {I O : Type 0} (t : Table O) (p : Text I O) (pictures : List Picture) w
       ∙ ap (λ at. entries_of p.head.taps p.head.out_ty pictures at y) of_program.places
 
   -- what a row answers, where its program, its budget and its entries are told otherwise
-  pub answers_here : (p' : Text I O) (plan : Plan) (y : ℕ) (es : List ℕ) (rs : List Region) (r : Result (Unit {0}) RunFault) (new : State) → p' ≡ p → IsPlanOf p.head (length p.code) pictures plan → es ≡ entries_of plan.taps plan.out_ty pictures (places_of plan.starts) y
+  pub answers_here : (p' : ProgramOf I O) (plan : Plan) (y : ℕ) (es : List ℕ) (rs : List Region) (r : Result (Unit {0}) RunFault) (new : State) → p' ≡ p → IsPlanOf p.head (length p.code) pictures plan → es ≡ entries_of plan.taps plan.out_ty pictures (places_of plan.starts) y
       → RowAnswers (run t p'.code p'.labels plan.budget (started t 65536 (with_entries rs 65536 es))) plan.budget r new
       → RowAnswers (run t p.code p.labels budget (started t 65536 (with_entries rs 65536 (entries y)))) budget r new
   answers_here p' plan y es rs r new same of_program are answers =

@@ -4,13 +4,13 @@ use Rattle.std.specs.Prelude.{pos, zip, ◌≤ℤ◌}
 use Rattle.std.proofs.lemmas.Nat.{div_below, column_fits}
 use Rattle.std.proofs.lemmas.List.{take_all}
 use Rattle.std.proofs.lemmas.List.Elements.{All-nil, All-cons, All-head, All-tail, All-get_or, All-more, All-weaker}
-use Rattle.pf_ints.specs.Images.{Picture, IsPicture}
-use Rattle.pf_terms.specs.declared.kernel.ImageDecl.{ImageDecl}
-use Rattle.pf_terms.specs.declared.names.Tap.{Tap}
-use Rattle.pf_terms.specs.Kernels.{KeepsRange, width_of, height_of, out_width, out_height}
+use Rattle.pf_ints.specs.Meaning.Images.{Picture, IsPicture}
+use Rattle.pf_values.specs.declared.kernel.ImageDecl.{ImageDecl}
+use Rattle.pf_values.specs.declared.names.Tap.{Tap}
+use Rattle.pf_values.specs.Meaning.Kernels.{KeepsRange, width_of, height_of, out_width, out_height}
 use Rattle.pf_run.specs.declared.fault.SetFault.{SetFault}
 use Rattle.pf_run.specs.declared.fault.SetFault.TheVariants.{Count, Kind, Size, Pixel, NoOutput}
-use Rattle.pf_run.specs.Sets.{AllSuit, HasOutput, IsFirstFault, IsFirstOutside, IsImageFault, IsInRange, IsSetFault, KeepsAll, KeepsNone, Suits}
+use Rattle.pf_run.specs.Meaning.Sets.{AllSuit, HasOutput, IsFirstBadImage, IsFirstOutside, IsImageFault, IsInRange, IsSetFault, KeepsAll, KeepsNone, Suits}
 
 -- the column and the row of a pixel that is out of the range
 pub outside_at : (d : ImageDecl) (p : Picture) (k : ℕ) → IsPicture p → k < length p.pixels → (IsInRange d (get_or p.pixels k 0) → ⊥) → All (IsInRange d) (take k p.pixels)
@@ -42,15 +42,15 @@ in_range_all d seen pixels k same past before =
 
 -- what is found of the first image and of the others, together
 pub each_judged : (width height number : ℕ) (d : ImageDecl) (p : Picture) (ds : List ImageDecl) (ps : List Picture) (r : Option SetFault) → Suits width height d p → IsPicture p
-    → MatchOption r (All (λ q. Suits width height q.0 q.1) (zip ds ps) × All IsPicture ps) (IsFirstFault width height (number + 1) ds ps)
-    → MatchOption r (All (λ q. Suits width height q.0 q.1) (zip (d ∷ ds) (p ∷ ps)) × All IsPicture (p ∷ ps)) (IsFirstFault width height number (d ∷ ds) (p ∷ ps))
+    → MatchOption r (All (λ q. Suits width height q.0 q.1) (zip ds ps) × All IsPicture ps) (IsFirstBadImage width height (number + 1) ds ps)
+    → MatchOption r (All (λ q. Suits width height q.0 q.1) (zip (d ∷ ds) (p ∷ ps)) × All IsPicture (p ∷ ps)) (IsFirstBadImage width height number (d ∷ ds) (p ∷ ps))
 each_judged width height number d p ds ps None suits is rest = (All-cons (λ q. Suits width height q.0 q.1) (d, p) (zip ds ps) suits rest.0, All-cons IsPicture p ps is rest.1)
 each_judged width height number d p ds ps (Some fault) suits is rest = inr (suits, rest)
 
 -- the same, where the first are read from the lists, and the others are what is left of them
 pub each_read : (width height number : ℕ) (d : ImageDecl) (p : Picture) (ds : List ImageDecl) (ps : List Picture) (r : Option SetFault) → 1 ≤ length ds → 1 ≤ length ps → d ≡ get_or ds 0 d → p ≡ get_or ps 0 p → Suits width height d p → IsPicture p
-    → MatchOption r (All (λ q. Suits width height q.0 q.1) (zip (take (length ds - 1) (drop 1 ds)) (take (length ps - 1) (drop 1 ps))) × All IsPicture (take (length ps - 1) (drop 1 ps))) (IsFirstFault width height (number + 1) (take (length ds - 1) (drop 1 ds)) (take (length ps - 1) (drop 1 ps)))
-    → MatchOption r (All (λ q. Suits width height q.0 q.1) (zip ds ps) × All IsPicture ps) (IsFirstFault width height number ds ps)
+    → MatchOption r (All (λ q. Suits width height q.0 q.1) (zip (take (length ds - 1) (drop 1 ds)) (take (length ps - 1) (drop 1 ps))) × All IsPicture (take (length ps - 1) (drop 1 ps))) (IsFirstBadImage width height (number + 1) (take (length ds - 1) (drop 1 ds)) (take (length ps - 1) (drop 1 ps)))
+    → MatchOption r (All (λ q. Suits width height q.0 q.1) (zip ds ps) × All IsPicture ps) (IsFirstBadImage width height number ds ps)
 each_read width height number d p [] ps r some others first second suits is rest = absurd (omega arith)
 each_read width height number d p (e ∷ ds) [] r some others first second suits is rest = absurd (omega arith)
 each_read width height number d p (e ∷ ds) (q ∷ ps) r some others first second suits is rest =
@@ -69,7 +69,7 @@ image_refused width height number d p (Pixel image x y n) is fault range wide hi
 image_refused width height number d p (Count want got) is fault range wide high = fault
 image_refused width height number d p NoOutput is fault range wide high = fault
 
-each_refused : (width height number : ℕ) (ds : List ImageDecl) (ps : List Picture) (fault : SetFault) → IsFirstFault width height number ds ps fault
+each_refused : (width height number : ℕ) (ds : List ImageDecl) (ps : List Picture) (fault : SetFault) → IsFirstBadImage width height number ds ps fault
     → All IsPicture ps → All (λ q. KeepsRange q.0 q.1) (zip ds ps) → All (λ (p : Picture). (p.width ≡ width) × (p.height ≡ height)) ps → ⊥
 each_refused width height number [] ps fault first are ranges sizes = first
 each_refused width height number (d ∷ ds) [] fault first are ranges sizes = first
@@ -86,7 +86,7 @@ module _ (images : List ImageDecl) (taps : List Tap) (pictures : List Picture) w
   count_refused differ s of_images of_taps keeps = differ (keeps.count ∙ ap length of_images)
 
   -- a fault of one image
-  pub first_refused : (fault : SetFault) → IsFirstFault (width_of pictures) (height_of pictures) 0 images pictures fault → KeepsNone images taps pictures
+  pub first_refused : (fault : SetFault) → IsFirstBadImage (width_of pictures) (height_of pictures) 0 images pictures fault → KeepsNone images taps pictures
   first_refused fault first s of_images of_taps keeps =
       each_refused (width_of pictures) (height_of pictures) 0 images pictures fault first keeps.limits
       (subst (λ ds. All (λ q. KeepsRange q.0 q.1) (zip ds pictures)) of_images keeps.each) keeps.sizes
@@ -115,33 +115,33 @@ module _ (images : List ImageDecl) (taps : List Tap) (pictures : List Picture) w
           All-cons (λ (p : Picture). (p.width ≡ width) × (p.height ≡ height)) p ps (here.wide, here.high) (same_sizes width height ds ps (omega arith) (All-tail (λ q. Suits width height q.0 q.1) (d, p) (zip ds ps) suit))
 
   -- a fault of one image is one of the set
-  pub first_is_set_fault : (fault : SetFault) → length pictures ≡ length images → IsFirstFault (width_of pictures) (height_of pictures) 0 images pictures fault → IsSetFault images taps pictures fault
+  pub first_is_set_fault : (fault : SetFault) → length pictures ≡ length images → IsFirstBadImage (width_of pictures) (height_of pictures) 0 images pictures fault → IsSetFault images taps pictures fault
   first_is_set_fault (Kind image) count first = (count, first)
   first_is_set_fault (Size image w h) count first = (count, first)
   first_is_set_fault (Pixel image x y n) count first = (count, first)
   first_is_set_fault (Count want got) count first = absurd (no_other (width_of pictures) (height_of pictures) 0 images pictures first)
     where
-      no_other : (width height number : ℕ) (ds : List ImageDecl) (ps : List Picture) → IsFirstFault width height number ds ps (Count want got) → ⊥
+      no_other : (width height number : ℕ) (ds : List ImageDecl) (ps : List Picture) → IsFirstBadImage width height number ds ps (Count want got) → ⊥
       no_other width height number [] ps first = first
       no_other width height number (d ∷ ds) [] first = first
       no_other width height number (d ∷ ds) (p ∷ ps) first = ⊎_elim (λ here. here) (λ rest. no_other width height (number + 1) ds ps rest.1) first
   first_is_set_fault NoOutput count first = absurd (no_other (width_of pictures) (height_of pictures) 0 images pictures first)
     where
-      no_other : (width height number : ℕ) (ds : List ImageDecl) (ps : List Picture) → IsFirstFault width height number ds ps NoOutput → ⊥
+      no_other : (width height number : ℕ) (ds : List ImageDecl) (ps : List Picture) → IsFirstBadImage width height number ds ps NoOutput → ⊥
       no_other width height number [] ps first = first
       no_other width height number (d ∷ ds) [] first = first
       no_other width height number (d ∷ ds) (p ∷ ps) first = ⊎_elim (λ here. here) (λ rest. no_other width height (number + 1) ds ps rest.1) first
 
 -- what is found of a set, where the images that were seen are the set's, and their size was told
 module _ (images : List ImageDecl) (taps : List Tap) (pictures seen : List Picture) (width height : ℕ) (same : seen ≡ pictures) (wide : width ≡ width_of seen) (high : height ≡ height_of seen) (count : length seen ≡ length images) where
-  pub found_first : (fault : SetFault) → IsFirstFault width height 0 images seen fault → IsSetFault images taps pictures fault
+  pub found_first : (fault : SetFault) → IsFirstBadImage width height 0 images seen fault → IsSetFault images taps pictures fault
   found_first fault first =
-      let told : IsFirstFault (width_of seen) (height_of seen) 0 images seen fault = subst (λ h. IsFirstFault (width_of seen) h 0 images seen fault) high (subst (λ w. IsFirstFault w height 0 images seen fault) wide first) in
+      let told : IsFirstBadImage (width_of seen) (height_of seen) 0 images seen fault = subst (λ h. IsFirstBadImage (width_of seen) h 0 images seen fault) high (subst (λ w. IsFirstBadImage w height 0 images seen fault) wide first) in
       subst (λ l. IsSetFault images taps l fault) same (first_is_set_fault images taps seen fault count told)
 
-  pub found_refused : (fault : SetFault) → IsFirstFault width height 0 images seen fault → KeepsNone images taps pictures
+  pub found_refused : (fault : SetFault) → IsFirstBadImage width height 0 images seen fault → KeepsNone images taps pictures
   found_refused fault first =
-      let told : IsFirstFault (width_of seen) (height_of seen) 0 images seen fault = subst (λ h. IsFirstFault (width_of seen) h 0 images seen fault) high (subst (λ w. IsFirstFault w height 0 images seen fault) wide first) in
+      let told : IsFirstBadImage (width_of seen) (height_of seen) 0 images seen fault = subst (λ h. IsFirstBadImage (width_of seen) h 0 images seen fault) high (subst (λ w. IsFirstBadImage w height 0 images seen fault) wide first) in
       subst (λ l. KeepsNone images taps l) same (first_refused images taps seen fault told)
 
   pub found_kept : All (λ q. Suits width height q.0 q.1) (zip images seen) × All IsPicture seen → HasOutput taps seen → KeepsAll images taps pictures

@@ -4,9 +4,9 @@ use Rattle.std.specs.Prelude.{if◌then◌else◌}
 use Rattle.std.specs.List.{slice_split, onto_first, AllZip}
 use Rattle.std.specs.Str.Lines.{lines, lines_of_parts}
 use Rattle.std.proofs.lemmas.List.Splits.{length-slice_split}
-use Rattle.pf_isa.specs.Tables.{Table}
-use Rattle.pf_isa.specs.Programs.{Text}
-use Rattle.pf_isa.specs.Texts.{Said, Nothing, Named, Does, Says, code_of, IsText}
+use Rattle.pf_machine.specs.Meaning.Tables.{Table}
+use Rattle.pf_machine.specs.Meaning.Programs.{ProgramOf}
+use Rattle.pf_isa.specs.Meaning.Texts.{CodeMeaning, Nothing, Named, Does, SaysCode, code_of, IsText}
 
 at_most_one : (b : Bool) (l : List ℕ) → length (if b then [] else l ∷ []) ≤ 1
 at_most_one true l = omega arith
@@ -28,17 +28,17 @@ length-all_zip R [] (y ∷ ys) same = absurd same
 length-all_zip R (x ∷ xs) [] same = absurd same
 length-all_zip R (x ∷ xs) (y ∷ ys) same = ap suc (length-all_zip R xs ys same.1)
 
-length-code_of : {I O : Type 0} (said : List (Said I O)) → length (code_of said) ≤ length said
+length-code_of : {I O : Type 0} (said : List (CodeMeaning I O)) → length (code_of said) ≤ length said
 length-code_of [] = omega arith
 length-code_of (Nothing ∷ more) = let rest = length-code_of more in omega arith
 length-code_of (Named name ∷ more) = let rest = length-code_of more in omega arith
 length-code_of (Does line ∷ more) = let rest = length-code_of more in omega arith
 
-pub short_code : {I O : Type 0} (t : Table O) (is_op : O → Type 0) (bytes : List ℕ) (p : Text I O) → IsText t is_op bytes p → length bytes < 2 ^ 31 → length p.code < 2 ^ 31
+pub short_code : {I O : Type 0} (t : Table O) (is_op : O → Type 0) (bytes : List ℕ) (p : ProgramOf I O) → IsText t is_op bytes p → length bytes < 2 ^ 31 → length p.code < 2 ^ 31
 short_code t is_op bytes p is short =
     let code : length p.code ≡ length (code_of is.said) = ap (λ l. length l) is.code in
     let few = length-code_of is.said in
-    let back : length is.back ≡ length is.said = length-all_zip (Says t) is.back is.said is.body in
+    let back : length is.back ≡ length is.said = length-all_zip (SaysCode t) is.back is.said is.body in
     let all : length (lines bytes) ≡ length is.front + length is.back = ap (λ (l : List (List ℕ)). length l) is.parts ∙ length-append is.front is.back in
     let lines_few = length-lines bytes in
     omega arith

@@ -1,6 +1,2 @@
-pub mod Sets
-pub mod Placement
-pub mod Answers
-pub mod Rows
-pub mod Evaluations
-pub mod Pixels
+pub mod Meaning
+pub mod Steps

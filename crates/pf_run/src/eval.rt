@@ -1,12 +1,12 @@
 //! Kernels, evaluated on images.
 
 ghost use Rattle.std.specs.Prelude.{◌≡◌, ◌++◌, ◌<◌, ◌≤◌, ◌≤ℤ◌, ℕ, [], pos, map, unsigned_abs, All, IfOk, OnOk};
-ghost use Rattle.pf_ints.specs.Lanes.{IsIn};
-ghost use Rattle.pf_isa.specs.RowEnds.{image_values, row_values};
-ghost use Rattle.pf_kernel.specs.Kernels.{def_name, names_of};
-ghost use Rattle.pf_terms.specs.Kernels.{Keeps, Out, def_values, out_value, tap_value, tap_values};
-ghost use Rattle.pf_run.specs.Evaluations.{Evaluated};
-ghost use Rattle.pf_run.specs.Pixels.{AreDefs, AreTaps, IsReach, LiesInside, out_number};
+ghost use Rattle.pf_ints.specs.Meaning.Lanes.{IsIn};
+ghost use Rattle.pf_machine.specs.Meaning.RowEnds.{image_values, row_values};
+ghost use Rattle.pf_kernel.specs.Meaning.Kernels.{def_name, names_of};
+ghost use Rattle.pf_values.specs.Meaning.Kernels.{Keeps, Out, def_values, out_value, tap_value, tap_values};
+ghost use Rattle.pf_run.specs.Meaning.Evaluations.{Evaluated};
+ghost use Rattle.pf_run.specs.Steps.Pixels.{AreDefs, AreTapNumbers, IsReach, LiesInside, out_number};
 
 use crate::fault::EvalFault;
 use crate::reach::{Reach, distance, pixel_number, reach_of};
@@ -67,7 +67,7 @@ fn fill_taps(
 
 /// Puts the definitions' values into the environment, which has the taps' numbers.
 fn fill_defs(alloc: Global, kernel: &Kernel, env: &mut Env) -> Result<(), Memory>
-    requires { AreTaps (names_of kernel.now.source).images kernel.now.source.taps env.old.taps }
+    requires { AreTapNumbers (names_of kernel.now.source).images kernel.now.source.taps env.old.taps }
     ensures taps { env.new.taps ≡ env.old.taps }
     ensures defs { OnOk result (env.new.defs ≡ def_values env.old.taps [] kernel.now.source.defs) }
     ensures each { OnOk result (AreDefs (map def_name kernel.now.source.defs) env.new.defs) }

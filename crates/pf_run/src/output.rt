@@ -1,10 +1,10 @@
 //! The image that a run leaves in its output.
 
 ghost use Rattle.std.specs.Prelude.{◌≡◌, ◌*◌, ◌<◌, ◌≤◌, ◌^◌, length, All, IfOk};
-ghost use Rattle.pf_ints.specs.Images.{IsPixelType};
-ghost use Rattle.pf_ints.specs.Lanes.{lane_width};
-ghost use Rattle.pf_isa.specs.Bytes.{packed};
-ghost use Rattle.pf_isa.specs.Runs.{pixel_bytes, pixels_in_memory};
+ghost use Rattle.pf_ints.specs.Meaning.Images.{IsPixelType};
+ghost use Rattle.pf_ints.specs.Meaning.Lanes.{lane_width};
+ghost use Rattle.pf_machine.specs.Meaning.Bytes.{packed};
+ghost use Rattle.pf_machine.specs.Meaning.Runs.{pixel_bytes, pixels_in_memory};
 
 use pf_ints::{Bits, Image, LaneType, Memory, PixelList, Sequence};
 use std::alloc::Global;

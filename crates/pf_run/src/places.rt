@@ -1,11 +1,11 @@
 //! Where a run's regions lie, and what they hold at its start.
 
 ghost use Rattle.std.specs.Prelude.{◌≡◌, ◌+◌, ◌*◌, ◌<◌, ◌≤◌, ◌^◌, ◌++◌, length, map, replicate, All, IfOk, OnOk};
-ghost use Rattle.pf_ints.specs.Images.{IsPicture, IsPixelType};
-ghost use Rattle.pf_isa.specs.Bytes.{packed};
-ghost use Rattle.pf_isa.specs.Heads.{IsHead};
-ghost use Rattle.pf_isa.specs.Runs.{pixel_bytes, pixels_in_memory, region, image_regions, memory, table_size, output_size};
-ghost use Rattle.pf_run.specs.Placement.{start_behind, image_size, starts_from, start_after, run_places, places_of, blank_scratch, blank_output, blank_memory};
+ghost use Rattle.pf_ints.specs.Meaning.Images.{IsPicture, IsPixelType};
+ghost use Rattle.pf_machine.specs.Meaning.Bytes.{packed};
+ghost use Rattle.pf_machine.specs.Meaning.Heads.{IsHead};
+ghost use Rattle.pf_machine.specs.Meaning.Runs.{pixel_bytes, pixels_in_memory, region, image_regions, memory, table_size, output_size};
+ghost use Rattle.pf_run.specs.Meaning.Placement.{start_behind, image_size, starts_from, start_after, run_places, places_of, blank_scratch, blank_output, blank_memory};
 
 use pf_ints::{Bits, ByteList, Image, LaneType, Memory, Sequence};
 use pf_isa::{Head, Region, RegionList};

@@ -1,10 +1,10 @@
 //! What is settled of a run before its first row.
 
 ghost use Rattle.std.specs.Prelude.{◌≡◌, ◌<◌, ◌≤◌, ◌^◌, length, IfOk};
-ghost use Rattle.pf_isa.specs.Heads.{IsHead};
-ghost use Rattle.pf_isa.specs.Runs.{row_budget};
-ghost use Rattle.pf_run.specs.Rows.{IsPlan, IsPlanOf};
-ghost use Rattle.pf_run.specs.Sets.{KeepsAll};
+ghost use Rattle.pf_machine.specs.Meaning.Heads.{IsHead};
+ghost use Rattle.pf_machine.specs.Meaning.Runs.{row_budget};
+ghost use Rattle.pf_run.specs.Steps.Rows.{IsPlan, IsPlanOf};
+ghost use Rattle.pf_run.specs.Meaning.Sets.{KeepsAll};
 
 use crate::places::{Starts, run_starts};
 use crate::reach::{Reach, reach_of};

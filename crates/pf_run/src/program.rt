@@ -1,13 +1,13 @@
 //! Runs of programs on images.
 
 ghost use Rattle.std.specs.Prelude.{◌≡◌, ◌+◌, ◌*◌, ◌<◌, ◌≤◌, ◌^◌, length, slice_index_or, IfOk};
-ghost use Rattle.pf_ints.specs.Images.{IsPixelType};
-ghost use Rattle.pf_isa.specs.Memory.{nowhere};
-ghost use Rattle.pf_isa.specs.Runs.{pixel_bytes, pixels_in_memory};
-ghost use Rattle.pf_run.specs.Answers.{Ran};
-ghost use Rattle.pf_run.specs.Placement.{blank_memory, run_places};
-ghost use Rattle.pf_run.specs.Rows.{HasOutputAt, IsPlan, IsPlanOf};
-ghost use Rattle.pf_run.specs.Sets.{KeepsAll};
+ghost use Rattle.pf_ints.specs.Meaning.Images.{IsPixelType};
+ghost use Rattle.pf_machine.specs.Meaning.Memory.{nowhere};
+ghost use Rattle.pf_machine.specs.Meaning.Runs.{pixel_bytes, pixels_in_memory};
+ghost use Rattle.pf_run.specs.Meaning.Answers.{Ran};
+ghost use Rattle.pf_run.specs.Meaning.Placement.{blank_memory, run_places};
+ghost use Rattle.pf_run.specs.Steps.Rows.{HasOutputAt, IsPlan, IsPlanOf};
+ghost use Rattle.pf_run.specs.Meaning.Sets.{KeepsAll};
 
 use crate::fault::RunFault;
 use crate::output::image_in_memory;

@@ -1,9 +1,9 @@
 //! How far taps reach, and where their pixels stand.
 
 ghost use Rattle.std.specs.Prelude.{◌≡◌, ◌+◌, ◌*◌, ◌<◌, ◌≤◌, ◌^◌, ◌+ℤ◌, ◌-ℤ◌, ◌≤ℤ◌, pos, unsigned_abs, All};
-ghost use Rattle.pf_ints.specs.Images.{IsPicture};
-ghost use Rattle.pf_terms.specs.Kernels.{out_width, out_height};
-ghost use Rattle.pf_run.specs.Pixels.{IsReach};
+ghost use Rattle.pf_ints.specs.Meaning.Images.{IsPicture};
+ghost use Rattle.pf_values.specs.Meaning.Kernels.{out_width, out_height};
+ghost use Rattle.pf_run.specs.Steps.Pixels.{IsReach};
 
 use crate::set::size_of;
 use pf_ints::Image;

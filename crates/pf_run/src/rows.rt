@@ -1,12 +1,12 @@
 //! The rows of a run, one behind the other.
 
 ghost use Rattle.std.specs.Prelude.{◌≡◌, pos, ◌+ℤ◌, ◌-ℤ◌, unsigned_abs, ◌+◌, ◌*◌, ◌<◌, ◌≤◌, ◌^◌, ◌++◌, ◌∷◌, [], length, map, All, IfOk, OnOk};
-ghost use Rattle.pf_isa.specs.Runs.{row_budget, tap_address};
-ghost use Rattle.pf_isa.specs.Steps.{run, started};
-ghost use Rattle.pf_isa.specs.Machines.{HasTable, with_entries};
-ghost use Rattle.pf_run.specs.Answers.{IsReady, run_end};
-ghost use Rattle.pf_run.specs.Placement.{blank_memory, places_of, run_places};
-ghost use Rattle.pf_run.specs.Rows.{IsPlan, IsPlanOf, RowAnswers, RowsAnswer, entries_of};
+ghost use Rattle.pf_machine.specs.Meaning.Runs.{row_budget, tap_address};
+ghost use Rattle.pf_machine.specs.Meaning.MachineSteps.{run, started};
+ghost use Rattle.pf_machine.specs.Meaning.Machines.{HasTable, with_entries};
+ghost use Rattle.pf_run.specs.Meaning.Answers.{MayRun, run_end};
+ghost use Rattle.pf_run.specs.Meaning.Placement.{blank_memory, places_of, run_places};
+ghost use Rattle.pf_run.specs.Steps.Rows.{IsPlan, IsPlanOf, RowAnswers, RowsAnswer, entries_of};
 
 use crate::fault::RunFault;
 use crate::places::TABLE;
@@ -97,7 +97,7 @@ pub fn run_rows<I: Isa>(
 ) -> Result<(), RunFault>
     requires plan { IsPlan images.now plan.now }
     requires program { IsPlanOf machine.old.text.head (length machine.old.text.code) images.now plan.now }
-    requires ready { IsReady machine.old.text images.now }
+    requires ready { MayRun machine.old.text images.now }
     requires begun { machine.old.state.regions ≡ blank_memory machine.old.text.head images.now (run_places machine.old.text.head images.now) }
     ensures value { RowsAnswer (run_end I.table machine.old.text images.now) plan.now.budget result machine.new.state.regions }
     ensures text { machine.new.text ≡ machine.old.text }

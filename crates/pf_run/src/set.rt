@@ -1,9 +1,9 @@
 //! What is wrong with a set of images.
 
 ghost use Rattle.std.specs.Prelude.{◌≡◌, ◌+◌, ◌≤◌, ◌<◌, ◌^◌, ◌↔◌, length, zip, All, IsTrue, MatchOption, IfSome};
-ghost use Rattle.pf_ints.specs.Images.{IsPicture};
-ghost use Rattle.pf_terms.specs.Kernels.{KeepsRange, width_of, height_of};
-ghost use Rattle.pf_run.specs.Sets.{HasOutput, IsFirstFault, IsImageFault, IsInRange, IsSetFault, KeepsAll, KeepsNone, Suits};
+ghost use Rattle.pf_ints.specs.Meaning.Images.{IsPicture};
+ghost use Rattle.pf_values.specs.Meaning.Kernels.{KeepsRange, width_of, height_of};
+ghost use Rattle.pf_run.specs.Meaning.Sets.{HasOutput, IsFirstBadImage, IsImageFault, IsInRange, IsSetFault, KeepsAll, KeepsNone, Suits};
 
 use crate::fault::SetFault;
 use pf_ints::{Image, ImageSet};
@@ -65,7 +65,7 @@ fn judge_each(
 ) -> Option<SetFault>
     requires few { number + length images.now < 2 ^ 32 }
     requires same { length set.now ≡ length images.now }
-    ensures { MatchOption result (All (λ q. Suits width height q.0 q.1) (zip images.now set.now) × All IsPicture set.now) (IsFirstFault width height number images.now set.now) }
+    ensures { MatchOption result (All (λ q. Suits width height q.0 q.1) (zip images.now set.now) × All IsPicture set.now) (IsFirstBadImage width height number images.now set.now) }
 {
     match (images, set) {
         ([decl, decls @ ..], [image, rest @ ..]) => {

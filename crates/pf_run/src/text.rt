@@ -1,12 +1,12 @@
 //! Runs of texts on images.
 
 ghost use Rattle.std.specs.Prelude.{◌<◌, ◌^◌, length};
-ghost use Rattle.pf_isa.specs.Programs.{Text};
-ghost use Rattle.pf_isa.specs.Texts.{IsText};
-ghost use Rattle.pf_neon.specs.declared.op.Form.{Form};
-ghost use Rattle.pf_neon.specs.Forms.{IsForm};
-ghost use Rattle.pf_neon.specs.Neon.{table};
-ghost use Rattle.pf_run.specs.Answers.{Ran, RanText};
+ghost use Rattle.pf_machine.specs.Meaning.Programs.{ProgramOf};
+ghost use Rattle.pf_isa.specs.Meaning.Texts.{IsText};
+ghost use Rattle.pf_neon.specs.declared.op.Instruction.{Instruction};
+ghost use Rattle.pf_neon.specs.Meaning.Instructions.{IsNeonInstruction};
+ghost use Rattle.pf_neon.specs.Meaning.Neon.{table};
+ghost use Rattle.pf_run.specs.Meaning.Answers.{Ran, RanText};
 
 use crate::fault::RunFault;
 use crate::program::run_program;
@@ -19,7 +19,7 @@ use std::alloc::Global;
 fn run_text<I: Isa>(alloc: Global, text: &[u8], images: &ImageSet) -> Result<Image, RunFault>
     requires { length text.now < 2 ^ 31 }
     ensures ran { RanText I I.table I.is_op text.now images.now result }
-    ensures only { (p : Text I I.Op) → IsText I.table I.is_op text.now p → Ran I.table p images.now result }
+    ensures only { (p : ProgramOf I I.Op) → IsText I.table I.is_op text.now p → Ran I.table p images.now result }
 {
     match read_text::<I>(alloc, text) {
         Ok(program) => run_program(alloc, program, images),
@@ -33,8 +33,8 @@ fn run_text<I: Isa>(alloc: Global, text: &[u8], images: &ImageSet) -> Result<Ima
 /// tells it. A text has at most 2^31 - 1 bytes.
 pub fn run_images(alloc: Global, text: &[u8], images: &ImageSet) -> Result<Image, RunFault>
     requires { length text.now < 2 ^ 31 }
-    ensures ran { RanText Neon table IsForm text.now images.now result }
-    ensures only { (p : Text Neon Form) → IsText table IsForm text.now p → Ran table p images.now result }
+    ensures ran { RanText Neon table IsNeonInstruction text.now images.now result }
+    ensures only { (p : ProgramOf Neon Instruction) → IsText table IsNeonInstruction text.now p → Ran table p images.now result }
 {
     run_text::<Neon>(alloc, text, images)
 }

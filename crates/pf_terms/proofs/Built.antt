@@ -3,31 +3,31 @@ use Rattle.std.proofs.Common.{◌≡◌, sym, ap, ◌∙◌, subst, ℕ, ◌+◌
 use Rattle.std.specs.Prelude.{Option, Some, None, Result, Ok, Err, unsigned_abs, slice_index_or}
 use Rattle.std.proofs.lemmas.List.{length-map, drop_all, take_more, take_all}
 use Rattle.pf_ints.specs.declared.lane.LaneType.{LaneType}
-use Rattle.pf_ints.specs.Lanes.{lane_width}
-use Rattle.pf_terms.specs.declared.draft.Draft.{Draft}
-use Rattle.pf_terms.specs.declared.draft.Draft.TheVariants.{Node, Placed}
-use Rattle.pf_terms.specs.declared.fault.TermFault.{TermFault}
-use Rattle.pf_terms.specs.declared.fault.TermFault.TheVariants.{Types as TypesAt, Amount as AmountAt}
+use Rattle.pf_ints.specs.Meaning.Lanes.{lane_width}
+use Rattle.pf_terms.specs.declared.parse.syntax_tree.SyntaxTree.{SyntaxTree}
+use Rattle.pf_terms.specs.declared.parse.syntax_tree.SyntaxTree.TheVariants.{Node, Tap}
+use Rattle.pf_values.specs.declared.fault.TermFault.{TermFault}
+use Rattle.pf_values.specs.declared.fault.TermFault.TheVariants.{Types as TypesAt, Amount as AmountAt}
 use Rattle.pf_terms.specs.declared.resolve.NodeFault.{NodeFault}
 use Rattle.pf_terms.specs.declared.resolve.NodeFault.TheVariants.{Types, Amount, Memory}
-use Rattle.pf_terms.specs.declared.names.Names.{Names}
-use Rattle.pf_terms.specs.declared.op.Op.{Op}
-use Rattle.pf_terms.specs.declared.row.Operands.{Operands}
-use Rattle.pf_terms.specs.declared.row.Operands.TheVariants.{One, OneSigned, Alike, Narrow, WideFirst, Choice}
-use Rattle.pf_terms.specs.declared.term.Leaf.TheVariants.{Tap as TapOf}
-use Rattle.pf_terms.specs.declared.term.Term.{Term}
-use Rattle.pf_terms.specs.declared.term.Term.TheVariants.{Leaf, Node as NodeTerm}
-use Rattle.pf_terms.specs.Operators.{Row, row_of}
-use Rattle.pf_terms.specs.Building.{IsNodeFault, IsFound, place_in_order}
-use Rattle.pf_terms.specs.Meanings.{in_order, term_of, node_over, written_type, tap_at, tap_number, image_number}
-use Rattle.pf_terms.specs.Terms.{node_type, type_fault, is_amount, first_width, unless_differs, operand_count, typing, types_from, then_node, fault_below, result_type, stated_type}
-use Rattle.pf_terms.specs.TermTexts.{no_image}
-use Rattle.pf_terms.proofs.DraftForms.{term_placed}
-use Rattle.pf_terms.proofs.NodeParts.{typing_is}
-use Rattle.pf_terms.proofs.Typing.{behind, stopped, gather, gathered}
-use Rattle.pf_terms.proofs.TermRanges.{typing_stated, gathered_types, first_type}
+use Rattle.pf_values.specs.declared.names.Names.{Names}
+use Rattle.pf_values.specs.declared.op.Op.{Op}
+use Rattle.pf_values.specs.declared.row.Operands.{Operands}
+use Rattle.pf_values.specs.declared.row.Operands.TheVariants.{One, OneSigned, Alike, Narrow, WideFirst, Choice}
+use Rattle.pf_values.specs.declared.term.Leaf.TheVariants.{Tap as TapOf}
+use Rattle.pf_values.specs.declared.term.Term.{Term}
+use Rattle.pf_values.specs.declared.term.Term.TheVariants.{Leaf, Node as NodeTerm}
+use Rattle.pf_values.specs.Meaning.Operators.{Row, row_of}
+use Rattle.pf_terms.specs.Steps.Building.{IsNodeFault, IsFound, place_in_order}
+use Rattle.pf_terms.specs.Meaning.Meanings.{in_order, term_of, node_over, written_type, tap_at, tap_number, image_number}
+use Rattle.pf_values.specs.Meaning.Terms.{node_type, type_fault, is_amount, first_width, unless_differs, operand_count, typing, types_from, then_node, fault_below, result_type, stated_type}
+use Rattle.pf_values.specs.Meaning.NamedTerms.{no_image}
+use Rattle.pf_terms.proofs.TreeForms.{term_placed}
+use Rattle.pf_values.proofs.NodeParts.{typing_is}
+use Rattle.pf_values.proofs.Typing.{behind, stopped, gather, gathered}
+use Rattle.pf_values.proofs.TermRanges.{typing_stated, gathered_types, first_type}
 use Rattle.pf_terms.proofs.Lookups.{HasPair, length_in_order}
-use Rattle.pf_terms.proofs.DraftParts.{term_is, operand_at, get_operand}
+use Rattle.pf_terms.proofs.TreeParts.{term_is, operand_at, get_operand}
 
 pub types_told : (r : Row) (ty u : LaneType) (k : ℕ) (ts : List LaneType) (o : Option (LaneType × LaneType)) (want got : LaneType) → u ≡ ty → o ≡ type_fault r u ts → o ≡ Some (want, got) →
     (path : List ℕ) × (node_type r ty k ts ≡ Err (TypesAt path want got))
@@ -79,7 +79,7 @@ types_stated (t ∷ ts) n us h =
     rest.2 ∙ ap (λ v. v ∷ rest.0) (sym (typing_stated t first.0 first.1)) ∙ ap (λ vs. stated_type t ∷ vs) (types_stated ts (n + 1) rest.0 rest.1)
 
 -- a node's type or fault, where its operands have these types
-pub node_told : (names : Names) (d : Draft) (op : Op) (less : Bool) (ty : Option LaneType) (k : ℤ) (args xs : List Draft) (ts : List LaneType) (m : ℕ) → d ≡ Node op less ty k args → xs ≡ args → m ≡ unsigned_abs k →
+pub node_told : (names : Names) (d : SyntaxTree) (op : Op) (less : Bool) (ty : Option LaneType) (k : ℤ) (args xs : List SyntaxTree) (ts : List LaneType) (m : ℕ) → d ≡ Node op less ty k args → xs ≡ args → m ≡ unsigned_abs k →
     types_from 0 (map typing (in_order less (map (term_of names) xs))) ≡ Ok ts →
     typing (term_of names d) ≡ node_type (row_of op) (result_type (row_of op).gives (written_type ty) ts) m ts
 node_told names d op less ty k args xs ts m is same amount found =
@@ -92,7 +92,7 @@ node_told names d op less ty k args xs ts m is same amount found =
     ap typing term ∙ typing_is op (gives ts) m operands ∙ ap (then_node (row_of op) (gives ts) m) found
 
 -- all operands have their types
-pub types_all : (less : Bool) (names : Names) (xs : List Draft) (ts us : List LaneType) (n : ℕ) → length xs ≤ n → ts ≡ us →
+pub types_all : (less : Bool) (names : Names) (xs : List SyntaxTree) (ts us : List LaneType) (n : ℕ) → length xs ≤ n → ts ≡ us →
     behind ts (types_from n (map typing (drop n (in_order less (map (term_of names) xs))))) ≡ types_from 0 (map typing (in_order less (map (term_of names) xs))) →
     types_from 0 (map typing (in_order less (map (term_of names) xs))) ≡ Ok us
 types_all less names xs ts us n past same onward =
@@ -101,7 +101,7 @@ types_all less names xs ts us n past same onward =
     sym (gathered ts n (types_from 0 (map typing all)) (ap (λ ys. behind ts (types_from n (map typing ys))) (sym (drop_all n all (omega (arith, long)))) ∙ onward)) ∙ ap (λ v. Ok v) same
 
 -- one more operand has its type
-pub types_more : (names : Names) (less : Bool) (xs : List Draft) (ts : List LaneType) (n : ℕ) (x : Draft) (t : LaneType) (all : Result (List LaneType) TermFault) → HasPair less (length xs) → n < length xs → x ≡ get_or xs (place_in_order less n) x →
+pub types_more : (names : Names) (less : Bool) (xs : List SyntaxTree) (ts : List LaneType) (n : ℕ) (x : SyntaxTree) (t : LaneType) (all : Result (List LaneType) TermFault) → HasPair less (length xs) → n < length xs → x ≡ get_or xs (place_in_order less n) x →
     typing (term_of names x) ≡ Ok t →
     behind ts (types_from n (map typing (drop n (in_order less (map (term_of names) xs))))) ≡ all →
     behind (ts ++ t ∷ []) (types_from (n + 1) (map typing (drop (n + 1) (in_order less (map (term_of names) xs))))) ≡ all
@@ -112,7 +112,7 @@ types_more names less xs ts n x t all pair below at type onward =
     ∙ ap (λ ys. behind ts (types_from n (map typing ys))) (sym (operand_at (term_of names) less xs n x pair below at)) ∙ onward)
 
 -- an operand's fault is the node's
-pub operand_fault : (names : Names) (d : Draft) (op : Op) (less : Bool) (ty : Option LaneType) (k : ℤ) (args xs : List Draft) (ts : List LaneType) (n : ℕ) (x : Draft) (f : NodeFault) → d ≡ Node op less ty k args → xs ≡ args →
+pub operand_fault : (names : Names) (d : SyntaxTree) (op : Op) (less : Bool) (ty : Option LaneType) (k : ℤ) (args xs : List SyntaxTree) (ts : List LaneType) (n : ℕ) (x : SyntaxTree) (f : NodeFault) → d ≡ Node op less ty k args → xs ≡ args →
     HasPair less (length xs) → n < length xs → x ≡ get_or xs (place_in_order less n) x →
     behind ts (types_from n (map typing (drop n (in_order less (map (term_of names) xs))))) ≡ types_from 0 (map typing (in_order less (map (term_of names) xs))) →
     IsNodeFault (typing (term_of names x)) f → IsNodeFault (typing (term_of names d)) f
@@ -130,7 +130,7 @@ own_fault told found r f same is h = subst (λ v. IsNodeFault v f) (sym same) (b
   by g = g
 
 -- the node as it is made
-pub node_made : (names : Names) (d : Draft) (op : Op) (less : Bool) (ty : Option LaneType) (k : ℤ) (args xs : List Draft) (operands : List Term) (ts : List LaneType) (t : LaneType) (n m : ℕ) → d ≡ Node op less ty k args → xs ≡ args →
+pub node_made : (names : Names) (d : SyntaxTree) (op : Op) (less : Bool) (ty : Option LaneType) (k : ℤ) (args xs : List SyntaxTree) (operands : List Term) (ts : List LaneType) (t : LaneType) (n m : ℕ) → d ≡ Node op less ty k args → xs ≡ args →
     operands ≡ take n (in_order less (map (term_of names) xs)) → length xs ≤ n → ts ≡ map stated_type operands → t ≡ result_type (row_of op).gives (written_type ty) ts → m ≡ unsigned_abs k →
     NodeTerm op t m operands ≡ term_of names d
 node_made names d op less ty k args xs operands ts t n m is same made past types type amount =
@@ -144,7 +144,7 @@ node_made names d op less ty k args xs operands ts t n m is same made past types
     ∙ sym (ap (term_of names) is ∙ term_is names op less ty k args)
 
 -- one more operand is made
-pub made_more : (names : Names) (less : Bool) (xs : List Draft) (n : ℕ) (x : Draft) (before now : List Term) (t : Term) → HasPair less (length xs) → n < length xs → x ≡ get_or xs (place_in_order less n) x →
+pub made_more : (names : Names) (less : Bool) (xs : List SyntaxTree) (n : ℕ) (x : SyntaxTree) (before now : List Term) (t : Term) → HasPair less (length xs) → n < length xs → x ≡ get_or xs (place_in_order less n) x →
     t ≡ term_of names x → before ≡ take n (in_order less (map (term_of names) xs)) → now ≡ before ++ t ∷ [] → now ≡ take (n + 1) (in_order less (map (term_of names) xs))
 made_more names less xs n x before now t pair below at is so_far more =
     let all = in_order less (map (term_of names) xs) in
@@ -152,7 +152,7 @@ made_more names less xs n x before now t pair below at is so_far more =
     more ∙ ap (λ ys. ys ++ t ∷ []) so_far ∙ ap (λ y. take n all ++ y ∷ []) (is ∙ sym (get_operand (term_of names) less xs n x (term_of names x) pair below at)) ∙ sym (take_more all n (term_of names x) (omega (arith, long)))
 
 -- a tap as it is made
-pub placed_made : (names : Names) (d : Draft) (s : List ℕ) (dx dy a b : ℤ) (t : Term) → d ≡ Placed s dx dy → a ≡ dx → b ≡ dy →
+pub placed_made : (names : Names) (d : SyntaxTree) (s : List ℕ) (dx dy a b : ℤ) (t : Term) → d ≡ Tap s dx dy → a ≡ dx → b ≡ dy →
     t ≡ Leaf (TapOf (tap_number names.taps (tap_at names.images s a b))) (slice_index_or names.images (image_number names.images s) no_image).ty → t ≡ term_of names d
 placed_made names d s dx dy a b t is across down made =
     let leaf = λ (x y : ℤ). Leaf (TapOf (tap_number names.taps (tap_at names.images s x y))) (slice_index_or names.images (image_number names.images s) no_image).ty in

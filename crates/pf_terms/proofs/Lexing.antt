@@ -2,10 +2,10 @@
 use Rattle.std.proofs.Common.{◌≡◌, ◌≢◌, refl, sym, ap, ◌∙◌, subst, ℕ, zero, suc, ◌+◌, ◌-◌, ◌≤◌, ◌<◌, inl, inr, ℤ, pos, lit<, Bool, true, false, ◌&&◌, List, [], ◌∷◌, ◌++◌, length, get_or, take, drop, drop-cons, arith, ◌*◌, ◌^◌, add-one, pow-suc}
 use native.Mathlib.Nat.{pow-le-pow_right}
 use Rattle.std.specs.Prelude.{All, codes, decimal, nat_le, not, Option, Some, None, IfSome, IsSome, MatchOption, bytes_eq}
-use Rattle.pf_ints.specs.Lanes.{lane_width}
+use Rattle.pf_ints.specs.Meaning.Lanes.{lane_width}
 use Rattle.std.proofs.lemmas.List.{take-append-drop, get_or-take, get_or_default, length-take-le, drop_all, take_all, length-drop, drop-drop, drop_more}
 use borrow.Author.Tests.{leb-true}
-use Rattle.pf_terms.proofs.Typing.{and_left, and_right}
+use Rattle.pf_values.proofs.Typing.{and_left, and_right}
 use Rattle.std.specs.Fmt.{digits}
 use mir.Val.{to_z}
 use mir.Syntax.{w64}
@@ -13,16 +13,17 @@ use Rattle.std.proofs.lemmas.Int.{to_z_pos}
 use Rattle.pf_ints.specs.declared.lane.LaneType.{LaneType}
 use Rattle.pf_ints.specs.declared.lane.Bits.{Bits}
 use Rattle.pf_ints.specs.declared.lane.Bits.TheVariants.{Eight, Sixteen, ThirtyTwo}
-use Rattle.pf_terms.specs.Terms.{typed_as}
-use Rattle.pf_terms.specs.declared.op.Op.TheVariants.{Cast, Add, Sub, Mul, ShiftLeft as ShiftLeftBy, ShiftRight as ShiftRightBy, Min, Max, SelectGreater, SelectEqual, Abs, WideningAdd, WideningSub, WideningMul, ExtendingAdd, HalvingAdd, RoundingHalvingAdd, HalvingSub, SaturatingAdd, SaturatingSub, SaturatingCast, Absd, RoundingShr, MulShr, RoundingMulShr}
-use Rattle.pf_ints.specs.Words.{is_digit, is_name_byte, is_name, is_spelled, is_reserved}
-use Rattle.pf_terms.specs.declared.op.Op.{Op}
-use Rattle.pf_terms.specs.declared.token.Kind.{Kind}
-use Rattle.pf_terms.specs.declared.token.Kind.TheVariants.{Name, TypeWord, Number, Typed, Long, Word, Choose, Line, Open, Close, OpenSquare, CloseSquare, Comma, Plus, Minus, Times, ShiftLeft, ShiftRight, Less, Greater, Same, Equals, Other}
+use Rattle.pf_values.specs.Meaning.Terms.{typed_as}
+use Rattle.pf_values.specs.declared.op.Op.TheVariants.{Cast, Add, Sub, Mul, ShiftLeft as ShiftLeftBy, ShiftRight as ShiftRightBy, Min, Max, SelectGreater, SelectEqual, Abs, WideningAdd, WideningSub, WideningMul, ExtendingAdd, HalvingAdd, RoundingHalvingAdd, HalvingSub, SaturatingAdd, SaturatingSub, SaturatingCast, Absd, RoundingShr, MulShr, RoundingMulShr}
+use Rattle.pf_text.specs.Meaning.Words.{is_digit, is_name_byte, is_name, is_spelled, is_reserved}
+use Rattle.pf_values.specs.declared.op.Op.{Op}
+use Rattle.pf_terms.specs.declared.token.TokenKind.{TokenKind}
+use Rattle.pf_terms.specs.declared.token.TokenKind.TheVariants.{Name, TypeWord, Number, Typed, Long, Word, Choose, Line, Open, Close, OpenSquare, CloseSquare, Comma, Plus, Minus, Times, ShiftLeft, ShiftRight, Less, Greater, Same, Equals, Other}
 use Rattle.pf_terms.specs.declared.token.LineWord.{LineWord}
 use Rattle.pf_terms.specs.declared.token.Token.{Token}
-use Rattle.pf_terms.specs.TermTexts.{type_word, sign_letter, op_word}
-use Rattle.pf_terms.specs.Tokens.{is_blank, digits_behind, sign_text, IsNumber, IsLongNumber, IsCalledBy, IsWordOf, line_word, IsNoRun, IsNoDigit, IsShort, IsFrontSign, IsFrontByte, IsFront, IsSolid, IsLexed, ended, blank, token}
+use Rattle.pf_terms.specs.Meaning.TermTexts.{type_word, sign_letter}
+use Rattle.pf_values.specs.Meaning.Spellings.{op_word}
+use Rattle.pf_terms.specs.Meaning.Tokens.{is_blank, digits_behind, sign_text, IsNumber, IsLongNumber, IsCalledBy, IsWordOf, line_word, IsNoRun, IsNoDigit, IsShort, IsFrontSign, IsFrontByte, IsFront, IsSolid, IsLexed, at_end, blank, token}
 
 -- what holds at each place holds of what is taken
 pub all_taken : (p : ℕ → Bool) (xs : List ℕ) (n : ℕ) → ((k : ℕ) → k < n → p (get_or xs k 0) ≡ true) → n ≤ length xs → All (λ b. p b ≡ true) (take n xs)
@@ -43,7 +44,7 @@ pub no_digit_end : (xs : List ℕ) (n : ℕ) → length xs ≤ n → IsNoDigit (
 no_digit_end xs n h = subst IsNoDigit (sym (drop_all n xs h)) tt
 
 -- ---- signs
-sign_short_or_long : (k : Kind) → length (sign_text k) ≤ 2
+sign_short_or_long : (k : TokenKind) → length (sign_text k) ≤ 2
 sign_short_or_long Open = omega arith
 sign_short_or_long Close = omega arith
 sign_short_or_long OpenSquare = omega arith
@@ -60,14 +61,14 @@ sign_short_or_long Same = omega arith
 sign_short_or_long Equals = omega arith
 sign_short_or_long _ = omega arith
 
-at_most_two : (text : List ℕ) (j : Kind) (m : ℕ) → m ≤ length text → sign_text j ≡ take m text → m ≤ 2
+at_most_two : (text : List ℕ) (j : TokenKind) (m : ℕ) → m ≤ length text → sign_text j ≡ take m text → m ≤ 2
 at_most_two text j m within e = omega (arith, sign_short_or_long j, ap length e, length-take-le m text within)
 
-pub long_front : (text : List ℕ) (k : Kind) → IsNoRun text → (2 ≤ length text) × (sign_text k ≡ take 2 text) → IsFrontSign text 2 k
+pub long_front : (text : List ℕ) (k : TokenKind) → IsNoRun text → (2 ≤ length text) × (sign_text k ≡ take 2 text) → IsFrontSign text 2 k
 long_front text k solid h = record { solid = solid; some = omega arith; within = h.0; sign = h.1; longest = at_most_two text }
 
 -- without a sign of two bytes
-at_most_one : (text : List ℕ) → IsShort text → (j : Kind) (m : ℕ) → m ≤ length text → sign_text j ≡ take m text → m ≤ 1
+at_most_one : (text : List ℕ) → IsShort text → (j : TokenKind) (m : ℕ) → m ≤ length text → sign_text j ≡ take m text → m ≤ 1
 at_most_one [] h j m within e = omega arith
 at_most_one (a ∷ []) h j m within e = omega arith
 at_most_one (a ∷ b ∷ rest) h j zero within e = omega arith
@@ -75,12 +76,12 @@ at_most_one (a ∷ b ∷ rest) h j (suc zero) within e = omega arith
 at_most_one (a ∷ b ∷ rest) h j (suc (suc zero)) within e = absurd (h j e)
 at_most_one (a ∷ b ∷ rest) h j (suc (suc (suc m))) within e = let two = at_most_two (a ∷ b ∷ rest) j (suc (suc (suc m))) within e in absurd (omega arith)
 
-pub short_front : (a : ℕ) (rest : List ℕ) (k : Kind) → IsNoRun (a ∷ rest) → IsShort (a ∷ rest) → sign_text k ≡ a ∷ [] → IsFrontSign (a ∷ rest) 1 k
+pub short_front : (a : ℕ) (rest : List ℕ) (k : TokenKind) → IsNoRun (a ∷ rest) → IsShort (a ∷ rest) → sign_text k ≡ a ∷ [] → IsFrontSign (a ∷ rest) 1 k
 short_front a rest k solid short h = record { solid = solid; some = omega arith; within = omega arith; sign = h; longest = at_most_one (a ∷ rest) short }
 
-pub byte_front : (a : ℕ) (rest : List ℕ) → IsNoRun (a ∷ rest) → IsShort (a ∷ rest) → ((k : Kind) → sign_text k ≢ a ∷ []) → IsFrontByte (a ∷ rest) 1 Other
+pub byte_front : (a : ℕ) (rest : List ℕ) → IsNoRun (a ∷ rest) → IsShort (a ∷ rest) → ((k : TokenKind) → sign_text k ≢ a ∷ []) → IsFrontByte (a ∷ rest) 1 Other
 byte_front a rest solid short h = record { solid = solid; one = refl; within = omega arith; other = refl; none = none } where
-  none : (j : Kind) (m : ℕ) → 1 ≤ m → m ≤ length (a ∷ rest) → sign_text j ≡ take m (a ∷ rest) → ⊥
+  none : (j : TokenKind) (m : ℕ) → 1 ≤ m → m ≤ length (a ∷ rest) → sign_text j ≡ take m (a ∷ rest) → ⊥
   none j zero some within e = omega arith
   none j (suc zero) some within e = h j e
   none j (suc (suc m)) some within e = let one = at_most_one (a ∷ rest) short j (suc (suc m)) within e in omega arith
@@ -113,7 +114,7 @@ typed_parts run ds t n is all within taken left =
 -- ---- runs that are no token of the grammar
 pub other_run : (w : List ℕ) → ((t : LaneType) → type_word t ≢ w) → ((op : Op) → IsCalledBy w op → ⊥) → ((l : LineWord) → line_word l ≢ w) → w ≢ codes "select" → (is_name w ≡ true → ⊥) →
     ((n : ℤ) → IsNumber w n → ⊥) → ((n : ℤ) (t : LaneType) (ds : List ℕ) → IsNumber ds n → w ≡ ds ++ type_word t → ⊥) →
-    ((ty : Option LaneType) → IsWordOf w (Long ty) → ⊥) → (k : Kind) → IsWordOf w k → ⊥
+    ((ty : Option LaneType) → IsWordOf w (Long ty) → ⊥) → (k : TokenKind) → IsWordOf w k → ⊥
 other_run w types calls lines choose names numbers typed long (Name n) h = names h.0
 other_run w types calls lines choose names numbers typed long (TypeWord t) h = types t (sym h)
 other_run w types calls lines choose names numbers typed long (Number n) h = numbers n h
@@ -269,11 +270,11 @@ name_long (b ∷ w) h = (omega arith, leb-true (length (b ∷ w)) 32 (and_right 
 pub no_run_here : (text : List ℕ) (n : ℕ) → n ≡ 0 → IsNoRun (drop n text) → IsNoRun text
 no_run_here text n e h = subst (λ m. IsNoRun (drop m text)) e h
 
-pub short_at : (text : List ℕ) (k : Kind) → IsSolid text → IsNoRun text → IsShort text → sign_text k ≡ get_or text 0 0 ∷ [] → IsFront text 1 k
+pub short_at : (text : List ℕ) (k : TokenKind) → IsSolid text → IsNoRun text → IsShort text → sign_text k ≡ get_or text 0 0 ∷ [] → IsFront text 1 k
 short_at [] k some solid short h = absurd some
 short_at (a ∷ rest) k some solid short h = inr (inl (short_front a rest k solid short h))
 
-pub byte_at : (text : List ℕ) → IsSolid text → IsNoRun text → IsShort text → ((k : Kind) → sign_text k ≢ get_or text 0 0 ∷ []) → IsFront text 1 Other
+pub byte_at : (text : List ℕ) → IsSolid text → IsNoRun text → IsShort text → ((k : TokenKind) → sign_text k ≢ get_or text 0 0 ∷ []) → IsFront text 1 Other
 byte_at [] some solid short h = absurd some
 byte_at (a ∷ rest) some solid short h = inr (inr (byte_front a rest solid short h))
 
@@ -289,22 +290,22 @@ solid_here text n below b =
     let here : drop n text ≡ get_or text n 0 ∷ drop (n + 1) text = drop_more text n 0 below in
     subst IsSolid (sym here) (ap (λ ys. is_blank (get_or ys 0 0)) (sym (rest_is text n ∙ here)) ∙ b)
 
-pub lexed_token : (text : List ℕ) (n size : ℕ) (k : Kind) (ts : List Token) → n < length text → is_blank (get_or (take (length text - n) (drop n text)) 0 0) ≡ false → IsFront (take (length text - n) (drop n text)) size k →
+pub lexed_token : (text : List ℕ) (n size : ℕ) (k : TokenKind) (ts : List Token) → n < length text → is_blank (get_or (take (length text - n) (drop n text)) 0 0) ≡ false → IsFront (take (length text - n) (drop n text)) size k →
     IsLexed (n + size) (drop (n + size) text) ts → IsLexed n (drop n text) (record { start = n; end = n + size; kind = k } ∷ ts)
 lexed_token text n size k ts below b front h =
     token n size (drop n text) k ts (solid_here text n below b) (subst (λ ys. IsFront ys size k) (rest_is text n) front) (subst (λ ys. IsLexed (n + size) ys ts) (drop_then text n size) h) where
       drop_then : (xs : List ℕ) (i j : ℕ) → drop (i + j) xs ≡ drop j (drop i xs)
       drop_then xs i j = sym (drop-drop j i xs)
 
-pub front_within : (text : List ℕ) (size : ℕ) (k : Kind) → IsFront text size k → (1 ≤ size) × (size ≤ length text)
+pub front_within : (text : List ℕ) (size : ℕ) (k : TokenKind) → IsFront text size k → (1 ≤ size) × (size ≤ length text)
 front_within text size k (inl h) = (h.some, h.within)
 front_within text size k (inr (inl h)) = (h.some, h.within)
 front_within text size k (inr (inr h)) = (omega (arith, h.one), h.within)
 
 pub lexed_end : (text : List ℕ) (n : ℕ) → length text ≤ n → IsLexed n (drop n text) []
-lexed_end text n h = subst (λ ys. IsLexed n ys []) (sym (drop_all n text h)) (ended n)
+lexed_end text n h = subst (λ ys. IsLexed n ys []) (sym (drop_all n text h)) (at_end n)
 
-pub front_end : (text : List ℕ) (n size : ℕ) (k : Kind) → n < length text → IsFront (take (length text - n) (drop n text)) size k → (1 ≤ size) × (n + size ≤ length text)
+pub front_end : (text : List ℕ) (n size : ℕ) (k : TokenKind) → n < length text → IsFront (take (length text - n) (drop n text)) size k → (1 ≤ size) × (n + size ≤ length text)
 front_end text n size k below h =
     let found = front_within (take (length text - n) (drop n text)) size k h in
     (found.0, omega (arith, found.1, ap length (rest_is text n), length-drop n text))

@@ -1,12 +1,6 @@
-pub mod Typing
+pub mod ReadBack
 pub mod Printing
-pub mod NodeParts
-pub mod Bounds
-pub mod Floors
-pub mod Ranges
-pub mod NodeRanges
-pub mod TermRanges
-pub mod Evaluating
+pub mod NodeTexts
 pub mod Lexing
 pub mod Chains
 pub mod Complete
@@ -16,12 +10,12 @@ pub mod FirstFaults
 pub mod Signs
 pub mod Places
 pub mod OneLexing
-pub mod DraftTexts
+pub mod TreeTexts
 pub mod Lookups
-pub mod DraftParts
+pub mod TreeParts
 pub mod Built
 pub mod TapLists
-pub mod DraftForms
+pub mod TreeForms
 pub mod TermUses
 pub mod TermNames
 pub mod Meant
@@ -32,4 +26,3 @@ pub mod ReadBackNodes
 pub mod ReadBackLeaves
 pub mod ReadBackTerms
 pub mod ReadBackMeanings
-pub mod Reaching

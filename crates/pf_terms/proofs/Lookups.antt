@@ -6,8 +6,8 @@ use Rattle.std.specs.Option.{unwrap_or}
 use Rattle.std.proofs.lemmas.Option.{unwrap_or-slice_get}
 use Rattle.std.proofs.lemmas.List.Sums.{prefix_len-le-length}
 use Rattle.std.proofs.lemmas.Bool.Decides.{nat_tests}
-use Rattle.pf_terms.specs.Meanings.{in_order}
-use Rattle.pf_terms.specs.Building.{place_in_order}
+use Rattle.pf_terms.specs.Meaning.Meanings.{in_order}
+use Rattle.pf_terms.specs.Steps.Building.{place_in_order}
 
 not_below : (n m : ℕ) → nat_lt n m ≡ false → m ≤ n
 not_below n m e = grind (arith, nat_tests)

@@ -1,41 +1,40 @@
--- What follows where a draft has a meaning, and where it has none.
+-- What follows where a syntax tree has a meaning, and where it has none.
 use Rattle.std.proofs.Common.{◌≡◌, sym, ap, ◌∙◌, subst, ℕ, ◌+◌, ◌-◌, ◌<◌, ◌≤◌, arith, true, List, [], ◌∷◌, length, get_or, drop, take, length-drop, inl, inr}
 use Rattle.std.specs.Prelude.{◌⊎◌, All, Option, Some, None, Result, Ok, Err, IfOk, IfErr, OnOk, OnErr, slice_get}
 use Rattle.std.proofs.lemmas.Option.{slice_get_cases}
-use Rattle.pf_terms.specs.declared.draft.Draft.{Draft}
-use Rattle.pf_terms.specs.declared.draft.DraftFault.{DraftFault}
-use Rattle.pf_terms.specs.declared.draft.DraftFault.TheVariants.{Syntax as NoSyntax, Memory as NoMemory}
-use Rattle.pf_terms.specs.declared.limit.LimitKind.TheVariants.{Bytes, Amount as Amounts, Images, Taps, Definitions, Offset, Depth, Nodes}
+use Rattle.pf_terms.specs.declared.parse.syntax_tree.SyntaxTree.{SyntaxTree}
+use Rattle.pf_terms.specs.declared.parse.syntax_tree.TreeFault.{TreeFault}
+use Rattle.pf_terms.specs.declared.parse.syntax_tree.TreeFault.TheVariants.{Syntax as NoSyntax, Memory as NoMemory}
+use Rattle.pf_values.specs.declared.limit.LimitKind.TheVariants.{Bytes, Amount as Amounts, Images, Taps, Definitions, Offset, Depth, Nodes}
 use Rattle.pf_terms.specs.declared.meaning.ReadFault.{ReadFault}
 use Rattle.pf_terms.specs.declared.meaning.ReadFault.TheVariants.{Syntax, Name, Types, Amount, Limit, Memory}
-use Rattle.pf_terms.specs.declared.names.Names.{Names}
-use Rattle.pf_terms.specs.declared.names.Tap.{Tap}
+use Rattle.pf_values.specs.declared.names.Names.{Names}
+use Rattle.pf_values.specs.declared.names.Tap.{Tap}
 use Rattle.pf_terms.specs.declared.resolve.NodeFault.{NodeFault}
 use Rattle.pf_terms.specs.declared.resolve.NodeFault.TheVariants.{Types as TypesOf, Amount as AmountOf, Memory as MemoryOf}
-use Rattle.pf_terms.specs.declared.term.Term.{Term}
-use Rattle.pf_terms.specs.declared.token.Kind.{Kind}
+use Rattle.pf_values.specs.declared.term.Term.{Term}
+use Rattle.pf_terms.specs.declared.token.TokenKind.{TokenKind}
 use Rattle.pf_terms.specs.declared.token.Token.{Token}
 use Rattle.std.proofs.lemmas.List.{take_all}
-use Rattle.pf_terms.specs.Building.{is_formed_draft, with_these, HasNearOffsets, IsFaultOrMemory, IsNodeFault, told_as}
-use Rattle.pf_terms.specs.Drafts.{IsDraftText, IsDraftOr, IsRefusal, IsSyntaxFault, IsFaultPlace, behind, first}
-use Rattle.pf_terms.specs.KernelNames.{IsNames, IsNearTap}
-use Rattle.pf_terms.specs.Meanings.{Means, IsTermOr, IsTermText, IsTyped, names_after, with_taps, tap_uses, first_far, first_unknown, term_of}
-use Rattle.pf_terms.specs.Parsing.{place_by, place_of}
-use Rattle.pf_terms.specs.Terms.{IsWellTyped, typing, stated_type}
-use Rattle.pf_terms.specs.TermTexts.{is_named}
-use Rattle.pf_terms.specs.Tokens.{IsLexed, IsFront, ended, blank, token}
+use Rattle.pf_terms.specs.Steps.Building.{is_formed_tree, with_these, HasNearOffsets, IsFaultOrMemory, IsNodeFault, told_as}
+use Rattle.pf_terms.specs.Meaning.SyntaxTrees.{IsTreeText, IsTreeOr, IsRefusal, IsSyntaxFault, IsFaultPlace, at_minus, first}
+use Rattle.pf_terms.specs.Meaning.KernelNames.{IsNames, IsNearTap}
+use Rattle.pf_terms.specs.Meaning.Meanings.{Means, IsTermOr, IsTermText, IsTyped, names_after, with_taps, tap_uses, first_far, first_unknown, term_of}
+use Rattle.pf_terms.specs.Meaning.Tokens.{token_place_by, token_place, IsLexed, IsFront, at_end, blank, token}
+use Rattle.pf_values.specs.Meaning.Terms.{IsWellTyped, typing, stated_type}
+use Rattle.pf_values.specs.Meaning.NamedTerms.{is_named}
 use Rattle.pf_terms.proofs.TapLists.{Each, all_of_each, each_of_all, each_with_taps, all_among, distinct_taps}
 use Rattle.pf_terms.proofs.TermUses.{near_uses, image_uses}
 use Rattle.pf_terms.proofs.TermNames.{named_term}
-use Rattle.pf_terms.proofs.TermRanges.{typing_stated}
-use Rattle.pf_terms.proofs.DraftForms.{term_formed}
+use Rattle.pf_values.proofs.TermRanges.{typing_stated}
+use Rattle.pf_terms.proofs.TreeForms.{term_formed}
 
-pub meant_typed : (names : Names) (d : Draft) (t : Term) (after : Names) → is_formed_draft d ≡ true → Means names d t after → IsWellTyped t
+pub meant_typed : (names : Names) (d : SyntaxTree) (t : Term) (after : Names) → is_formed_tree d ≡ true → Means names d t after → IsWellTyped t
 meant_typed names d t after formed h =
     let same : t ≡ term_of (names_after names d) d = h.term ∙ ap (λ ns. term_of ns d) h.made in
     subst IsWellTyped (sym same) (record { formed = term_formed (names_after names d) d formed; typed = h.typed })
 
-pub meant_named : (names : Names) (d : Draft) (t : Term) (after : Names) → Means names d t after → is_named after t ≡ true
+pub meant_named : (names : Names) (d : SyntaxTree) (t : Term) (after : Names) → Means names d t after → is_named after t ≡ true
 meant_named names d t after h =
     let all : is_named (names_after names d) (term_of (names_after names d) d) ≡ true = named_term (names_after names d) d (h.known, all_among names.taps (tap_uses names.images d)) in
     ap (is_named after) (h.term ∙ ap (λ ns. term_of ns d) h.made) ∙ ap (λ ns. is_named ns (term_of (names_after names d) d)) h.made ∙ all
@@ -44,7 +43,7 @@ near_both : (count : ℕ) (ts : List Tap) → Each HasNearOffsets ts → Each (�
 near_both count [] h k = tt
 near_both count (t ∷ ts) h k = (record { image = k.0; across = h.0.across; down = h.0.down }, near_both count ts h.1 k.1)
 
-pub names_kept : (names : Names) (d : Draft) → IsNames names → first_unknown names d ≡ None → length (names_after names d).taps ≤ 64 → first_far d ≡ None → IsNames (names_after names d)
+pub names_kept : (names : Names) (d : SyntaxTree) → IsNames names → first_unknown names d ≡ None → length (names_after names d).taps ≤ 64 → first_far d ≡ None → IsNames (names_after names d)
 names_kept names d n known few near =
     let count = length names.images in
     record {
@@ -59,27 +58,27 @@ names_kept names d n known few near =
       distinct_taps = distinct_taps names.taps (tap_uses names.images d) n.distinct_taps;
     }
 
-pub meant_names : (names : Names) (d : Draft) (t : Term) (after : Names) → IsNames names → Means names d t after → IsNames after
+pub meant_names : (names : Names) (d : SyntaxTree) (t : Term) (after : Names) → IsNames names → Means names d t after → IsNames after
 meant_names names d t after n h = subst IsNames (sym h.made) (names_kept names d n h.known h.few h.near)
 
 near_old : (count : ℕ) (ts : List Tap) → Each (IsNearTap count) ts → Each HasNearOffsets ts
 near_old count [] h = tt
 near_old count (t ∷ ts) h = (record { across = h.0.across; down = h.0.down }, near_old count ts h.1)
 
-pub near_after : (names : Names) (d : Draft) (ts : List Tap) → IsNames names → first_far d ≡ None → ts ≡ (names_after names d).taps → All HasNearOffsets ts
+pub near_after : (names : Names) (d : SyntaxTree) (ts : List Tap) → IsNames names → first_far d ≡ None → ts ≡ (names_after names d).taps → All HasNearOffsets ts
 near_after names d ts n near is =
     subst (λ us. All HasNearOffsets us) (sym is)
     (all_of_each HasNearOffsets (with_taps names.taps (tap_uses names.images d))
     (each_with_taps HasNearOffsets names.taps (tap_uses names.images d) (near_old (length names.images) names.taps (each_of_all (IsNearTap (length names.images)) names.taps n.near)) (near_uses names.images d near)))
 
--- a node's fault is the draft's
-pub node_fault : (names : Names) (d : Draft) (f : NodeFault) → first_unknown names d ≡ None → IsNodeFault (typing (term_of (names_after names d) d)) f → IsFaultOrMemory names d (told_as f)
+-- a node's fault is the syntax tree's
+pub node_fault : (names : Names) (d : SyntaxTree) (f : NodeFault) → first_unknown names d ≡ None → IsNodeFault (typing (term_of (names_after names d) d)) f → IsFaultOrMemory names d (told_as f)
 node_fault names d (TypesOf want got) known h = (known, h)
 node_fault names d (AmountOf k) known h = (known, h)
 node_fault names d MemoryOf known h = tt
 
 -- what has a meaning has no fault
-no_fault : (names : Names) (d : Draft) (t : Term) (after now : Names) (f : ReadFault) → Means names d t after → IsFaultOrMemory names d f → IsTermOr t after (Err f) now
+no_fault : (names : Names) (d : SyntaxTree) (t : Term) (after now : Names) (f : ReadFault) → Means names d t after → IsFaultOrMemory names d f → IsTermOr t after (Err f) now
 no_fault names d t after now (Syntax c) h k = k
 no_fault names d t after now (Name s) h k = let no : None ≡ Some s = sym h.known ∙ k in absurd (cc)
 no_fault names d t after now (Types want got) h k = let told = k.1.1 in let typed = h.typed in absurd (cc)
@@ -95,21 +94,21 @@ no_fault names d t after now (Limit Depth n) h k = k
 no_fault names d t after now (Limit Nodes n) h k = k
 
 -- the meaning is the only answer
-pub only_told : (names : Names) (d : Draft) (t : Term) (after now : Names) (r : Result Term ReadFault) → Means names d t after → IfOk r (λ u. Means names d u now) → IfErr r (IsFaultOrMemory names d) → IsTermOr t after r now
+pub only_told : (names : Names) (d : SyntaxTree) (t : Term) (after now : Names) (r : Result Term ReadFault) → Means names d t after → IfOk r (λ u. Means names d u now) → IfErr r (IsFaultOrMemory names d) → IsTermOr t after r now
 only_told names d t after now (Ok u) h k e =
     let same : now ≡ after = k.made ∙ sym h.made in
     (k.term ∙ ap (λ ns. term_of ns d) same ∙ sym h.term, same)
 only_told names d t after now (Err f) h k e = no_fault names d t after now f h e
 
-pub typed_told : (names : Names) (d : Draft) (now : Names) (r : Result Term ReadFault) → is_formed_draft d ≡ true → IfOk r (λ u. Means names d u now) → IfOk r IsWellTyped
+pub typed_told : (names : Names) (d : SyntaxTree) (now : Names) (r : Result Term ReadFault) → is_formed_tree d ≡ true → IfOk r (λ u. Means names d u now) → IfOk r IsWellTyped
 typed_told names d now (Ok u) formed k = meant_typed names d u now formed k
 typed_told names d now (Err f) formed k = tt
 
-pub named_told : (names : Names) (d : Draft) (now : Names) (r : Result Term ReadFault) → IfOk r (λ u. Means names d u now) → IfOk r (λ u. is_named now u ≡ true)
+pub named_told : (names : Names) (d : SyntaxTree) (now : Names) (r : Result Term ReadFault) → IfOk r (λ u. Means names d u now) → IfOk r (λ u. is_named now u ≡ true)
 named_told names d now (Ok u) k = meant_named names d u now k
 named_told names d now (Err f) k = tt
 
-pub names_told : (names : Names) (d : Draft) (now : Names) (r : Result Term ReadFault) → IsNames names → IfOk r (λ u. Means names d u now) → IfOk r (λ u. IsNames now)
+pub names_told : (names : Names) (d : SyntaxTree) (now : Names) (r : Result Term ReadFault) → IsNames names → IfOk r (λ u. Means names d u now) → IfOk r (λ u. IsNames now)
 names_told names d now (Ok u) n k = meant_names names d u now n k
 names_told names d now (Err f) n k = tt
 
@@ -117,13 +116,13 @@ names_told names d now (Err f) n k = tt
 abbrev pub IsWithin : ℕ → Token → Type 0
 IsWithin m t = (t.start ≤ m) × (t.end ≤ m)
 
-size_within : (text : List ℕ) (size : ℕ) (k : Kind) → IsFront text size k → size ≤ length text
+size_within : (text : List ℕ) (size : ℕ) (k : TokenKind) → IsFront text size k → size ≤ length text
 size_within text size k (inl h) = h.within
 size_within text size k (inr (inl h)) = h.within
 size_within text size k (inr (inr h)) = h.within
 
 tokens_within : (n : ℕ) (text : List ℕ) (ts : List Token) (m : ℕ) → n + length text ≤ m → IsLexed n text ts → Each (IsWithin m) ts
-tokens_within n text ts m most (ended i) = tt
+tokens_within n text ts m most (at_end i) = tt
 tokens_within n text ts m most (blank i b rest us is h) = tokens_within (i + 1) rest us m (omega (arith, most)) h
 tokens_within n text ts m most (token i size whole k us solid front h) =
     let within : size ≤ length whole = size_within whole size k front in
@@ -135,7 +134,7 @@ abbrev pub OptWithin : ℕ → Option Token → Type 0
 OptWithin m None = Unit {0}
 OptWithin m (Some t) = IsWithin m t
 
-place_by_within : (m : ℕ) (o p : Option Token) → OptWithin m o → OptWithin m p → place_by o p ≤ m
+place_by_within : (m : ℕ) (o p : Option Token) → OptWithin m o → OptWithin m p → token_place_by o p ≤ m
 place_by_within m (Some t) p h k = h.0
 place_by_within m None (Some t) h k = k.1
 place_by_within m None None h k = omega arith
@@ -146,44 +145,44 @@ entry_within m ts n h = by (slice_get ts n) (slice_get_cases ts n).1 where
   by o (inl c) = subst (OptWithin m) (sym c.2) (subst (IsWithin m) c.3 (all_of_each (IsWithin m) ts h n c.0 c.1))
   by o (inr c) = subst (OptWithin m) (sym c.1) tt
 
-place_within : (m : ℕ) (ts : List Token) (n : ℕ) → Each (IsWithin m) ts → place_of ts n ≤ m
+place_within : (m : ℕ) (ts : List Token) (n : ℕ) → Each (IsWithin m) ts → token_place ts n ≤ m
 place_within m ts n h = place_by_within m (slice_get ts n) (slice_get ts (length ts - 1)) (entry_within m ts n h) (entry_within m ts (length ts - 1) h)
 
 fault_place : (m : ℕ) (ts : List Token) (n place : ℕ) → Each (IsWithin m) ts → IsFaultPlace ts n place → place ≤ m
-fault_place m ts n place h (behind us i neg) = place_within m us (i - 1) h
+fault_place m ts n place h (at_minus us i neg) = place_within m us (i - 1) h
 fault_place m ts n place h (first us i alone) = place_within m us i h
 
 -- a fault stands within the text, or right behind it
 pub fault_within : (text : List ℕ) (place : ℕ) → IsSyntaxFault text place → place ≤ length text
 fault_within text place h = fault_place (length text) h.tokens h.n place (tokens_within 0 text h.tokens (length text) (omega arith) h.lexed) h.stands
 
-pub typed_after : (names : Names) (d : Draft) (t : Term) → typing (term_of (names_after names d) d) ≡ Ok (stated_type t) → IsTyped names d
+pub typed_after : (names : Names) (d : SyntaxTree) (t : Term) → typing (term_of (names_after names d) d) ≡ Ok (stated_type t) → IsTyped names d
 typed_after names d t h = h ∙ ap (λ u. Ok u) (sym (typing_stated (term_of (names_after names d) d) (stated_type t) h))
 
--- what is built is what the draft means
-pub meant : (names : Names) (d : Draft) (t : Term) (spots taps : List Tap) (m : ℕ) → first_unknown names d ≡ None → typing (term_of (names_after names d) d) ≡ Ok (stated_type t) → first_far d ≡ None →
-    spots ≡ (names_after names d).taps → length spots ≤ 64 → length spots ≤ m → t ≡ term_of (with_these names (take m spots)) d → taps ≡ spots → Means names d t (with_these names taps)
-meant names d t spots taps m known typed near is few most made same =
+-- what is built is what the syntax tree means
+pub meant : (names : Names) (d : SyntaxTree) (t : Term) (wide_taps taps : List Tap) (m : ℕ) → first_unknown names d ≡ None → typing (term_of (names_after names d) d) ≡ Ok (stated_type t) → first_far d ≡ None →
+    wide_taps ≡ (names_after names d).taps → length wide_taps ≤ 64 → length wide_taps ≤ m → t ≡ term_of (with_these names (take m wide_taps)) d → taps ≡ wide_taps → Means names d t (with_these names taps)
+meant names d t wide_taps taps m known typed near is few most made same =
     record {
       known = known;
       typed = typed_after names d t typed;
       few = subst (λ us. length us ≤ 64) is few;
       near = near;
-      term = made ∙ ap (λ us. term_of (with_these names us) d) (take_all m spots most ∙ sym same);
+      term = made ∙ ap (λ us. term_of (with_these names us) d) (take_all m wide_taps most ∙ sym same);
       made = ap (with_these names) (same ∙ is);
     }
 
--- the text that a meaning is of has no other draft
-pub only_meant : (names : Names) (text : List ℕ) (d : Draft) (t : Term) (after now : Names) (r : Result Term ReadFault) → ((e : Draft) → IsDraftText text e → d ≡ e) → IsTermText names text t after →
+-- the text that a meaning is of has no other syntax tree
+pub only_meant : (names : Names) (text : List ℕ) (d : SyntaxTree) (t : Term) (after now : Names) (r : Result Term ReadFault) → ((e : SyntaxTree) → IsTreeText text e → d ≡ e) → IsTermText names text t after →
     IfOk r (λ u. Means names d u now) → IfErr r (IsFaultOrMemory names d) → IsTermOr t after r now
-only_meant names text d t after now r only h k e = only_told names d t after now r (subst (λ x. Means names x t after) (sym (only h.draft h.spelled)) h.means) k e
+only_meant names text d t after now r only h k e = only_told names d t after now r (subst (λ x. Means names x t after) (sym (only h.tree h.spelled)) h.means) k e
 
--- where the text is refused it has no draft, and the place is within it
-pub refused : (d : Draft) (f : DraftFault) (at : ℕ) → f ≡ NoSyntax at → IsDraftOr d (Err f) → ⊥
+-- where the text is refused it has no syntax tree, and the place is within it
+pub refused : (d : SyntaxTree) (f : TreeFault) (at : ℕ) → f ≡ NoSyntax at → IsTreeOr d (Err f) → ⊥
 refused d (NoSyntax b) at e h = h
 refused d NoMemory at e h = absurd (cc)
 
-pub refusal_within : (text : List ℕ) (f : DraftFault) (at : ℕ) → f ≡ NoSyntax at → IsRefusal text f → at ≤ length text
+pub refusal_within : (text : List ℕ) (f : TreeFault) (at : ℕ) → f ≡ NoSyntax at → IsRefusal text f → at ≤ length text
 refusal_within text (NoSyntax b) at e h =
     let same : b ≡ at = cc in
     subst (λ n. n ≤ length text) same (fault_within text b h)

@@ -5,23 +5,24 @@ use Rattle.std.proofs.lemmas.List.{get_or-take, length-take-le}
 use Rattle.pf_ints.specs.declared.lane.LaneType.{LaneType}
 use Rattle.pf_ints.specs.declared.lane.Bits.{Bits}
 use Rattle.pf_ints.specs.declared.lane.Bits.TheVariants.{Eight, Sixteen, ThirtyTwo}
-use Rattle.pf_ints.specs.Words.{is_letter, is_digit, is_name_byte, is_name, is_spelled, is_reserved}
-use Rattle.pf_terms.specs.declared.op.Op.{Op}
-use Rattle.pf_terms.specs.declared.op.Op.TheVariants.{Min, Max, Abs, WideningAdd, WideningSub, WideningMul, ExtendingAdd, HalvingAdd, RoundingHalvingAdd, HalvingSub, SaturatingAdd, SaturatingSub, SaturatingCast, Absd, RoundingShr, MulShr, RoundingMulShr}
-use Rattle.pf_terms.specs.declared.token.Kind.{Kind}
-use Rattle.pf_terms.specs.declared.token.Kind.TheVariants.{Name, TypeWord, Number, Typed, Long, Word, Choose, Line, Open, Close, OpenSquare, CloseSquare, Comma, Plus, Minus, Times, ShiftLeft, ShiftRight, Less, Greater, Same, Equals, Other}
+use Rattle.pf_text.specs.Meaning.Words.{is_letter, is_digit, is_name_byte, is_name, is_spelled, is_reserved}
+use Rattle.pf_values.specs.declared.op.Op.{Op}
+use Rattle.pf_values.specs.declared.op.Op.TheVariants.{Min, Max, Abs, WideningAdd, WideningSub, WideningMul, ExtendingAdd, HalvingAdd, RoundingHalvingAdd, HalvingSub, SaturatingAdd, SaturatingSub, SaturatingCast, Absd, RoundingShr, MulShr, RoundingMulShr}
+use Rattle.pf_terms.specs.declared.token.TokenKind.{TokenKind}
+use Rattle.pf_terms.specs.declared.token.TokenKind.TheVariants.{Name, TypeWord, Number, Typed, Long, Word, Choose, Line, Open, Close, OpenSquare, CloseSquare, Comma, Plus, Minus, Times, ShiftLeft, ShiftRight, Less, Greater, Same, Equals, Other}
 use Rattle.pf_terms.specs.declared.token.LineWord.{LineWord}
 use Rattle.pf_terms.specs.declared.token.LineWord.TheVariants.{Kernel, Image, Def, Out}
 use Rattle.pf_terms.specs.declared.token.Token.{Token}
-use Rattle.pf_terms.specs.Terms.{typed_as}
-use Rattle.pf_terms.specs.TermTexts.{type_word, op_word}
-use Rattle.pf_terms.specs.Parsing.{is_unsigned}
-use Rattle.pf_terms.specs.Tokens.{is_blank, digits_behind, sign_text, line_word, IsCalledBy, IsWordOf, IsRun, IsNoRun, IsNoDigit, IsFrontRun, IsFrontSign, IsFrontByte, IsFront, IsSolid, IsLexed, ended, blank, token}
+use Rattle.pf_values.specs.Meaning.Terms.{typed_as}
+use Rattle.pf_terms.specs.Meaning.TermTexts.{type_word}
+use Rattle.pf_values.specs.Meaning.Spellings.{op_word}
+use Rattle.pf_terms.specs.Steps.Parsing.{is_unsigned}
+use Rattle.pf_terms.specs.Meaning.Tokens.{is_blank, digits_behind, sign_text, line_word, IsCalledBy, IsWordOf, IsRunToken, IsNoRun, IsNoDigit, IsFrontRun, IsFrontSign, IsFrontByte, IsFront, IsSolid, IsLexed, at_end, blank, token}
 use Rattle.pf_terms.proofs.Lexing.{spelled_word, spelled_words, digits_front, no_digit_word}
-use Rattle.pf_terms.proofs.Typing.{and_left}
+use Rattle.pf_values.proofs.Typing.{and_left}
 
 -- ---- words that stand for themselves
-abbrev words : List (List ℕ × Kind)
+abbrev words : List (List ℕ × TokenKind)
 words =
     (codes "u8", TypeWord (typed_as false Eight)) ∷ (codes "i8", TypeWord (typed_as true Eight)) ∷ (codes "u16", TypeWord (typed_as false Sixteen)) ∷ (codes "i16", TypeWord (typed_as true Sixteen))
     ∷ (codes "u32", TypeWord (typed_as false ThirtyTwo)) ∷ (codes "i32", TypeWord (typed_as true ThirtyTwo)) ∷ (codes "min", Word Min) ∷ (codes "max", Word Max) ∷ (codes "abs", Word Abs)
@@ -30,7 +31,7 @@ words =
     ∷ (codes "saturating_cast", Word SaturatingCast) ∷ (codes "absd", Word Absd) ∷ (codes "rounding_shr", Word RoundingShr) ∷ (codes "mul_shr", Word MulShr) ∷ (codes "rounding_mul_shr", Word RoundingMulShr)
     ∷ (codes "select", Choose) ∷ (codes "kernel", Line Kernel) ∷ (codes "image", Line Image) ∷ (codes "def", Line Def) ∷ (codes "out", Line Out) ∷ []
 
-abbrev look : List (List ℕ × Kind) → List ℕ → Option Kind
+abbrev look : List (List ℕ × TokenKind) → List ℕ → Option TokenKind
 look [] w = None
 look (p ∷ ps) w = if bytes_eq w p.0 then Some p.1 else look ps w
 
@@ -39,7 +40,7 @@ starts_digit [] = false
 starts_digit (c ∷ _) = is_digit c
 
 -- a word of the table
-abbrev IsListed : List ℕ → Kind → Type 0
+abbrev IsListed : List ℕ → TokenKind → Type 0
 IsListed w k = (look words w ≡ Some k) × (is_name w ≡ false) × (starts_digit w ≡ false)
 
 listed_type : (s : Bool) (b : Bits) → IsListed (spelled_word s b) (TypeWord (typed_as s b))
@@ -85,14 +86,14 @@ listed_choose = (refl, refl, refl)
 
 -- ---- numerals
 -- digits, and behind them nothing or the word of a type
-abbrev IsNumeralOf : List ℕ → List ℕ → Kind → Type 0
+abbrev IsNumeralOf : List ℕ → List ℕ → TokenKind → Type 0
 IsNumeralOf ds tail (Number n) = (tail ≡ []) × (length ds ≤ 10) × (n ≡ pos (digits_behind 0 ds))
 IsNumeralOf ds tail (Typed n t) = (tail ≡ type_word t) × (length ds ≤ 10) × (n ≡ pos (digits_behind 0 ds))
 IsNumeralOf ds tail (Long None) = (tail ≡ []) × (11 ≤ length ds)
 IsNumeralOf ds tail (Long (Some t)) = (tail ≡ type_word t) × (11 ≤ length ds)
 IsNumeralOf ds tail _ = ⊥
 
-record IsNumeral (w : List ℕ) (k : Kind) : Type 0 where
+record IsNumeral (w : List ℕ) (k : TokenKind) : Type 0 where
   front : List ℕ
   tail : List ℕ
   parts : w ≡ front ++ tail
@@ -102,10 +103,10 @@ record IsNumeral (w : List ℕ) (k : Kind) : Type 0 where
   means : IsNumeralOf front tail k
 
 -- a run is of one of three sorts
-abbrev Sort : List ℕ → Kind → Type 0
+abbrev Sort : List ℕ → TokenKind → Type 0
 Sort w k = IsListed w k ⊎ ((is_name w ≡ true) × (k ≡ Name w)) ⊎ IsNumeral w k
 
-sort_of : (w : List ℕ) (k : Kind) → IsWordOf w k → Sort w k
+sort_of : (w : List ℕ) (k : TokenKind) → IsWordOf w k → Sort w k
 sort_of w (Name n) h = inr (inl (h.0, ap (λ v. Name v) h.1))
 sort_of w (TypeWord t) h = inl (subst (λ v. IsListed v (TypeWord t)) (sym (h ∙ spelled_words t.signed t.bits)) (listed_type t.signed t.bits))
 sort_of w (Number n) h = inr (inr (record { front = w; tail = []; parts = sym (append-nil w); digits = h.digits; some = h.some; stops = tt; means = (refl, h.few, h.value) }))
@@ -117,10 +118,10 @@ sort_of w Choose h = inl (subst (λ v. IsListed v Choose) (sym h) listed_choose)
 sort_of w (Line l) h = inl (subst (λ v. IsListed v (Line l)) (sym h) (listed_line l))
 sort_of w _ h = absurd h
 
-some_kind : (j k : Kind) → ◌≡◌ {A = Option Kind} (Some j) (Some k) → j ≡ k
+some_kind : (j k : TokenKind) → ◌≡◌ {A = Option TokenKind} (Some j) (Some k) → j ≡ k
 some_kind j k e = cc
 
-some_type : (t u : LaneType) → ◌≡◌ {A = Kind} (TypeWord t) (TypeWord u) → t ≡ u
+some_type : (t u : LaneType) → ◌≡◌ {A = TokenKind} (TypeWord t) (TypeWord u) → t ≡ u
 some_type t u e = cc
 
 one_type : (t u : LaneType) → type_word t ≡ type_word u → t ≡ u
@@ -142,7 +143,7 @@ word_long t = subst (λ v. 1 ≤ length v) (sym (spelled_words t.signed t.bits))
 no_word : (t : LaneType) (tail : List ℕ) → tail ≡ [] → tail ≡ type_word t → ⊥
 no_word t tail none word = let e : length (type_word t) ≡ 0 = ap length (sym word ∙ none) in omega (arith, e, word_long t)
 
-one_numeral : (ds tail : List ℕ) (j k : Kind) → IsNumeralOf ds tail j → IsNumeralOf ds tail k → j ≡ k
+one_numeral : (ds tail : List ℕ) (j k : TokenKind) → IsNumeralOf ds tail j → IsNumeralOf ds tail k → j ≡ k
 one_numeral ds tail (Number n) (Number m) h i = ap (λ v. Number v) (h.2 ∙ sym i.2)
 one_numeral ds tail (Number n) (Typed m u) h i = absurd (no_word u tail h.0 i.0)
 one_numeral ds tail (Number n) (Long None) h i = absurd (omega (arith, h.1, i.1))
@@ -179,7 +180,7 @@ one_split a b c d same all stops also ends =
     let r = digits_front a b (length c) all stops within (subst P (sym t) also) (subst IsNoDigit (sym u) ends) in
     (sym r.0 ∙ t, sym r.1 ∙ u)
 
-numeral_starts : (w : List ℕ) (k : Kind) → IsNumeral w k → starts_digit w ≡ true
+numeral_starts : (w : List ℕ) (k : TokenKind) → IsNumeral w k → starts_digit w ≡ true
 numeral_starts w k h = ap starts_digit h.parts ∙ by h.front h.tail h.digits h.some where
   by : (ds tail : List ℕ) → All (λ b. is_digit b ≡ true) ds → 1 ≤ length ds → starts_digit (ds ++ tail) ≡ true
   by [] tail all some = absurd (omega arith)
@@ -205,7 +206,7 @@ name_starts (c ∷ w) h =
     let spelled = and_left (is_spelled (c ∷ w)) (nat_le (length (c ∷ w)) 32) (and_left (is_spelled (c ∷ w) && nat_le (length (c ∷ w)) 32) (not (is_reserved (c ∷ w))) h) in
     letter_no_digit c (and_left (is_letter c) _ spelled)
 
-one_sort : (w : List ℕ) (j k : Kind) → Sort w j → Sort w k → j ≡ k
+one_sort : (w : List ℕ) (j k : TokenKind) → Sort w j → Sort w k → j ≡ k
 one_sort w j k (inl h) (inl i) = some_kind j k (sym h.0 ∙ i.0)
 one_sort w j k (inl h) (inr (inl i)) = absurd (let no : ◌≡◌ {A = Bool} true false = sym i.0 ∙ h.1 in cc)
 one_sort w j k (inl h) (inr (inr i)) = absurd (let no : ◌≡◌ {A = Bool} true false = sym (numeral_starts w k i) ∙ h.2 in cc)
@@ -218,25 +219,25 @@ one_sort w j k (inr (inr h)) (inr (inr i)) =
     let s = one_split h.front h.tail i.front i.tail (sym h.parts ∙ i.parts) h.digits h.stops i.digits i.stops in
     one_numeral i.front i.tail j k (subst (λ v. IsNumeralOf i.front v j) s.1 (subst (λ v. IsNumeralOf v h.tail j) s.0 h.means)) i.means
 
-pub one_run : (w : List ℕ) (j k : Kind) → IsRun w j → IsRun w k → j ≡ k
+pub one_run : (w : List ℕ) (j k : TokenKind) → IsRunToken w j → IsRunToken w k → j ≡ k
 one_run w j k h i = by j k (run_or w j h) (run_or w k i) where
-  run_or : (v : List ℕ) (l : Kind) → IsRun v l → IsWordOf v l ⊎ ((l ≡ Other) × ((m : Kind) → IsWordOf v m → ⊥))
+  run_or : (v : List ℕ) (l : TokenKind) → IsRunToken v l → IsWordOf v l ⊎ ((l ≡ Other) × ((m : TokenKind) → IsWordOf v m → ⊥))
   run_or v Other g = inr (refl, g)
   run_or v l g = inl g
 
-  by : (a b : Kind) → IsWordOf w a ⊎ ((a ≡ Other) × ((m : Kind) → IsWordOf w m → ⊥)) → IsWordOf w b ⊎ ((b ≡ Other) × ((m : Kind) → IsWordOf w m → ⊥)) → a ≡ b
+  by : (a b : TokenKind) → IsWordOf w a ⊎ ((a ≡ Other) × ((m : TokenKind) → IsWordOf w m → ⊥)) → IsWordOf w b ⊎ ((b ≡ Other) × ((m : TokenKind) → IsWordOf w m → ⊥)) → a ≡ b
   by a b (inl f) (inl g) = one_sort w a b (sort_of w a f) (sort_of w b g)
   by a b (inl f) (inr g) = absurd (g.1 a f)
   by a b (inr f) (inl g) = absurd (f.1 b g)
   by a b (inr f) (inr g) = f.0 ∙ sym g.0
 
 -- ---- signs
-abbrev signs : List (List ℕ × Kind)
+abbrev signs : List (List ℕ × TokenKind)
 signs =
     (codes "(", Open) ∷ (codes ")", Close) ∷ (codes "[", OpenSquare) ∷ (codes "]", CloseSquare) ∷ (codes ",", Comma) ∷ (codes "+", Plus) ∷ (codes "-", Minus) ∷ (codes "*", Times) ∷ (codes "<<", ShiftLeft)
     ∷ (codes ">>", ShiftRight) ∷ (codes "<", Less) ∷ (codes ">", Greater) ∷ (codes "==", Same) ∷ (codes "=", Equals) ∷ []
 
-listed_sign : (k : Kind) → 1 ≤ length (sign_text k) → look signs (sign_text k) ≡ Some k
+listed_sign : (k : TokenKind) → 1 ≤ length (sign_text k) → look signs (sign_text k) ≡ Some k
 listed_sign Open some = refl
 listed_sign Close some = refl
 listed_sign OpenSquare some = refl
@@ -253,7 +254,7 @@ listed_sign Same some = refl
 listed_sign Equals some = refl
 listed_sign _ some = absurd (omega arith)
 
-one_sign : (j k : Kind) → 1 ≤ length (sign_text j) → sign_text j ≡ sign_text k → j ≡ k
+one_sign : (j k : TokenKind) → 1 ≤ length (sign_text j) → sign_text j ≡ sign_text k → j ≡ k
 one_sign j k some same =
     some_kind j k (sym (listed_sign j some) ∙ ap (look signs) same ∙ listed_sign k (subst (λ l. 1 ≤ length l) same some))
 
@@ -275,28 +276,28 @@ one_size m n a b = by (nat_le m n) refl where
   by false e = absurd (b (let lt : n < m = leb-false m n e in lt))
 
 -- the size and the kind are the same
-abbrev Alike : ℕ → Kind → ℕ → Kind → Type 0
+abbrev Alike : ℕ → TokenKind → ℕ → TokenKind → Type 0
 Alike m j n k = (m ≡ n) × (j ≡ k)
 
-runs_alike : (text : List ℕ) (m n : ℕ) (j k : Kind) → IsFrontRun text m j → IsFrontRun text n k → Alike m j n k
+runs_alike : (text : List ℕ) (m n : ℕ) (j k : TokenKind) → IsFrontRun text m j → IsFrontRun text n k → Alike m j n k
 runs_alike text m n j k h i =
     let size : m ≡ n = one_size m n (run_below text m n h.longest i.bytes i.within) (run_below text n m i.longest h.bytes h.within) in
-    (size, one_run (take n text) j k (subst (λ l. IsRun (take l text) j) size h.kind) i.kind)
+    (size, one_run (take n text) j k (subst (λ l. IsRunToken (take l text) j) size h.kind) i.kind)
 
-signs_alike : (text : List ℕ) (m n : ℕ) (j k : Kind) → IsFrontSign text m j → IsFrontSign text n k → Alike m j n k
+signs_alike : (text : List ℕ) (m n : ℕ) (j k : TokenKind) → IsFrontSign text m j → IsFrontSign text n k → Alike m j n k
 signs_alike text m n j k h i =
     let size : m ≡ n = omega (arith, h.longest k n i.within i.sign, i.longest j m h.within h.sign) in
     let some : 1 ≤ length (sign_text j) = omega (arith, ap length h.sign, length-take-le m text h.within, h.some) in
     (size, one_sign j k some (h.sign ∙ ap (λ l. take l text) size ∙ sym i.sign))
 
 -- where a run stands in front, no sign does
-run_apart : (text : List ℕ) (m : ℕ) (j : Kind) → IsFrontRun text m j → IsNoRun text → ⊥
+run_apart : (text : List ℕ) (m : ℕ) (j : TokenKind) → IsFrontRun text m j → IsNoRun text → ⊥
 run_apart text m j h solid = run_below text 0 m solid h.bytes h.within (omega (arith, h.some))
 
-bytes_alike : (text : List ℕ) (m n : ℕ) (j k : Kind) → IsFrontByte text m j → IsFrontByte text n k → Alike m j n k
+bytes_alike : (text : List ℕ) (m n : ℕ) (j k : TokenKind) → IsFrontByte text m j → IsFrontByte text n k → Alike m j n k
 bytes_alike text m n j k h i = (h.one ∙ sym i.one, h.other ∙ sym i.other)
 
-pub one_front : (text : List ℕ) (m n : ℕ) (j k : Kind) → IsFront text m j → IsFront text n k → Alike m j n k
+pub one_front : (text : List ℕ) (m n : ℕ) (j k : TokenKind) → IsFront text m j → IsFront text n k → Alike m j n k
 one_front text m n j k (inl h) (inl i) = runs_alike text m n j k h i
 one_front text m n j k (inl h) (inr (inl i)) = absurd (run_apart text m j h i.solid)
 one_front text m n j k (inl h) (inr (inr i)) = absurd (run_apart text m j h i.solid)
@@ -317,7 +318,7 @@ record IsBlankFirst (n : ℕ) (text : List ℕ) (ts : List Token) : Type 0 where
 
 record IsTokenFirst (n : ℕ) (text : List ℕ) (ts : List Token) : Type 0 where
   size : ℕ
-  kind : Kind
+  kind : TokenKind
   rest : List Token
   is : ts ≡ record { start = n; end = n + size; kind = kind } ∷ rest
   solid : IsSolid text
@@ -328,7 +329,7 @@ abbrev Parts : ℕ → List ℕ → List Token → Type 0
 Parts n text ts = ((text ≡ []) × (ts ≡ [])) ⊎ IsBlankFirst n text ts ⊎ IsTokenFirst n text ts
 
 parts_of : (n : ℕ) (text : List ℕ) (ts : List Token) → IsLexed n text ts → Parts n text ts
-parts_of _ _ _ (ended n) = inl (refl, refl)
+parts_of _ _ _ (at_end n) = inl (refl, refl)
 parts_of _ _ _ (blank n b text ts h i) = inr (inl (record { byte = b; rest = text; is = refl; blanks = h; onward = i }))
 parts_of _ _ _ (token n size text k ts s f i) = inr (inr (record { size = size; kind = k; rest = ts; is = refl; solid = s; front = f; onward = i }))
 
@@ -352,7 +353,7 @@ blank_once n b text ts us h onward (inl p) = absurd (let never : ◌≡◌ {A = 
 blank_once n b text ts us h onward (inr (inl p)) = onward us (subst (λ l. IsLexed (n + 1) l us) (sym (list_parts b p.byte text p.rest p.is).1) p.onward)
 blank_once n b text ts us h onward (inr (inr p)) = absurd (not_solid b text h p.solid)
 
-token_once : (n size : ℕ) (text : List ℕ) (k : Kind) (ts us : List Token) → IsSolid text → IsFront text size k → Onward (n + size) (drop size text) ts → Parts n text us → record { start = n; end = n + size; kind = k } ∷ ts ≡ us
+token_once : (n size : ℕ) (text : List ℕ) (k : TokenKind) (ts us : List Token) → IsSolid text → IsFront text size k → Onward (n + size) (drop size text) ts → Parts n text us → record { start = n; end = n + size; kind = k } ∷ ts ≡ us
 token_once n size text k ts us s f onward (inl p) = absurd (subst IsSolid p.0 s)
 token_once n size text k ts us s f onward (inr (inl p)) = absurd (not_solid p.byte p.rest p.blanks (subst IsSolid p.is s))
 token_once n size text k ts us s f onward (inr (inr p)) =
@@ -361,7 +362,7 @@ token_once n size text k ts us s f onward (inr (inr p)) =
     ap (λ m. record { start = n; end = n + m; kind = k } ∷ ts) same.0 ∙ ap (λ j. record { start = n; end = n + p.size; kind = j } ∷ ts) same.1 ∙ ap (λ l. record { start = n; end = n + p.size; kind = p.kind } ∷ l) rest ∙ sym p.is
 
 pub one_lexing : (n : ℕ) (text : List ℕ) (ts us : List Token) → IsLexed n text ts → IsLexed n text us → ts ≡ us
-one_lexing _ _ _ us (ended n) i = ended_once n us (parts_of n [] us i)
+one_lexing _ _ _ us (at_end n) i = ended_once n us (parts_of n [] us i)
 one_lexing _ _ _ us (blank n b text ts h g) i = blank_once n b text ts us h (λ l j. one_lexing (n + 1) text ts l g j) (parts_of n (b ∷ text) us i)
 one_lexing _ _ _ us (token n size text k ts s f g) i = token_once n size text k ts us s f (λ l j. one_lexing (n + size) (drop size text) ts l g j) (parts_of n text us i)
 
@@ -369,27 +370,27 @@ one_lexing _ _ _ us (token n size text k ts s f g) i = token_once n size text k 
 unsigned_value : (n : ℤ) (m : ℕ) → n ≡ pos m → int_le (pos 0) n ≡ true
 unsigned_value n m e = subst (λ v. int_le (pos 0) v ≡ true) (sym e) (le-leb 0 m (omega arith))
 
-unsigned_word : (w : List ℕ) (k : Kind) → IsWordOf w k → is_unsigned k ≡ true
+unsigned_word : (w : List ℕ) (k : TokenKind) → IsWordOf w k → is_unsigned k ≡ true
 unsigned_word w (Number n) h = unsigned_value n _ h.value
 unsigned_word w (Typed n t) h = unsigned_value n _ h.1.value
 unsigned_word w _ h = refl
 
-unsigned_run : (w : List ℕ) (k : Kind) → IsRun w k → is_unsigned k ≡ true
+unsigned_run : (w : List ℕ) (k : TokenKind) → IsRunToken w k → is_unsigned k ≡ true
 unsigned_run w Other h = refl
 unsigned_run w k h = unsigned_word w k h
 
-unsigned_sign : (k : Kind) → 1 ≤ length (sign_text k) → is_unsigned k ≡ true
+unsigned_sign : (k : TokenKind) → 1 ≤ length (sign_text k) → is_unsigned k ≡ true
 unsigned_sign (Number n) some = absurd (omega arith)
 unsigned_sign (Typed n t) some = absurd (omega arith)
 unsigned_sign _ some = refl
 
-unsigned_front : (text : List ℕ) (size : ℕ) (k : Kind) → IsFront text size k → is_unsigned k ≡ true
+unsigned_front : (text : List ℕ) (size : ℕ) (k : TokenKind) → IsFront text size k → is_unsigned k ≡ true
 unsigned_front text size k (inl h) = unsigned_run (take size text) k h.kind
 unsigned_front text size k (inr (inl h)) = unsigned_sign k (omega (arith, ap length h.sign, length-take-le size text h.within, h.some))
 unsigned_front text size k (inr (inr h)) = ap is_unsigned h.other
 
 unsigned_at : (n : ℕ) (text : List ℕ) (ts : List Token) → IsLexed n text ts → (i : ℕ) (d : Token) → i < length ts → is_unsigned (get_or ts i d).kind ≡ true
-unsigned_at _ _ _ (ended n) i d below = absurd (omega arith)
+unsigned_at _ _ _ (at_end n) i d below = absurd (omega arith)
 unsigned_at _ _ _ (blank n b text ts h g) i d below = unsigned_at (n + 1) text ts g i d below
 unsigned_at _ _ _ (token n size text k ts s f g) zero d below = unsigned_front text size k f
 unsigned_at _ _ _ (token n size text k ts s f g) (suc i) d below = unsigned_at (n + size) (drop size text) ts g i d (omega arith)

@@ -1,15 +1,17 @@
 -- A node's text is its pieces, one after another.
-use Rattle.std.proofs.Common.{◌≡◌, sym, ap, ◌∙◌, ℕ, ◌+◌, List, [], ◌∷◌, ◌++◌, length, arith, append_assoc}
+use Rattle.std.proofs.Common.{◌≡◌, sym, ap, ◌∙◌, ℕ, ◌+◌, List, [], ◌∷◌, ◌++◌, length, append_assoc}
 use Rattle.std.specs.Prelude.{codes}
 use Rattle.pf_ints.specs.declared.lane.LaneType.{LaneType}
-use Rattle.pf_terms.specs.declared.op.Op.{Op}
-use Rattle.pf_terms.specs.declared.op.Op.TheVariants.{Cast, Add, Sub, Mul, ShiftLeft, ShiftRight, Min, Max, SelectGreater, SelectEqual, Abs, WideningAdd, WideningSub, WideningMul, ExtendingAdd, HalvingAdd, RoundingHalvingAdd, HalvingSub, SaturatingAdd, SaturatingSub, SaturatingCast, Absd, RoundingShr, MulShr, RoundingMulShr}
-use Rattle.pf_terms.specs.declared.row.Spelling.{Spelling}
-use Rattle.pf_terms.specs.declared.row.Spelling.TheVariants.{TypeCall, Infix, ShiftBy, Call, CallWithType, CallWithAmount, Select}
-use Rattle.pf_terms.specs.Operators.{row_of}
-use Rattle.pf_terms.specs.Terms.{operand_count}
-use Rattle.pf_terms.specs.TermTexts.{node_text, op_word, spelling_of, spelled}
-use Rattle.pf_terms.specs.Pieces.{opening, onward, before}
+use Rattle.pf_values.specs.declared.op.Op.{Op}
+use Rattle.pf_values.specs.declared.op.Op.TheVariants.{Cast, Add, Sub, Mul, ShiftLeft, ShiftRight, Min, Max, SelectGreater, SelectEqual, Abs, WideningAdd, WideningSub, WideningMul, ExtendingAdd, HalvingAdd, RoundingHalvingAdd, HalvingSub, SaturatingAdd, SaturatingSub, SaturatingCast, Absd, RoundingShr, MulShr, RoundingMulShr}
+use Rattle.pf_values.specs.declared.row.Spelling.{Spelling}
+use Rattle.pf_values.specs.declared.row.Spelling.TheVariants.{TypeCall, Infix, ShiftBy, Call, CallWithType, CallWithAmount, Select}
+use Rattle.pf_values.specs.Meaning.Operators.{row_of}
+use Rattle.pf_values.specs.Meaning.Terms.{operand_count}
+use Rattle.pf_terms.specs.Meaning.TermTexts.{node_text, spelled}
+use Rattle.pf_values.specs.Meaning.Spellings.{op_word, spelling_of}
+use Rattle.pf_terms.specs.Steps.Pieces.{opening, onward, before}
+use Rattle.pf_values.proofs.OperandLists.{by_four, by_one, by_two}
 
 -- by how an operator is spelled and how many operands it has
 module _ (word : List ℕ) (ty : LaneType) (k : ℕ) where
@@ -41,26 +43,6 @@ module _ (word : List ℕ) (ty : LaneType) (k : ℕ) where
   choose a b x y =
       let rest = codes ", " ++ (x ++ (codes ", " ++ (y ++ codes ")"))) in
       simp append_assoc (ap (λ z. codes "select(" ++ (a ++ (codes " " ++ z))) (append_assoc (word ++ codes " ") b rest ∙ append_assoc word (codes " ") (b ++ rest)))
-
--- lists of one, two and four
-pub by_one : {A : Type 0} (P : List A → Type 0) → ((x : A) → P (x ∷ [])) → (xs : List A) → length xs ≡ 1 → P xs
-by_one P f [] h = absurd (omega arith)
-by_one P f (x ∷ []) h = f x
-by_one P f (x ∷ y ∷ xs) h = absurd (omega arith)
-
-pub by_two : {A : Type 0} (P : List A → Type 0) → ((x y : A) → P (x ∷ y ∷ [])) → (xs : List A) → length xs ≡ 2 → P xs
-by_two P f [] h = absurd (omega arith)
-by_two P f (x ∷ []) h = absurd (omega arith)
-by_two P f (x ∷ y ∷ []) h = f x y
-by_two P f (x ∷ y ∷ z ∷ xs) h = absurd (omega arith)
-
-pub by_four : {A : Type 0} (P : List A → Type 0) → ((a b x y : A) → P (a ∷ b ∷ x ∷ y ∷ [])) → (xs : List A) → length xs ≡ 4 → P xs
-by_four P f [] h = absurd (omega arith)
-by_four P f (a ∷ []) h = absurd (omega arith)
-by_four P f (a ∷ b ∷ []) h = absurd (omega arith)
-by_four P f (a ∷ b ∷ x ∷ []) h = absurd (omega arith)
-by_four P f (a ∷ b ∷ x ∷ y ∷ []) h = f a b x y
-by_four P f (a ∷ b ∷ x ∷ y ∷ z ∷ xs) h = absurd (omega arith)
 
 -- the pieces of any node's text make the text
 abbrev Makes : Op → LaneType → ℕ → List (List ℕ) → Type 0

@@ -6,30 +6,31 @@ use Rattle.std.proofs.lemmas.Int.{ints}
 use Rattle.std.proofs.lemmas.List.{get_or-map, get_or_append_left, get_or-append-add, length-append, length-map}
 use borrow.Author.Tests.{ltb-true}
 use Rattle.pf_ints.specs.declared.lane.LaneType.{LaneType}
-use Rattle.pf_ints.specs.Lanes.{IsIn, least, greatest, is_in}
-use Rattle.pf_ints.specs.Words.{is_name}
-use Rattle.pf_terms.specs.declared.draft.Draft.TheVariants.{Number as NumberOf, Named, Placed}
-use Rattle.pf_terms.specs.declared.names.DefName.{DefName}
-use Rattle.pf_terms.specs.declared.names.ImageName.{ImageName}
-use Rattle.pf_terms.specs.declared.names.Names.{Names}
-use Rattle.pf_terms.specs.declared.names.Tap.{Tap as TapOf}
-use Rattle.pf_terms.specs.declared.term.Leaf.{Leaf}
-use Rattle.pf_terms.specs.declared.term.Leaf.TheVariants.{Tap, Const, Def}
-use Rattle.pf_terms.specs.declared.token.Kind.{Kind}
-use Rattle.pf_terms.specs.declared.token.Kind.TheVariants.{Name, Number, Typed, OpenSquare, CloseSquare, Comma, Minus}
-use Rattle.pf_terms.specs.Drafts.{IsShallow}
-use Rattle.pf_terms.specs.Grammar.{number, negated, named, placed, IsInteger, plain, minus}
-use Rattle.pf_terms.specs.KernelNames.{IsNames, IsNear, all_names}
-use Rattle.pf_terms.specs.ReadBack.{leaf_draft}
-use Rattle.pf_terms.specs.Small.{IsSmall}
-use Rattle.pf_terms.specs.Terms.{is_formed_leaf}
-use Rattle.pf_terms.specs.TermTexts.{leaf_text, placed_text, type_word, is_named_leaf, is_named_tap, no_image, no_tap, no_def}
-use Rattle.pf_terms.specs.Tokens.{IsNoRun}
-use Rattle.pf_terms.proofs.Ranges.{small_member}
+use Rattle.pf_ints.specs.Meaning.Lanes.{IsIn, least, greatest, is_in}
+use Rattle.pf_text.specs.Meaning.Words.{is_name}
+use Rattle.pf_terms.specs.declared.parse.syntax_tree.SyntaxTree.TheVariants.{Number as NumberOf, Name as NameTree, Tap as TapTree}
+use Rattle.pf_values.specs.declared.names.DefName.{DefName}
+use Rattle.pf_values.specs.declared.names.ImageName.{ImageName}
+use Rattle.pf_values.specs.declared.names.Names.{Names}
+use Rattle.pf_values.specs.declared.names.Tap.{Tap as TapOf}
+use Rattle.pf_values.specs.declared.term.Leaf.{Leaf}
+use Rattle.pf_values.specs.declared.term.Leaf.TheVariants.{Tap, Const, Def}
+use Rattle.pf_terms.specs.declared.token.TokenKind.{TokenKind}
+use Rattle.pf_terms.specs.declared.token.TokenKind.TheVariants.{Name, Number, Typed, OpenSquare, CloseSquare, Comma, Minus}
+use Rattle.pf_terms.specs.Meaning.SyntaxTrees.{IsShallow}
+use Rattle.pf_terms.specs.Meaning.Grammar.{literal, negated, plain_name, placed, IsInteger, plain, minus}
+use Rattle.pf_terms.specs.Meaning.KernelNames.{IsNames, IsTapOffset, all_names}
+use Rattle.pf_terms.proofs.ReadBack.{leaf_tree}
+use Rattle.pf_values.specs.Steps.Small.{IsSmall}
+use Rattle.pf_values.specs.Meaning.Terms.{is_formed_leaf}
+use Rattle.pf_terms.specs.Meaning.TermTexts.{leaf_text, placed_text, type_word}
+use Rattle.pf_values.specs.Meaning.NamedTerms.{is_named_leaf, is_named_tap, no_image, no_tap, no_def}
+use Rattle.pf_terms.specs.Meaning.Tokens.{IsNoRun}
+use Rattle.pf_values.proofs.Ranges.{small_member}
 use Rattle.pf_terms.proofs.ReadBackNodes.{IsPrinted}
 use Rattle.pf_terms.proofs.ReadBackTexts.{Reads, reads_sign}
 use Rattle.pf_terms.proofs.ReadBackWords.{reads_number, reads_typed, reads_name}
-use Rattle.pf_terms.proofs.Typing.{and_left, and_right}
+use Rattle.pf_values.proofs.Typing.{and_left, and_right}
 
 -- ---- constants
 member : (t : LaneType) (n : ℤ) → is_in t n ≡ true → IsIn t n
@@ -41,7 +42,7 @@ constant : (n : ℤ) (t : LaneType) → is_in t n ≡ true → IsSmall n → IsP
 constant (pos m) t is h =
     record {
       tokens = Typed (pos m) t ∷ [];
-      spelled = number (pos m) t is;
+      spelled = literal (pos m) t is;
       reads = λ r ls none k. reads_typed m t r ls (omega (arith, ints, h.high)) none k;
       shallow = λ n ls few k. k;
     }
@@ -56,12 +57,12 @@ constant (negsuc m) t is h =
 -- ---- taps
 -- an offset's text
 record IsOffsetText (n : ℤ) (w : List ℕ) : Type 0 where
-  tokens : List Kind
+  tokens : List TokenKind
   is : IsInteger tokens n
-  reads : (r : List ℕ) (ls : List Kind) → IsNoRun r → Reads r ls → Reads (w ++ r) (tokens ++ ls)
-  shallow : (i : ℕ) (ls : List Kind) → IsShallow i ls → IsShallow i (tokens ++ ls)
+  reads : (r : List ℕ) (ls : List TokenKind) → IsNoRun r → Reads r ls → Reads (w ++ r) (tokens ++ ls)
+  shallow : (i : ℕ) (ls : List TokenKind) → IsShallow i ls → IsShallow i (tokens ++ ls)
 
-offset : (n : ℤ) → IsNear n → IsOffsetText n (signed_decimal n)
+offset : (n : ℤ) → IsTapOffset n → IsOffsetText n (signed_decimal n)
 offset (pos m) h =
     record {
       tokens = Number (pos m) ∷ [];
@@ -77,7 +78,7 @@ offset (negsuc m) h =
       shallow = λ i ls k. k;
     }
 
-square_of : (s u v : List ℕ) (dx dy : ℤ) → is_name s ≡ true → IsOffsetText dx u → IsOffsetText dy v → IsPrinted (s ++ codes "[" ++ u ++ codes "," ++ v ++ codes "]") (Placed s dx dy) 1
+square_of : (s u v : List ℕ) (dx dy : ℤ) → is_name s ≡ true → IsOffsetText dx u → IsOffsetText dy v → IsPrinted (s ++ codes "[" ++ u ++ codes "," ++ v ++ codes "]") (TapTree s dx dy) 1
 square_of s u v dx dy name p q =
     record {
       tokens = Name s ∷ OpenSquare ∷ (p.tokens ++ Comma ∷ (q.tokens ++ CloseSquare ∷ []));
@@ -87,15 +88,15 @@ square_of s u v dx dy name p q =
       shallow = λ i ls few h. simp append_assoc (p.shallow i _ (q.shallow i _ h));
     }
 
-tap_printed : (s : List ℕ) (t : TapOf) → is_name s ≡ true → IsNear t.dx → IsNear t.dy → IsPrinted (placed_text s t) (Placed s t.dx t.dy) 1
+tap_printed : (s : List ℕ) (t : TapOf) → is_name s ≡ true → IsTapOffset t.dx → IsTapOffset t.dy → IsPrinted (placed_text s t) (TapTree s t.dx t.dy) 1
 tap_printed s t name across down = square_of s (signed_decimal t.dx) (signed_decimal t.dy) t.dx t.dy name (offset t.dx across) (offset t.dy down)
 
 -- ---- names
-def_printed : (s : List ℕ) → is_name s ≡ true → IsPrinted s (Named s) 1
+def_printed : (s : List ℕ) → is_name s ≡ true → IsPrinted s (NameTree s) 1
 def_printed s name =
     record {
       tokens = Name s ∷ [];
-      spelled = named s;
+      spelled = plain_name s;
       reads = λ r ls none h. reads_name s r ls name none h;
       shallow = λ n ls few k. k;
     }
@@ -129,7 +130,7 @@ image_named names h i below = ap is_name (sym (image_at names i below)) ∙ h.na
 def_named : (names : Names) → IsNames names → (i : ℕ) → i < length names.defs → is_name (get_or names.defs i no_def).name ≡ true
 def_named names h i below = ap is_name (sym (def_at names i below)) ∙ h.named (length names.images + i) [] (omega (arith, names_long names))
 
-pub leaf_printed : (names : Names) (leaf : Leaf) (ty : LaneType) → IsNames names → is_formed_leaf leaf ty ≡ true → is_named_leaf names leaf ty ≡ true → IsPrinted (leaf_text names leaf ty) (leaf_draft names leaf ty) 1
+pub leaf_printed : (names : Names) (leaf : Leaf) (ty : LaneType) → IsNames names → is_formed_leaf leaf ty ≡ true → is_named_leaf names leaf ty ≡ true → IsPrinted (leaf_text names leaf ty) (leaf_tree names leaf ty) 1
 leaf_printed names (Tap n) ty all formed has =
     let t = get_or names.taps n no_tap in
     let below : n < length names.taps = ltb-true n (length names.taps) (and_left _ (is_named_tap names.images t ty) has) in

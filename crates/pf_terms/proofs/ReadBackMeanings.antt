@@ -11,40 +11,42 @@ use Rattle.std.proofs.lemmas.List.Sums.{position_or_len_is}
 use Rattle.std.proofs.lemmas.Slice.Eq.{bytes_eq-Decides}
 use borrow.Author.Tests.{ltb-true}
 use Rattle.pf_ints.specs.declared.lane.LaneType.{LaneType}
-use Rattle.pf_terms.specs.declared.draft.Draft.{Draft}
-use Rattle.pf_terms.specs.declared.draft.Draft.TheVariants.{Number, Named, Placed, Node as DraftNode, rolls-Number, rolls-Named, rolls-Placed, rolls-Node as rolls-DraftNode}
-use Rattle.pf_terms.specs.declared.draft.Draft.TheOpen.Draft-F.{Number as NumberLayer, Named as NamedLayer, Placed as PlacedLayer, Node as DraftNodeLayer}
-use Rattle.pf_terms.specs.declared.draft.Draft.TheFolds.{fold-roll-Draft}
+use Rattle.pf_terms.specs.declared.parse.syntax_tree.SyntaxTree.{SyntaxTree}
+use Rattle.pf_terms.specs.declared.parse.syntax_tree.SyntaxTree.TheVariants.{Number, Name, Tap as TapTree, Node as TreeNode, rolls-Number, rolls-Name, rolls-Tap, rolls-Node as rolls-TreeNode}
+use Rattle.pf_terms.specs.declared.parse.syntax_tree.SyntaxTree.TheOpen.SyntaxTree-F.{Number as NumberLayer, Name as NamedLayer, Tap as PlacedLayer, Node as TreeNodeLayer}
+use Rattle.pf_terms.specs.declared.parse.syntax_tree.SyntaxTree.TheFolds.{fold-roll-SyntaxTree}
 use Rattle.pf_terms.specs.declared.meaning.ReadFault.{ReadFault}
-use Rattle.pf_terms.specs.declared.names.DefName.{DefName}
-use Rattle.pf_terms.specs.declared.names.ImageName.{ImageName}
-use Rattle.pf_terms.specs.declared.names.Names.{Names}
-use Rattle.pf_terms.specs.declared.names.Tap.{Tap as TapOf}
-use Rattle.pf_terms.specs.declared.op.Op.{Op}
-use Rattle.pf_terms.specs.declared.op.Op.TheVariants.{Cast, Add, Sub, Mul, ShiftLeft, ShiftRight, Min, Max, SelectGreater, SelectEqual, Abs, WideningAdd, WideningSub, WideningMul, ExtendingAdd, HalvingAdd, RoundingHalvingAdd, HalvingSub, SaturatingAdd, SaturatingSub, SaturatingCast, Absd, RoundingShr, MulShr, RoundingMulShr}
-use Rattle.pf_terms.specs.declared.term.Leaf.{Leaf as LeafOf}
-use Rattle.pf_terms.specs.declared.term.Leaf.TheVariants.{Tap, Const, Def}
-use Rattle.pf_terms.specs.declared.term.Term.{Term}
-use Rattle.pf_terms.specs.declared.term.Term.TheVariants.{Leaf, Node, rolls-Leaf, rolls-Node}
-use Rattle.pf_terms.specs.declared.term.Term.TheOpen.{Term-F}
-use Rattle.pf_terms.specs.declared.term.Term.TheOpen.Term-F.{Leaf as LeafLayer, Node as NodeLayer}
-use Rattle.pf_terms.specs.declared.term.Term.TheViews.{roll-Term}
-use Rattle.pf_terms.specs.declared.term.Term.TheFolds.{ind-Term, map-Term}
-use Rattle.pf_terms.specs.KernelNames.{IsNames, IsNear}
-use Rattle.pf_terms.specs.Meanings.{first_some, unknown_step, first_unknown, is_near, far_step, first_far, tap_at, uses_step, tap_uses, same_tap, with_tap, with_taps, names_after, image_number, def_number, is_image, is_def, tap_number, written_type, node_over, term_step, term_of, Means, IsTermText, IsTermOr}
-use Rattle.pf_terms.specs.Operators.{row_of, int_same}
-use Rattle.pf_terms.specs.ReadBack.{draft_of, leaf_draft, type_beside}
-use Rattle.pf_terms.specs.Terms.{all_true, result_type, stated_type, typing, operand_count, depth_of, IsWellTyped}
-use Rattle.pf_terms.specs.TermTexts.{term_text, spelling_of, is_named, is_named_leaf, is_named_tap, no_image, no_tap, no_def}
-use Rattle.pf_terms.proofs.NodeRanges.{judged, same_type_is}
-use Rattle.pf_terms.proofs.Printing.{by_one, by_two, by_four}
+use Rattle.pf_values.specs.declared.names.DefName.{DefName}
+use Rattle.pf_values.specs.declared.names.ImageName.{ImageName}
+use Rattle.pf_values.specs.declared.names.Names.{Names}
+use Rattle.pf_values.specs.declared.names.Tap.{Tap as TapOf}
+use Rattle.pf_values.specs.declared.op.Op.{Op}
+use Rattle.pf_values.specs.declared.op.Op.TheVariants.{Cast, Add, Sub, Mul, ShiftLeft, ShiftRight, Min, Max, SelectGreater, SelectEqual, Abs, WideningAdd, WideningSub, WideningMul, ExtendingAdd, HalvingAdd, RoundingHalvingAdd, HalvingSub, SaturatingAdd, SaturatingSub, SaturatingCast, Absd, RoundingShr, MulShr, RoundingMulShr}
+use Rattle.pf_values.specs.declared.term.Leaf.{Leaf as LeafOf}
+use Rattle.pf_values.specs.declared.term.Leaf.TheVariants.{Tap, Const, Def}
+use Rattle.pf_values.specs.declared.term.Term.{Term}
+use Rattle.pf_values.specs.declared.term.Term.TheVariants.{Leaf, Node, rolls-Leaf, rolls-Node}
+use Rattle.pf_values.specs.declared.term.Term.TheOpen.{Term-F}
+use Rattle.pf_values.specs.declared.term.Term.TheOpen.Term-F.{Leaf as LeafLayer, Node as NodeLayer}
+use Rattle.pf_values.specs.declared.term.Term.TheViews.{roll-Term}
+use Rattle.pf_values.specs.declared.term.Term.TheFolds.{ind-Term, map-Term}
+use Rattle.pf_terms.specs.Meaning.KernelNames.{IsNames, IsTapOffset}
+use Rattle.pf_terms.specs.Meaning.Meanings.{first_some, unknown_step, first_unknown, is_tap_offset, far_step, first_far, tap_at, uses_step, tap_uses, same_tap, with_tap, with_taps, names_after, image_number, def_number, is_image, is_def, tap_number, written_type, node_over, term_step, term_of, Means, IsTermText, IsTermOr}
+use Rattle.pf_values.specs.Meaning.Operators.{row_of, int_same}
+use Rattle.pf_terms.proofs.ReadBack.{tree_of_term, leaf_tree, type_beside}
+use Rattle.pf_values.specs.Meaning.Terms.{all_true, result_type, stated_type, typing, operand_count, depth_of, IsWellTyped}
+use Rattle.pf_terms.specs.Meaning.TermTexts.{term_text}
+use Rattle.pf_values.specs.Meaning.Spellings.{spelling_of}
+use Rattle.pf_values.specs.Meaning.NamedTerms.{is_named, is_named_leaf, is_named_tap, no_image, no_tap, no_def}
+use Rattle.pf_values.proofs.NodeRanges.{judged, same_type_is}
+use Rattle.pf_values.proofs.OperandLists.{by_one, by_two, by_four}
 use Rattle.pf_terms.proofs.ReadBackLeaves.{names_long, image_at, def_at}
-use Rattle.pf_terms.proofs.ReadBackTerms.{draft_node, draft_leaf, named_node, named_leaf, printed_is_draft}
-use Rattle.pf_terms.proofs.TermRanges.{AreTyped, typed_node}
-use Rattle.pf_terms.proofs.Typing.{and_left, and_right}
+use Rattle.pf_terms.proofs.ReadBackTerms.{tree_node, tree_leaf, named_node, named_leaf, printed_is_tree}
+use Rattle.pf_values.proofs.TermRanges.{AreTyped, typed_node}
+use Rattle.pf_values.proofs.Typing.{and_left, and_right}
 
--- the draft means the term, and asks for nothing new
-record IsMeant (names : Names) (d : Draft) (t : Term) : Type 0 where
+-- the syntax tree means the term, and asks for nothing new
+record IsMeant (names : Names) (d : SyntaxTree) (t : Term) : Type 0 where
   known : first_unknown names d ≡ None
   near : first_far d ≡ None
   used : with_taps names.taps (tap_uses names.images d) ≡ names.taps
@@ -117,48 +119,48 @@ tap_place names all n below =
 tap_known : (names : Names) (n : ℕ) → n < length names.taps → with_tap names.taps (get_or names.taps n no_tap) ≡ names.taps
 tap_known names n below = let t = get_or names.taps n no_tap in rw (list_any_at (same_tap t) names.taps n no_tap below (same_tap_self t))
 
-near_test : (n : ℤ) → IsNear n → is_near n ≡ true
+near_test : (n : ℤ) → IsTapOffset n → is_tap_offset n ≡ true
 near_test n h = rw (int_le_holds _ n h.low) (int_le_holds n _ h.high)
 
 -- ---- leaves
 meant_number : (names : Names) (n : ℤ) (ty : LaneType) → IsMeant names (Number n ty) (Leaf (Const n) ty)
 meant_number names n ty =
     record {
-      known = ap (first_unknown names) (sym (rolls-Number n ty)) ∙ fold-roll-Draft (Option (List ℕ)) (unknown_step names) (NumberLayer n ty);
-      near = ap first_far (sym (rolls-Number n ty)) ∙ fold-roll-Draft (Option ℤ) far_step (NumberLayer n ty);
-      used = ap (with_taps names.taps) (ap (tap_uses names.images) (sym (rolls-Number n ty)) ∙ fold-roll-Draft (List TapOf) (uses_step names.images) (NumberLayer n ty));
-      term = ap (term_of names) (sym (rolls-Number n ty)) ∙ fold-roll-Draft Term (term_step names) (NumberLayer n ty);
+      known = ap (first_unknown names) (sym (rolls-Number n ty)) ∙ fold-roll-SyntaxTree (Option (List ℕ)) (unknown_step names) (NumberLayer n ty);
+      near = ap first_far (sym (rolls-Number n ty)) ∙ fold-roll-SyntaxTree (Option ℤ) far_step (NumberLayer n ty);
+      used = ap (with_taps names.taps) (ap (tap_uses names.images) (sym (rolls-Number n ty)) ∙ fold-roll-SyntaxTree (List TapOf) (uses_step names.images) (NumberLayer n ty));
+      term = ap (term_of names) (sym (rolls-Number n ty)) ∙ fold-roll-SyntaxTree Term (term_step names) (NumberLayer n ty);
     }
 
-meant_named : (names : Names) (s : List ℕ) (n : ℕ) (ty : LaneType) → is_def names.defs s ≡ true → def_number names.defs s ≡ n → (get_or names.defs n no_def).ty ≡ ty → IsMeant names (Named s) (Leaf (Def n) ty)
+meant_named : (names : Names) (s : List ℕ) (n : ℕ) (ty : LaneType) → is_def names.defs s ≡ true → def_number names.defs s ≡ n → (get_or names.defs n no_def).ty ≡ ty → IsMeant names (Name s) (Leaf (Def n) ty)
 meant_named names s n ty is number type =
     record {
-      known = ap (first_unknown names) (sym (rolls-Named s)) ∙ fold-roll-Draft (Option (List ℕ)) (unknown_step names) (NamedLayer s) ∙ rw is;
-      near = ap first_far (sym (rolls-Named s)) ∙ fold-roll-Draft (Option ℤ) far_step (NamedLayer s);
-      used = ap (with_taps names.taps) (ap (tap_uses names.images) (sym (rolls-Named s)) ∙ fold-roll-Draft (List TapOf) (uses_step names.images) (NamedLayer s));
+      known = ap (first_unknown names) (sym (rolls-Name s)) ∙ fold-roll-SyntaxTree (Option (List ℕ)) (unknown_step names) (NamedLayer s) ∙ rw is;
+      near = ap first_far (sym (rolls-Name s)) ∙ fold-roll-SyntaxTree (Option ℤ) far_step (NamedLayer s);
+      used = ap (with_taps names.taps) (ap (tap_uses names.images) (sym (rolls-Name s)) ∙ fold-roll-SyntaxTree (List TapOf) (uses_step names.images) (NamedLayer s));
       term =
-          ap (term_of names) (sym (rolls-Named s)) ∙ fold-roll-Draft Term (term_step names) (NamedLayer s)
+          ap (term_of names) (sym (rolls-Name s)) ∙ fold-roll-SyntaxTree Term (term_step names) (NamedLayer s)
           ∙ ap (λ m. Leaf (Def m) (get_or names.defs m no_def).ty) number ∙ ap (λ t. Leaf (Def n) t) type;
     }
 
-meant_placed : (names : Names) (s : List ℕ) (t : TapOf) (n : ℕ) (ty : LaneType) → is_image names.images s ≡ true → image_number names.images s ≡ t.image → is_near t.dx ≡ true → is_near t.dy ≡ true →
-    with_tap names.taps t ≡ names.taps → tap_number names.taps t ≡ n → (get_or names.images t.image no_image).ty ≡ ty → IsMeant names (Placed s t.dx t.dy) (Leaf (Tap n) ty)
+meant_placed : (names : Names) (s : List ℕ) (t : TapOf) (n : ℕ) (ty : LaneType) → is_image names.images s ≡ true → image_number names.images s ≡ t.image → is_tap_offset t.dx ≡ true → is_tap_offset t.dy ≡ true →
+    with_tap names.taps t ≡ names.taps → tap_number names.taps t ≡ n → (get_or names.images t.image no_image).ty ≡ ty → IsMeant names (TapTree s t.dx t.dy) (Leaf (Tap n) ty)
 meant_placed names s t n ty is image across down taps number type =
     let tap : tap_at names.images s t.dx t.dy ≡ t = ap (λ i. record { image = i; dx = t.dx; dy = t.dy }) image in
     record {
-      known = ap (first_unknown names) (sym (rolls-Placed s t.dx t.dy)) ∙ fold-roll-Draft (Option (List ℕ)) (unknown_step names) (PlacedLayer s t.dx t.dy) ∙ rw is;
-      near = ap first_far (sym (rolls-Placed s t.dx t.dy)) ∙ fold-roll-Draft (Option ℤ) far_step (PlacedLayer s t.dx t.dy) ∙ rw (across, down);
+      known = ap (first_unknown names) (sym (rolls-Tap s t.dx t.dy)) ∙ fold-roll-SyntaxTree (Option (List ℕ)) (unknown_step names) (PlacedLayer s t.dx t.dy) ∙ rw is;
+      near = ap first_far (sym (rolls-Tap s t.dx t.dy)) ∙ fold-roll-SyntaxTree (Option ℤ) far_step (PlacedLayer s t.dx t.dy) ∙ rw (across, down);
       used =
-          ap (with_taps names.taps) (ap (tap_uses names.images) (sym (rolls-Placed s t.dx t.dy)) ∙ fold-roll-Draft (List TapOf) (uses_step names.images) (PlacedLayer s t.dx t.dy) ∙ ap (λ x. x ∷ []) tap)
+          ap (with_taps names.taps) (ap (tap_uses names.images) (sym (rolls-Tap s t.dx t.dy)) ∙ fold-roll-SyntaxTree (List TapOf) (uses_step names.images) (PlacedLayer s t.dx t.dy) ∙ ap (λ x. x ∷ []) tap)
           ∙ taps;
       term =
-          ap (term_of names) (sym (rolls-Placed s t.dx t.dy)) ∙ fold-roll-Draft Term (term_step names) (PlacedLayer s t.dx t.dy)
+          ap (term_of names) (sym (rolls-Tap s t.dx t.dy)) ∙ fold-roll-SyntaxTree Term (term_step names) (PlacedLayer s t.dx t.dy)
           ∙ ap (λ x. Leaf (Tap (tap_number names.taps x)) (get_or names.images (image_number names.images s) no_image).ty) tap
           ∙ ap (λ m. Leaf (Tap m) (get_or names.images (image_number names.images s) no_image).ty) number
           ∙ ap (λ i. Leaf (Tap n) (get_or names.images i no_image).ty) image ∙ ap (λ u. Leaf (Tap n) u) type;
     }
 
-meant_leaf : (names : Names) (leaf : LeafOf) (ty : LaneType) → IsNames names → is_named_leaf names leaf ty ≡ true → IsMeant names (leaf_draft names leaf ty) (Leaf leaf ty)
+meant_leaf : (names : Names) (leaf : LeafOf) (ty : LaneType) → IsNames names → is_named_leaf names leaf ty ≡ true → IsMeant names (leaf_tree names leaf ty) (Leaf leaf ty)
 meant_leaf names (Tap n) ty all has =
     let t = get_or names.taps n no_tap in
     let below : n < length names.taps = ltb-true n (length names.taps) (and_left _ (is_named_tap names.images t ty) has) in
@@ -174,13 +176,13 @@ meant_leaf names (Def n) ty all has =
 -- ---- nodes
 abbrev AllMeant : Names → List Term → Type 0
 AllMeant names [] = Unit {0}
-AllMeant names (t ∷ ts) = IsMeant names (draft_of names t) t × AllMeant names ts
+AllMeant names (t ∷ ts) = IsMeant names (tree_of_term names t) t × AllMeant names ts
 
-all_known : (names : Names) (ts : List Term) → AllMeant names ts → first_some (map (first_unknown names) (map (draft_of names) ts)) ≡ None
+all_known : (names : Names) (ts : List Term) → AllMeant names ts → first_some (map (first_unknown names) (map (tree_of_term names) ts)) ≡ None
 all_known names [] h = refl
 all_known names (t ∷ ts) h = rw h.0.known (all_known names ts h.1)
 
-all_near : (names : Names) (ts : List Term) → AllMeant names ts → first_some (map first_far (map (draft_of names) ts)) ≡ None
+all_near : (names : Names) (ts : List Term) → AllMeant names ts → first_some (map first_far (map (tree_of_term names) ts)) ≡ None
 all_near names [] h = refl
 all_near names (t ∷ ts) h = rw h.0.near (all_near names ts h.1)
 
@@ -188,15 +190,15 @@ taps_append : (taps xs ys : List TapOf) → with_taps taps (xs ++ ys) ≡ with_t
 taps_append taps [] ys = refl
 taps_append taps (x ∷ xs) ys = taps_append (with_tap taps x) xs ys
 
-all_used : (names : Names) (ts : List Term) → AllMeant names ts → with_taps names.taps (flat_map (λ us. us) (map (tap_uses names.images) (map (draft_of names) ts))) ≡ names.taps
+all_used : (names : Names) (ts : List Term) → AllMeant names ts → with_taps names.taps (flat_map (λ us. us) (map (tap_uses names.images) (map (tree_of_term names) ts))) ≡ names.taps
 all_used names [] h = refl
 all_used names (t ∷ ts) h =
-    let first = tap_uses names.images (draft_of names t) in
-    let others = map (tap_uses names.images) (map (draft_of names) ts) in
+    let first = tap_uses names.images (tree_of_term names t) in
+    let others = map (tap_uses names.images) (map (tree_of_term names) ts) in
     ap (with_taps names.taps) (flat_map-cons (λ us. us) first others) ∙ taps_append names.taps first (flat_map (λ us. us) others)
     ∙ ap (λ taps. with_taps taps (flat_map (λ us. us) others)) h.0.used ∙ all_used names ts h.1
 
-all_terms : (names : Names) (ts : List Term) → AllMeant names ts → map (term_of names) (map (draft_of names) ts) ≡ ts
+all_terms : (names : Names) (ts : List Term) → AllMeant names ts → map (term_of names) (map (tree_of_term names) ts) ≡ ts
 all_terms names [] h = refl
 all_terms names (t ∷ ts) h = rw h.0.term (ap (λ us. t ∷ us) (all_terms names ts h.1))
 
@@ -232,26 +234,26 @@ result_is MulShr ty ts n = by_two (IsResult MulShr ty) (λ t u. refl) ts n
 result_is RoundingMulShr ty ts n = by_two (IsResult RoundingMulShr ty) (λ t u. refl) ts n
 
 meant_node : (names : Names) (op : Op) (ty : LaneType) (k : ℕ) (args : List Term) → length args ≡ operand_count (row_of op).operands → result_type (row_of op).gives ty (map stated_type args) ≡ ty → AllMeant names args →
-    IsMeant names (DraftNode op false (type_beside (spelling_of op) ty) (pos k) (map (draft_of names) args)) (Node op ty k args)
+    IsMeant names (TreeNode op false (type_beside (spelling_of op) ty) (pos k) (map (tree_of_term names) args)) (Node op ty k args)
 meant_node names op ty k args count type h =
     let beside = type_beside (spelling_of op) ty in
-    let ds = map (draft_of names) args in
-    let rolled = sym (rolls-DraftNode op false beside (pos k) ds) in
-    let layer = DraftNodeLayer op false beside (pos k) ds in
+    let ds = map (tree_of_term names) args in
+    let rolled = sym (rolls-TreeNode op false beside (pos k) ds) in
+    let layer = TreeNodeLayer op false beside (pos k) ds in
     let types : length (map stated_type args) ≡ operand_count (row_of op).operands = length-map args stated_type ∙ count in
     record {
-      known = ap (first_unknown names) rolled ∙ fold-roll-Draft (Option (List ℕ)) (unknown_step names) layer ∙ all_known names args h;
-      near = ap first_far rolled ∙ fold-roll-Draft (Option ℤ) far_step layer ∙ all_near names args h;
-      used = ap (with_taps names.taps) (ap (tap_uses names.images) rolled ∙ fold-roll-Draft (List TapOf) (uses_step names.images) layer) ∙ all_used names args h;
+      known = ap (first_unknown names) rolled ∙ fold-roll-SyntaxTree (Option (List ℕ)) (unknown_step names) layer ∙ all_known names args h;
+      near = ap first_far rolled ∙ fold-roll-SyntaxTree (Option ℤ) far_step layer ∙ all_near names args h;
+      used = ap (with_taps names.taps) (ap (tap_uses names.images) rolled ∙ fold-roll-SyntaxTree (List TapOf) (uses_step names.images) layer) ∙ all_used names args h;
       term =
-          ap (term_of names) rolled ∙ fold-roll-Draft Term (term_step names) layer ∙ ap (node_over op beside (pos k)) (all_terms names args h)
+          ap (term_of names) rolled ∙ fold-roll-SyntaxTree Term (term_step names) layer ∙ ap (node_over op beside (pos k)) (all_terms names args h)
           ∙ ap (λ u. Node op u k args) (result_is op ty (map stated_type args) types ∙ type);
     }
 
 -- ---- terms
 -- said of each term
 abbrev MeansTerm : Names → Term → Type 0
-MeansTerm names t = IsWellTyped t → is_named names t ≡ true → IsMeant names (draft_of names t) t
+MeansTerm names t = IsWellTyped t → is_named names t ≡ true → IsMeant names (tree_of_term names t) t
 
 operands_mean : (names : Names) (ps : List ((t : Term) × MeansTerm names t)) → AreTyped (map (λ p. p.0) ps) → all_true (map (is_named names) (map (λ p. p.0) ps)) ≡ true → AllMeant names (map (λ p. p.0) ps)
 operands_mean names [] typed h = tt
@@ -259,13 +261,13 @@ operands_mean names (p ∷ ps) typed h =
     (p.1 typed.0 (and_left _ (all_true (map (is_named names) (map (λ q. q.0) ps))) h), operands_mean names ps typed.1 (and_right (is_named names p.0) _ h))
 
 leaf_means : (names : Names) (leaf : LeafOf) (ty : LaneType) → IsNames names → MeansTerm names (Leaf leaf ty)
-leaf_means names leaf ty all typed h = subst (λ d. IsMeant names d (Leaf leaf ty)) (sym (draft_leaf names leaf ty)) (meant_leaf names leaf ty all (sym (named_leaf names leaf ty) ∙ h))
+leaf_means names leaf ty all typed h = subst (λ d. IsMeant names d (Leaf leaf ty)) (sym (tree_leaf names leaf ty)) (meant_leaf names leaf ty all (sym (named_leaf names leaf ty) ∙ h))
 
-node_means : (names : Names) (op : Op) (ty : LaneType) (k : ℕ) (args : List Term) → IsWellTyped (Node op ty k args) → (AreTyped args → AllMeant names args) → IsMeant names (draft_of names (Node op ty k args)) (Node op ty k args)
+node_means : (names : Names) (op : Op) (ty : LaneType) (k : ℕ) (args : List Term) → IsWellTyped (Node op ty k args) → (AreTyped args → AllMeant names args) → IsMeant names (tree_of_term names (Node op ty k args)) (Node op ty k args)
 node_means names op ty k args typed each =
     let parts = typed_node op ty k args typed in
     let found = (judged (row_of op) ty ty k (map stated_type args) parts.node).0 in
-    subst (λ d. IsMeant names d (Node op ty k args)) (sym (draft_node names op ty k args)) (meant_node names op ty k args parts.count found.result (each parts.operands))
+    subst (λ d. IsMeant names d (Node op ty k args)) (sym (tree_node names op ty k args)) (meant_node names op ty k args parts.count found.result (each parts.operands))
 
 layer_means : (names : Names) → IsNames names → (y : Term-F ((t : Term) × MeansTerm names t)) → MeansTerm names (roll-Term (map-Term ((t : Term) × MeansTerm names t) Term (λ e. e.0) y))
 layer_means names all (LeafLayer leaf ty) = subst (MeansTerm names) (sym (rolls-Leaf leaf ty)) (leaf_means names leaf ty all)
@@ -277,8 +279,8 @@ layer_means names all (NodeLayer op ty k ps) =
 term_meant : (names : Names) → IsNames names → (t : Term) → MeansTerm names t
 term_meant names all = ind-Term (MeansTerm names) (λ x y is. subst (λ z. MeansTerm names (roll-Term z)) is (layer_means names all y))
 
-draft_means : (names : Names) (t : Term) (d : Draft) → IsNames names → IsWellTyped t → IsMeant names d t → Means names d t names
-draft_means names t d all typed m =
+tree_means : (names : Names) (t : Term) (d : SyntaxTree) → IsNames names → IsWellTyped t → IsMeant names d t → Means names d t names
+tree_means names t d all typed m =
     let same : names_after names d ≡ names = ap (λ taps. record names { taps = taps }) m.used in
     let is : term_of (names_after names d) d ≡ t = ap (λ after. term_of after d) same ∙ m.term in
     record {
@@ -294,9 +296,9 @@ draft_means names t d all typed m =
 pub printed_is_read : (names : Names) (t : Term) → IsNames names → IsWellTyped t → is_named names t ≡ true → depth_of t ≤ 1024 → IsTermText names (term_text names t) t names
 printed_is_read names t all typed has deep =
     record {
-      draft = draft_of names t;
-      spelled = printed_is_draft names t all typed has deep;
-      means = draft_means names t (draft_of names t) all typed (term_meant names all t typed has);
+      tree = tree_of_term names t;
+      spelled = printed_is_tree names t all typed has deep;
+      means = tree_means names t (tree_of_term names t) all typed (term_meant names all t typed has);
     }
 
 -- so a reader that reads what a text means reads a printed term

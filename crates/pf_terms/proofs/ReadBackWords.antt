@@ -11,14 +11,14 @@ use Rattle.std.proofs.lemmas.Str.Parse.{IsNumeralModel, numerals_by_fold}
 use Rattle.pf_ints.specs.declared.lane.LaneType.{LaneType}
 use Rattle.pf_ints.specs.declared.lane.Bits.{Bits}
 use Rattle.pf_ints.specs.declared.lane.Bits.TheVariants.{Eight, Sixteen, ThirtyTwo}
-use Rattle.pf_ints.specs.Words.{is_digit, is_letter, is_name_byte, is_name, is_spelled, is_reserved}
-use Rattle.pf_terms.specs.declared.token.Kind.{Kind}
-use Rattle.pf_terms.specs.declared.token.Kind.TheVariants.{Name, TypeWord, Number, Typed}
-use Rattle.pf_terms.specs.Terms.{typed_as}
-use Rattle.pf_terms.specs.TermTexts.{type_word}
-use Rattle.pf_terms.specs.Tokens.{digits_behind, IsNumber, IsNoRun}
+use Rattle.pf_text.specs.Meaning.Words.{is_digit, is_letter, is_name_byte, is_name, is_spelled, is_reserved}
+use Rattle.pf_terms.specs.declared.token.TokenKind.{TokenKind}
+use Rattle.pf_terms.specs.declared.token.TokenKind.TheVariants.{Name, TypeWord, Number, Typed}
+use Rattle.pf_values.specs.Meaning.Terms.{typed_as}
+use Rattle.pf_terms.specs.Meaning.TermTexts.{type_word}
+use Rattle.pf_terms.specs.Meaning.Tokens.{digits_behind, IsNumber, IsNoRun}
 use Rattle.pf_terms.proofs.ReadBackTexts.{Reads, reads_run}
-use Rattle.pf_terms.proofs.Typing.{and_left, and_right}
+use Rattle.pf_values.proofs.Typing.{and_left, and_right}
 
 -- ---- decimal numbers
 abbrev AreDigits : List ℕ → Type 0
@@ -55,7 +55,7 @@ decimal_number n small =
 decimal_bytes : (n : ℕ) → n < 10 ^ 10 → list_all is_name_byte (decimal n) ≡ true
 decimal_bytes n small = digit_bytes (decimal n) (digits_decimal own n (omega arith))
 
-pub reads_number : (n : ℕ) (r : List ℕ) (ls : List Kind) → n < 10 ^ 10 → IsNoRun r → Reads r ls → Reads (decimal n ++ r) (Number (pos n) ∷ ls)
+pub reads_number : (n : ℕ) (r : List ℕ) (ls : List TokenKind) → n < 10 ^ 10 → IsNoRun r → Reads r ls → Reads (decimal n ++ r) (Number (pos n) ∷ ls)
 reads_number n r ls small none h = let is = decimal_number n small in reads_run (decimal n) (Number (pos n)) r ls is.some (decimal_bytes n small) is none h
 
 -- ---- types
@@ -68,11 +68,11 @@ type_bytes false Eight = (omega arith, refl)
 type_bytes false Sixteen = (omega arith, refl)
 type_bytes false ThirtyTwo = (omega arith, refl)
 
-pub reads_type : (t : LaneType) (r : List ℕ) (ls : List Kind) → IsNoRun r → Reads r ls → Reads (type_word t ++ r) (TypeWord t ∷ ls)
+pub reads_type : (t : LaneType) (r : List ℕ) (ls : List TokenKind) → IsNoRun r → Reads r ls → Reads (type_word t ++ r) (TypeWord t ∷ ls)
 reads_type t r ls none h = let bytes = type_bytes t.signed t.bits in reads_run (type_word t) (TypeWord t) r ls bytes.0 bytes.1 refl none h
 
 -- a number and its type
-pub reads_typed : (n : ℕ) (t : LaneType) (r : List ℕ) (ls : List Kind) → n < 10 ^ 10 → IsNoRun r → Reads r ls → Reads ((decimal n ++ type_word t) ++ r) (Typed (pos n) t ∷ ls)
+pub reads_typed : (n : ℕ) (t : LaneType) (r : List ℕ) (ls : List TokenKind) → n < 10 ^ 10 → IsNoRun r → Reads r ls → Reads ((decimal n ++ type_word t) ++ r) (Typed (pos n) t ∷ ls)
 reads_typed n t r ls small none h =
     let is = decimal_number n small in
     let bytes = type_bytes t.signed t.bits in
@@ -94,5 +94,5 @@ name_spelled : (w : List ℕ) → is_name w ≡ true → is_spelled w ≡ true
 unfolding is_name
 name_spelled w h = and_left (is_spelled w) (nat_le (length w) 32) (and_left (is_spelled w && nat_le (length w) 32) (not (is_reserved w)) h)
 
-pub reads_name : (w r : List ℕ) (ls : List Kind) → is_name w ≡ true → IsNoRun r → Reads r ls → Reads (w ++ r) (Name w ∷ ls)
+pub reads_name : (w r : List ℕ) (ls : List TokenKind) → is_name w ≡ true → IsNoRun r → Reads r ls → Reads (w ++ r) (Name w ∷ ls)
 reads_name w r ls is none h = let bytes = spelled_bytes w (name_spelled w is) in reads_run w (Name w) r ls bytes.0 bytes.1 (is, refl) none h

@@ -6,10 +6,10 @@ use Rattle.std.proofs.lemmas.Bool.{eq-eqb}
 use Rattle.std.proofs.lemmas.Int.{ints}
 use Rattle.std.proofs.lemmas.List.Folds.{list_any-append, list_any_at}
 use Rattle.std.proofs.lemmas.List.Quantifiers.{all_pairs_push}
-use Rattle.pf_terms.specs.declared.names.Tap.{Tap}
-use Rattle.pf_terms.specs.Operators.{int_same}
-use Rattle.pf_terms.specs.Meanings.{same_tap, with_tap, with_taps}
-use Rattle.pf_terms.proofs.Typing.{and_left, and_right}
+use Rattle.pf_values.specs.declared.names.Tap.{Tap}
+use Rattle.pf_values.specs.Meaning.Operators.{int_same}
+use Rattle.pf_terms.specs.Meaning.Meanings.{same_tap, with_tap, with_taps}
+use Rattle.pf_values.proofs.Typing.{and_left, and_right}
 
 -- something is said of each
 abbrev pub Each : {A : Type 0} → (A → Type 0) → List A → Type 0

@@ -1,4 +1,4 @@
--- The term of a draft is named, where its names are known and its taps are among the taps.
+-- The term of a syntax tree is named, where its names are known and its taps are among the taps.
 use Rattle.std.proofs.Common.{◌≡◌, refl, sym, ap, ◌∙◌, subst, ℕ, ◌<◌, Bool, true, false, ◌&&◌, List, [], ◌∷◌, length, map, arith, nat_lt}
 use Rattle.std.specs.Prelude.{None, slice_index_or, unsigned_abs}
 use Rattle.std.specs.List.{flat_map}
@@ -6,31 +6,31 @@ use Rattle.std.specs.Str.{bytes_eq}
 use Rattle.std.proofs.lemmas.Bool.Decides.{nat_tests}
 use Rattle.std.proofs.lemmas.List.Sums.{passes_at_first}
 use Rattle.pf_ints.specs.declared.lane.LaneType.{LaneType}
-use Rattle.pf_terms.specs.declared.draft.Draft.{Draft}
-use Rattle.pf_terms.specs.declared.draft.Draft.TheVariants.{Named, rolls-Node, rolls-Placed, rolls-Named, rolls-Number}
-use Rattle.pf_terms.specs.declared.draft.Draft.TheOpen.{Draft-F}
-use Rattle.pf_terms.specs.declared.draft.Draft.TheOpen.Draft-F.{Node as NodeLayer, Placed as PlacedLayer, Named as NamedLayer, Number as NumberLayer}
-use Rattle.pf_terms.specs.declared.draft.Draft.TheViews.{roll-Draft}
-use Rattle.pf_terms.specs.declared.draft.Draft.TheFolds.{ind-Draft, map-Draft}
-use Rattle.pf_terms.specs.declared.names.ImageName.{ImageName}
-use Rattle.pf_terms.specs.declared.names.Names.{Names}
-use Rattle.pf_terms.specs.declared.names.Tap.{Tap}
-use Rattle.pf_terms.specs.declared.op.Op.{Op}
-use Rattle.pf_terms.specs.declared.term.Leaf.{Leaf as LeafOf}
-use Rattle.pf_terms.specs.declared.term.Leaf.TheVariants.{Tap as TapOf, Const, Def}
-use Rattle.pf_terms.specs.declared.term.Term.{Term}
-use Rattle.pf_terms.specs.declared.term.Term.TheVariants.{Leaf, Node as NodeTerm, rolls-Leaf, rolls-Node as rolls-NodeTerm}
-use Rattle.pf_terms.specs.declared.term.Term.TheOpen.Term-F.{Leaf as LeafLayer, Node as NodeTermLayer}
-use Rattle.pf_terms.specs.declared.term.Term.TheFolds.{fold-roll-Term}
-use Rattle.pf_terms.specs.Operators.{row_of}
-use Rattle.pf_terms.specs.Terms.{all_true, result_type, stated_type}
-use Rattle.pf_terms.specs.TermTexts.{is_named, named_step, is_named_leaf, is_named_tap, no_def, no_image, no_tap}
-use Rattle.pf_terms.specs.Meanings.{in_order, first_unknown, tap_uses, tap_at, term_of, def_number, tap_number, same_tap, written_type}
-use Rattle.pf_terms.proofs.Typing.{same_self}
+use Rattle.pf_terms.specs.declared.parse.syntax_tree.SyntaxTree.{SyntaxTree}
+use Rattle.pf_terms.specs.declared.parse.syntax_tree.SyntaxTree.TheVariants.{Name, rolls-Node, rolls-Tap, rolls-Name, rolls-Number}
+use Rattle.pf_terms.specs.declared.parse.syntax_tree.SyntaxTree.TheOpen.{SyntaxTree-F}
+use Rattle.pf_terms.specs.declared.parse.syntax_tree.SyntaxTree.TheOpen.SyntaxTree-F.{Node as NodeLayer, Tap as PlacedLayer, Name as NamedLayer, Number as NumberLayer}
+use Rattle.pf_terms.specs.declared.parse.syntax_tree.SyntaxTree.TheViews.{roll-SyntaxTree}
+use Rattle.pf_terms.specs.declared.parse.syntax_tree.SyntaxTree.TheFolds.{ind-SyntaxTree, map-SyntaxTree}
+use Rattle.pf_values.specs.declared.names.ImageName.{ImageName}
+use Rattle.pf_values.specs.declared.names.Names.{Names}
+use Rattle.pf_values.specs.declared.names.Tap.{Tap}
+use Rattle.pf_values.specs.declared.op.Op.{Op}
+use Rattle.pf_values.specs.declared.term.Leaf.{Leaf as LeafOf}
+use Rattle.pf_values.specs.declared.term.Leaf.TheVariants.{Tap as TapOf, Const, Def}
+use Rattle.pf_values.specs.declared.term.Term.{Term}
+use Rattle.pf_values.specs.declared.term.Term.TheVariants.{Leaf, Node as NodeTerm, rolls-Leaf, rolls-Node as rolls-NodeTerm}
+use Rattle.pf_values.specs.declared.term.Term.TheOpen.Term-F.{Leaf as LeafLayer, Node as NodeTermLayer}
+use Rattle.pf_values.specs.declared.term.Term.TheFolds.{fold-roll-Term}
+use Rattle.pf_values.specs.Meaning.Operators.{row_of}
+use Rattle.pf_values.specs.Meaning.Terms.{all_true, result_type, stated_type}
+use Rattle.pf_values.specs.Meaning.NamedTerms.{is_named, named_step, is_named_leaf, is_named_tap, no_def, no_image, no_tap}
+use Rattle.pf_terms.specs.Meaning.Meanings.{in_order, first_unknown, tap_uses, tap_at, term_of, def_number, tap_number, same_tap, written_type}
+use Rattle.pf_values.proofs.Typing.{same_self}
 use Rattle.pf_terms.proofs.Lookups.{map_in_order}
 use Rattle.pf_terms.proofs.TapLists.{Each, each_front, each_behind, IsAmong, place_of_any, same_tap_is}
-use Rattle.pf_terms.proofs.DraftParts.{term_is, uses_is}
-use Rattle.pf_terms.proofs.DraftForms.{term_number, term_named, term_placed, in_order_true}
+use Rattle.pf_terms.proofs.TreeParts.{term_is, uses_is}
+use Rattle.pf_terms.proofs.TreeForms.{term_number, term_named, term_placed, in_order_true}
 use Rattle.pf_terms.proofs.TermUses.{uses_placed, each_out_of_order, unknown_node, known_image, known_def}
 
 named_node : (names : Names) (op : Op) (ty : LaneType) (k : ℕ) (args : List Term) → is_named names (NodeTerm op ty k args) ≡ all_true (map (is_named names) args)
@@ -56,31 +56,31 @@ placed_named names t h among =
     both_true _ _ (below_true (tap_number names.taps t) (length names.taps) below)
     (ap (λ u. is_named_tap names.images u (slice_index_or names.images t.image no_image).ty) (sym same) ∙ tap_named names.images t h)
 
-def_named : (names : Names) (s : List ℕ) → first_unknown names (Named s) ≡ None → is_named_leaf names (Def (def_number names.defs s)) (slice_index_or names.defs (def_number names.defs s) no_def).ty ≡ true
+def_named : (names : Names) (s : List ℕ) → first_unknown names (Name s) ≡ None → is_named_leaf names (Def (def_number names.defs s)) (slice_index_or names.defs (def_number names.defs s) no_def).ty ≡ true
 def_named names s h =
     both_true _ _ (below_true (def_number names.defs s) (length names.defs) (place_of_any (λ d. bytes_eq d.name s) names.defs (known_def names s h))) (same_self _)
 
--- what is asked of a draft, and what is said of it
-abbrev pub IsGiven : Names → Draft → Type 0
+-- what is asked of a syntax tree, and what is said of it
+abbrev pub IsGiven : Names → SyntaxTree → Type 0
 IsGiven names d = (first_unknown names d ≡ None) × Each (IsAmong names.taps) (tap_uses names.images d)
 
-abbrev pub IsNamedTerm : Names → Draft → Type 0
+abbrev pub IsNamedTerm : Names → SyntaxTree → Type 0
 IsNamedTerm names d = IsGiven names d → is_named names (term_of names d) ≡ true
 
 each_split : {A : Type 0} (P : A → Type 0) (xss : List (List A)) → Each P (flat_map (λ x. x) xss) → Each (Each P) xss
 each_split P [] h = tt
 each_split P (xs ∷ xss) h = (each_front P xs (flat_map (λ x. x) xss) h, each_split P xss (each_behind P xs (flat_map (λ x. x) xss) h))
 
-operands_named : (names : Names) (ps : List ((d : Draft) × IsNamedTerm names d)) → Each (λ d. first_unknown names d ≡ None) (map (λ p. p.0) ps) → Each (Each (IsAmong names.taps)) (map (tap_uses names.images) (map (λ p. p.0) ps)) →
+operands_named : (names : Names) (ps : List ((d : SyntaxTree) × IsNamedTerm names d)) → Each (λ d. first_unknown names d ≡ None) (map (λ p. p.0) ps) → Each (Each (IsAmong names.taps)) (map (tap_uses names.images) (map (λ p. p.0) ps)) →
     all_true (map (is_named names) (map (term_of names) (map (λ p. p.0) ps))) ≡ true
 operands_named names [] known among = refl
 operands_named names (p ∷ ps) known among = both_true _ _ (p.1 (known.0, among.0)) (operands_named names ps known.1 among.1)
 
-layer_named : (names : Names) (y : Draft-F ((d : Draft) × IsNamedTerm names d)) → IsNamedTerm names (roll-Draft (map-Draft ((d : Draft) × IsNamedTerm names d) Draft (λ e. e.0) y))
+layer_named : (names : Names) (y : SyntaxTree-F ((d : SyntaxTree) × IsNamedTerm names d)) → IsNamedTerm names (roll-SyntaxTree (map-SyntaxTree ((d : SyntaxTree) × IsNamedTerm names d) SyntaxTree (λ e. e.0) y))
 layer_named names (NumberLayer n t) = subst (IsNamedTerm names) (sym (rolls-Number n t)) (λ h. ap (is_named names) (term_number names n t) ∙ named_leaf names (Const n) t)
-layer_named names (NamedLayer s) = subst (IsNamedTerm names) (sym (rolls-Named s)) (λ h. ap (is_named names) (term_named names s) ∙ named_leaf names (Def (def_number names.defs s)) _ ∙ def_named names s h.0)
+layer_named names (NamedLayer s) = subst (IsNamedTerm names) (sym (rolls-Name s)) (λ h. ap (is_named names) (term_named names s) ∙ named_leaf names (Def (def_number names.defs s)) _ ∙ def_named names s h.0)
 layer_named names (PlacedLayer s dx dy) =
-    subst (IsNamedTerm names) (sym (rolls-Placed s dx dy)) (λ h.
+    subst (IsNamedTerm names) (sym (rolls-Tap s dx dy)) (λ h.
     let t = tap_at names.images s dx dy in
     let among = subst (Each (IsAmong names.taps)) (uses_placed names.images s dx dy) h.1 in
     ap (is_named names) (term_placed names s dx dy) ∙ named_leaf names (TapOf (tap_number names.taps t)) _ ∙ placed_named names t (known_image names s dx dy h.0) among.0)
@@ -95,5 +95,5 @@ layer_named names (NodeLayer op less ty k ps) =
     ∙ ap all_true (map_in_order (is_named names) less terms)
     ∙ in_order_true less (map (is_named names) terms) (operands_named names ps (unknown_node names op less ty k args h.0) each))
 
-pub named_term : (names : Names) (d : Draft) → IsNamedTerm names d
-named_term names = ind-Draft (IsNamedTerm names) (λ x y is. subst (λ z. IsNamedTerm names (roll-Draft z)) is (layer_named names y))
+pub named_term : (names : Names) (d : SyntaxTree) → IsNamedTerm names d
+named_term names = ind-SyntaxTree (IsNamedTerm names) (λ x y is. subst (λ z. IsNamedTerm names (roll-SyntaxTree z)) is (layer_named names y))

@@ -1,14 +1,16 @@
 ghost use Rattle.std.specs.Prelude.{◌≡◌, ◌≢◌, ◌<◌, ◌≤◌, ◌∷◌, [], length, take, drop, ◌++◌, List, pos, ℕ, ℤ, false, true, IfOk, MatchOption, All, Option};
-ghost use Rattle.pf_ints.specs.Words.{is_digit, is_name, is_name_byte};
-ghost use Rattle.pf_terms.specs.TermTexts.{type_word, op_word, spelling_of};
-ghost use Rattle.pf_terms.specs.declared.token.Kind.{Kind};
-ghost use Rattle.pf_terms.specs.declared.token.Kind.TheVariants.{Typed, Long};
+ghost use Rattle.pf_text.specs.Meaning.Words.{is_digit, is_name, is_name_byte};
+ghost use Rattle.pf_terms.specs.Meaning.TermTexts.{type_word};
+ghost use Rattle.pf_values.specs.Meaning.Spellings.{op_word, spelling_of};
+ghost use Rattle.pf_terms.specs.declared.token.TokenKind.{TokenKind};
+ghost use Rattle.pf_terms.specs.declared.token.TokenKind.TheVariants.{Typed, Long};
 ghost use Rattle.pf_terms.specs.declared.token.LineWord.{LineWord};
-ghost use Rattle.pf_terms.specs.Tokens.{is_blank, digits_behind, sign_text, IsRun, IsFront, IsFrontSign, IsLexed, IsNoRun, IsSolid, IsNumber, line_word, IsNoDigit, IsShort, IsWordOf, IsCalledBy};
+ghost use Rattle.pf_terms.specs.Meaning.Tokens.{is_blank, digits_behind, sign_text, IsRunToken, IsFront, IsFrontSign, IsLexed, IsNoRun, IsSolid, IsNumber, line_word, IsNoDigit, IsShort, IsWordOf, IsCalledBy};
 
-use crate::op::Op;
-use crate::token::{Kind, LineWord, Token};
-use pf_ints::{Bits, LaneType, Name, is_digit, is_name, is_name_byte};
+use crate::token::{LineWord, Token, TokenKind};
+use pf_ints::{Bits, LaneType, Name};
+use pf_text::{is_digit, is_name, is_name_byte};
+use pf_values::Op;
 use std::alloc::{AllocError, Global};
 
 /// The tokens of a line of text, blanks left out.
@@ -41,7 +43,7 @@ fn is_blank(byte: u8) -> bool
 }
 
 // The bytes of the token in front, and what it is.
-fn front(text: &[u8]) -> (usize, Kind)
+fn front(text: &[u8]) -> (usize, TokenKind)
     requires { IsSolid text.now }
     ensures { IsFront text.now result.0 result.1 }
 {
@@ -54,7 +56,7 @@ fn front(text: &[u8]) -> (usize, Kind)
     }
     match short_sign(text[0]) {
         Some(kind) => (1, kind),
-        None => (1, Kind::Other),
+        None => (1, TokenKind::Other),
     }
 }
 
@@ -86,64 +88,64 @@ fn digit_length(text: &[u8]) -> usize
     text.len()
 }
 
-fn long_sign(text: &[u8]) -> Option<Kind>
+fn long_sign(text: &[u8]) -> Option<TokenKind>
     ensures { MatchOption result (IsShort text.now) (λ k. (2 ≤ length text.now) × (sign_text k ≡ take 2 text.now)) }
 {
     match text {
-        [b'<', b'<', ..] => Some(Kind::ShiftLeft),
-        [b'>', b'>', ..] => Some(Kind::ShiftRight),
-        [b'=', b'=', ..] => Some(Kind::Same),
+        [b'<', b'<', ..] => Some(TokenKind::ShiftLeft),
+        [b'>', b'>', ..] => Some(TokenKind::ShiftRight),
+        [b'=', b'=', ..] => Some(TokenKind::Same),
         _ => None,
     }
 }
 
-fn short_sign(byte: u8) -> Option<Kind>
-    ensures { MatchOption result ((k : Kind) → sign_text k ≢ byte ∷ []) (λ k. sign_text k ≡ byte ∷ []) }
+fn short_sign(byte: u8) -> Option<TokenKind>
+    ensures { MatchOption result ((k : TokenKind) → sign_text k ≢ byte ∷ []) (λ k. sign_text k ≡ byte ∷ []) }
 {
     match byte {
-        b'(' => Some(Kind::Open),
-        b')' => Some(Kind::Close),
-        b'[' => Some(Kind::OpenSquare),
-        b']' => Some(Kind::CloseSquare),
-        b',' => Some(Kind::Comma),
-        b'+' => Some(Kind::Plus),
-        b'-' => Some(Kind::Minus),
-        b'*' => Some(Kind::Times),
-        b'<' => Some(Kind::Less),
-        b'>' => Some(Kind::Greater),
-        b'=' => Some(Kind::Equals),
+        b'(' => Some(TokenKind::Open),
+        b')' => Some(TokenKind::Close),
+        b'[' => Some(TokenKind::OpenSquare),
+        b']' => Some(TokenKind::CloseSquare),
+        b',' => Some(TokenKind::Comma),
+        b'+' => Some(TokenKind::Plus),
+        b'-' => Some(TokenKind::Minus),
+        b'*' => Some(TokenKind::Times),
+        b'<' => Some(TokenKind::Less),
+        b'>' => Some(TokenKind::Greater),
+        b'=' => Some(TokenKind::Equals),
         _ => None,
     }
 }
 
 // What a run is.
-fn run_kind(run: &[u8]) -> Kind
-    ensures { IsRun run.now result }
+fn run_kind(run: &[u8]) -> TokenKind
+    ensures { IsRunToken run.now result }
 {
     if let Some(ty) = type_of_word(run) {
-        return Kind::TypeWord(ty);
+        return TokenKind::TypeWord(ty);
     }
     if let Some(op) = op_of_word(run) {
-        return Kind::Word(op);
+        return TokenKind::Word(op);
     }
     if let Some(word) = line_of_word(run) {
-        return Kind::Line(word);
+        return TokenKind::Line(word);
     }
     if run == b"select".as_slice() {
-        return Kind::Choose;
+        return TokenKind::Choose;
     }
     if let Some(name) = name_of(run) {
-        return Kind::Name(name);
+        return TokenKind::Name(name);
     }
     if let Some(n) = number_of(run) {
-        return Kind::Number(n);
+        return TokenKind::Number(n);
     }
     if let Some((n, ty)) = typed_of(run) {
-        return Kind::Typed(n, ty);
+        return TokenKind::Typed(n, ty);
     }
     match long_of(run) {
-        Some(ty) => Kind::Long(ty),
-        None => Kind::Other,
+        Some(ty) => TokenKind::Long(ty),
+        None => TokenKind::Other,
     }
 }
 

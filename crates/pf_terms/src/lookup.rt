@@ -1,11 +1,11 @@
 ghost use Rattle.std.specs.Prelude.{◌≡◌, ◌≤◌, ◌<◌, length, IfSome, option_copied};
 ghost use Rattle.std.specs.List.{position};
 ghost use Rattle.std.specs.Str.{bytes_eq};
-ghost use Rattle.pf_terms.specs.Meanings.{image_number, def_number, is_image, is_def, first_unknown, first_far, is_near};
+ghost use Rattle.pf_terms.specs.Meaning.Meanings.{image_number, def_number, is_image, is_def, first_unknown, first_far, is_tap_offset};
 
-use crate::draft::Draft;
-use crate::names::{DefName, DefNames, ImageName, ImageNames, Names};
+use crate::parse::syntax_tree::SyntaxTree;
 use pf_ints::Name;
+use pf_values::{DefName, DefNames, ImageName, ImageNames, Names};
 
 /// The number of the image of this name, or the count of the images where there is none.
 pub fn image_number(images: &ImageNames, name: &Name) -> usize
@@ -60,33 +60,33 @@ pub fn is_def(defs: &DefNames, name: &Name) -> bool
 }
 
 /// The first name in the order of the text that stands for nothing.
-pub fn first_unknown(draft: &Draft, names: &Names) -> Option<Name>
-    ensures { result ≡ first_unknown names.now draft.now }
+pub fn first_unknown(tree: &SyntaxTree, names: &Names) -> Option<Name>
+    ensures { result ≡ first_unknown names.now tree.now }
 {
-    unknown_name(draft, names).copied()
+    unknown_name(tree, names).copied()
 }
 
 // A name is lent, since each node of a long chain has one on the stack.
-fn unknown_name<'a>(draft: &'a Draft, names: &Names) -> Option<&'a Name>
-    ensures { option_copied result ≡ first_unknown names.now draft.now }
+fn unknown_name<'a>(tree: &'a SyntaxTree, names: &Names) -> Option<&'a Name>
+    ensures { option_copied result ≡ first_unknown names.now tree.now }
 {
-    match draft {
-        Draft::Number(..) => None,
-        Draft::Named(name) => {
+    match tree {
+        SyntaxTree::Number(..) => None,
+        SyntaxTree::Name(name) => {
             if is_def(&names.defs, name) {
                 None
             } else {
                 Some(name)
             }
         }
-        Draft::Placed(name, ..) => {
+        SyntaxTree::Tap(name, ..) => {
             if is_image(&names.images, name) {
                 None
             } else {
                 Some(name)
             }
         }
-        Draft::Node { args, .. } => {
+        SyntaxTree::Node { args, .. } => {
             for arg in args.as_slice() {
                 if let Some(name) = unknown_name(arg, names) {
                     return Some(name);
@@ -98,21 +98,21 @@ fn unknown_name<'a>(draft: &'a Draft, names: &Names) -> Option<&'a Name>
 }
 
 /// The first offset in the order of the text that no tap may have.
-pub fn first_far(draft: &Draft) -> Option<i64>
-    ensures { result ≡ first_far draft.now }
+pub fn first_far(tree: &SyntaxTree) -> Option<i64>
+    ensures { result ≡ first_far tree.now }
 {
-    match draft {
-        Draft::Number(..) | Draft::Named(_) => None,
-        Draft::Placed(_, dx, dy) => {
-            if !is_near(*dx) {
+    match tree {
+        SyntaxTree::Number(..) | SyntaxTree::Name(_) => None,
+        SyntaxTree::Tap(_, dx, dy) => {
+            if !is_tap_offset(*dx) {
                 Some(*dx)
-            } else if !is_near(*dy) {
+            } else if !is_tap_offset(*dy) {
                 Some(*dy)
             } else {
                 None
             }
         }
-        Draft::Node { args, .. } => {
+        SyntaxTree::Node { args, .. } => {
             for arg in args.as_slice() {
                 if let Some(offset) = first_far(arg) {
                     return Some(offset);
@@ -123,8 +123,8 @@ pub fn first_far(draft: &Draft) -> Option<i64>
     }
 }
 
-fn is_near(offset: i64) -> bool
-    ensures { result ≡ is_near offset }
+fn is_tap_offset(offset: i64) -> bool
+    ensures { result ≡ is_tap_offset offset }
 {
     -64 <= offset && offset <= 64
 }

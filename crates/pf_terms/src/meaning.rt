@@ -1,22 +1,21 @@
 ghost use Rattle.std.specs.Prelude.{◌≡◌, ◌≢◌, ◌≤◌, ◌+◌, length, true, IfOk, IfErr, OnOk, OnErr};
 ghost use Rattle.pf_terms.specs.declared.meaning.ReadFault.{ReadFault};
-ghost use Rattle.pf_terms.specs.declared.names.Names.{Names};
-ghost use Rattle.pf_terms.specs.declared.term.Term.{Term};
-ghost use Rattle.pf_terms.specs.Building.{is_formed_draft, IsFaultOrMemory};
-ghost use Rattle.pf_terms.specs.KernelNames.{IsNames};
-ghost use Rattle.pf_terms.specs.Meanings.{IsTermText, IsTermOr, IsReadFault, IsReadFaultOr, Means, names_after};
-ghost use Rattle.pf_terms.specs.Terms.{IsWellTyped, depth_of};
-ghost use Rattle.pf_terms.specs.TermTexts.{is_named, term_text};
+ghost use Rattle.pf_values.specs.declared.names.Names.{Names};
+ghost use Rattle.pf_values.specs.declared.term.Term.{Term};
+ghost use Rattle.pf_terms.specs.Steps.Building.{is_formed_tree, IsFaultOrMemory};
+ghost use Rattle.pf_terms.specs.Meaning.KernelNames.{IsNames};
+ghost use Rattle.pf_terms.specs.Meaning.Meanings.{IsTermText, IsTermOr, IsReadFault, IsReadFaultOr, Means, names_after};
+ghost use Rattle.pf_values.specs.Meaning.Terms.{IsWellTyped, depth_of};
+ghost use Rattle.pf_terms.specs.Meaning.TermTexts.{term_text};
+ghost use Rattle.pf_values.specs.Meaning.NamedTerms.{is_named};
 
-use crate::draft::{Draft, DraftFault};
-use crate::limit::LimitKind;
 use crate::lookup::{first_far, first_unknown};
-use crate::names::Names;
-use crate::read::read_draft;
+use crate::parse::read::read_draft;
+use crate::parse::syntax_tree::{SyntaxTree, TreeFault};
 use crate::resolve::{NodeFault, resolved};
-use crate::spots::{Spots, add_uses, spots_of, taps_of};
-use crate::term::Term;
+use crate::wide_taps::{WideTaps, add_uses, taps_of, wide_taps_of};
 use pf_ints::{LaneType, Name};
+use pf_values::{LimitKind, Names, Term};
 use std::alloc::{AllocError, AllocFailed, Global};
 
 /// The most taps that a kernel has.
@@ -64,7 +63,7 @@ impl<T: Drop> From<AllocFailed<T>> for ReadFault {
 }
 
 impl From<NodeFault> for ReadFault {
-    ghost use Rattle.pf_terms.specs.Building.{told_as};
+    ghost use Rattle.pf_terms.specs.Steps.Building.{told_as};
 
     ghost from_gives = { λ fault e. e ≡ told_as fault };
 
@@ -100,11 +99,11 @@ pub fn read_term(alloc: Global, text: &[u8], names: &mut Names) -> Result<Term, 
     ensures names { OnOk result (IsNames names.new) }
 {
     match read_draft(alloc, text) {
-        Ok(draft) => meaning_of(alloc, &draft, names),
-        Err(DraftFault::Syntax { at }) => Err(ReadFault::Syntax {
+        Ok(tree) => meaning_of(alloc, &tree, names),
+        Err(TreeFault::Syntax { at }) => Err(ReadFault::Syntax {
             column: column_of(text, at),
         }),
-        Err(DraftFault::Memory) => Err(ReadFault::Memory),
+        Err(TreeFault::Memory) => Err(ReadFault::Memory),
     }
 }
 
@@ -117,42 +116,47 @@ fn column_of(text: &[u8], place: usize) -> u64
 }
 
 // The term of an expression, whose new taps are added to the names.
-fn meaning_of(alloc: Global, draft: &Draft, names: &mut Names) -> Result<Term, ReadFault>
+fn meaning_of(alloc: Global, tree: &SyntaxTree, names: &mut Names) -> Result<Term, ReadFault>
     requires names { IsNames names.old }
-    requires formed { is_formed_draft draft.now ≡ true }
-    ensures read { IfOk result (λ t. Means names.old draft.now t names.new) }
-    ensures fault { IfErr result (IsFaultOrMemory names.old draft.now) }
+    requires formed { is_formed_tree tree.now ≡ true }
+    ensures read { IfOk result (λ t. Means names.old tree.now t names.new) }
+    ensures fault { IfErr result (IsFaultOrMemory names.old tree.now) }
     ensures kept { OnErr result (names.new ≡ names.old) }
 {
-    if let Some(name) = first_unknown(draft, names) {
+    if let Some(name) = first_unknown(tree, names) {
         return Err(ReadFault::Name { name });
     }
-    let spots = all_spots(alloc, draft, names)?;
-    let spots = spots.as_slice();
-    let term = resolved(alloc, draft, names, &spots[..spots.len().min(MOST_TAPS)])?;
-    if MOST_TAPS < spots.len() {
+    let wide_taps = all_wide_taps(alloc, tree, names)?;
+    let wide_taps = wide_taps.as_slice();
+    let term = resolved(
+        alloc,
+        tree,
+        names,
+        &wide_taps[..wide_taps.len().min(MOST_TAPS)],
+    )?;
+    if MOST_TAPS < wide_taps.len() {
         return Err(ReadFault::Limit {
             what: LimitKind::Taps,
-            count: spots.len() as i64,
+            count: wide_taps.len() as i64,
         });
     }
-    if let Some(offset) = first_far(draft) {
+    if let Some(offset) = first_far(tree) {
         return Err(ReadFault::Limit {
             what: LimitKind::Offset,
             count: offset,
         });
     }
-    names.taps = taps_of(alloc, spots)?;
+    names.taps = taps_of(alloc, wide_taps)?;
     Ok(term)
 }
 
-// The taps of the names with all new ones of the draft, whatever their number and offsets.
-fn all_spots(alloc: Global, draft: &Draft, names: &Names) -> Result<Spots, AllocError>
+// The taps of the names with all new ones of the syntax tree, whatever their number and offsets.
+fn all_wide_taps(alloc: Global, tree: &SyntaxTree, names: &Names) -> Result<WideTaps, AllocError>
     requires few { length names.now.images ≤ 8 }
-    requires formed { is_formed_draft draft.now ≡ true }
-    ensures { IfOk result (λ spots. spots ≡ (names_after names.now draft.now).taps) }
+    requires formed { is_formed_tree tree.now ≡ true }
+    ensures { IfOk result (λ wide_taps. wide_taps ≡ (names_after names.now tree.now).taps) }
 {
-    let mut spots = spots_of(alloc, names.taps.as_slice())?;
-    add_uses(&mut spots, draft, &names.images)?;
-    Ok(spots)
+    let mut wide_taps = wide_taps_of(alloc, names.taps.as_slice())?;
+    add_uses(&mut wide_taps, tree, &names.images)?;
+    Ok(wide_taps)
 }

@@ -1,14 +1,14 @@
 ghost use Rattle.std.specs.Prelude.{◌≡◌, ◌++◌, ◌<◌, length, true, IfOk, OnOk, decimal, codes};
 ghost use Rattle.std.specs.Fmt.{signed_decimal};
-ghost use Rattle.pf_terms.specs.Terms.{is_well_formed};
-ghost use Rattle.pf_terms.specs.TermTexts.{term_text, leaf_text, tap_text, placed_text, type_word, sign_letter, is_named, is_named_leaf, op_word, spelling_of};
-ghost use Rattle.pf_terms.specs.Pieces.{opening, before, closing, spaced};
+ghost use Rattle.pf_values.specs.Meaning.Terms.{is_well_formed};
+ghost use Rattle.pf_terms.specs.Meaning.TermTexts.{term_text, leaf_text, tap_text, placed_text, type_word, sign_letter};
+ghost use Rattle.pf_values.specs.Meaning.Spellings.{op_word, spelling_of};
+ghost use Rattle.pf_values.specs.Meaning.NamedTerms.{is_named, is_named_leaf};
+ghost use Rattle.pf_terms.specs.Steps.Pieces.{opening, before, closing, spaced};
 
-use crate::names::{Names, Tap};
-use crate::op::Op;
-use crate::row::Spelling;
-use crate::term::{Leaf, Term};
-use pf_ints::{LaneType, Name, push_number, push_whole};
+use pf_ints::{LaneType, Name};
+use pf_text::{push_number, push_whole};
+use pf_values::{Leaf, Names, Op, Spelling, Tap, Term};
 use std::alloc::{AllocError, Global};
 
 /// The printed text of a term.

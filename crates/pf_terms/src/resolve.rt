@@ -1,21 +1,18 @@
 ghost use Rattle.std.specs.Prelude.{◌≡◌, ◌≤◌, ◌+◌, length, true, unsigned_abs, slice_index_or, List, IfOk, Ok, MatchOption, IsTrue, ◌<◌};
-ghost use Rattle.pf_terms.specs.declared.names.Tap.{Tap};
-ghost use Rattle.pf_terms.specs.declared.term.Leaf.TheVariants.{Tap as TapOf, Def};
-ghost use Rattle.pf_terms.specs.declared.term.Term.TheVariants.{Leaf as LeafTerm};
-ghost use Rattle.pf_terms.specs.Building.{is_formed_draft, with_these, IsLeaf, IsFirst, IsResolvedFirst, IsFound, IsBuilt};
-ghost use Rattle.pf_terms.specs.Meanings.{term_of, image_number, def_number, tap_at, tap_number, written_type};
-ghost use Rattle.pf_terms.specs.Operators.{row_of};
-ghost use Rattle.pf_terms.specs.Terms.{operand_count, node_type, result_type, typing, stated_type, is_amount};
-ghost use Rattle.pf_terms.specs.TermTexts.{no_image, no_def};
+ghost use Rattle.pf_values.specs.declared.names.Tap.{Tap};
+ghost use Rattle.pf_values.specs.declared.term.Leaf.TheVariants.{Tap as TapOf, Def};
+ghost use Rattle.pf_values.specs.declared.term.Term.TheVariants.{Leaf as LeafTerm};
+ghost use Rattle.pf_terms.specs.Steps.Building.{is_formed_tree, with_these, IsLeaf, IsFirst, IsResolvedFirst, IsFound, IsBuilt};
+ghost use Rattle.pf_terms.specs.Meaning.Meanings.{term_of, image_number, def_number, tap_at, tap_number, written_type};
+ghost use Rattle.pf_values.specs.Meaning.Operators.{row_of};
+ghost use Rattle.pf_values.specs.Meaning.Terms.{operand_count, node_type, result_type, typing, stated_type, is_amount};
+ghost use Rattle.pf_values.specs.Meaning.NamedTerms.{no_image, no_def};
 
-use crate::draft::Draft;
 use crate::lookup::{def_number, image_number};
-use crate::names::{DefNames, ImageNames, Names};
-use crate::op::Op;
-use crate::spots::{Spot, place_in_order, spot_number};
-use crate::term::{Leaf, Term};
-use crate::types::{is_amount, result_type, type_fault};
+use crate::parse::syntax_tree::SyntaxTree;
+use crate::wide_taps::{WideTap, place_in_order, wide_tap_number};
 use pf_ints::{LaneType, Name};
+use pf_values::{DefNames, ImageNames, Leaf, Names, Op, Term, is_amount, result_type, type_fault};
 use sqlite_items::Items;
 use std::alloc::{AllocError, AllocFailed, Global};
 
@@ -50,25 +47,25 @@ impl<T: Drop> From<AllocFailed<T>> for NodeFault {
 // The type of what has no entry.
 const NO_TYPE: LaneType = LaneType::U8;
 
-/// The term of a draft, where each tap has its number among these, or the fault of the first node
+/// The term of a syntax tree, where each tap has its number among these, or the fault of the first node
 /// in post-order that has one.
 #[cycle(terms)]
 pub fn resolved(
     alloc: Global,
-    draft: &Draft,
+    tree: &SyntaxTree,
     names: &Names,
-    taps: &[Spot],
+    taps: &[WideTap],
 ) -> Result<Term, NodeFault>
-    requires formed { is_formed_draft draft.now ≡ true }
+    requires formed { is_formed_tree tree.now ≡ true }
     requires few_defs { length names.now.defs ≤ 64 }
     requires few_taps { length taps.now ≤ 64 }
     requires few_images { length names.now.images ≤ 8 }
-    ensures made { IfOk result (λ t. t ≡ term_of (with_these names.now taps.now) draft.now) }
-    ensures found { (others : List Tap) → IsBuilt (typing (term_of (with_these names.now others) draft.now)) result }
+    ensures made { IfOk result (λ t. t ≡ term_of (with_these names.now taps.now) tree.now) }
+    ensures found { (others : List Tap) → IsBuilt (typing (term_of (with_these names.now others) tree.now)) result }
 {
     // A chain of operators without brackets is too deep for a recursion over first operands.
     let mut chain = Vec::new(alloc);
-    let mut lowest = draft;
+    let mut lowest = tree;
     while let Some(first) = first_operand(lowest) {
         chain.push(lowest)?;
         lowest = first;
@@ -80,34 +77,34 @@ pub fn resolved(
     Ok(term)
 }
 
-// The first operand of the term, or None where the draft is no node.
-fn first_operand(draft: &Draft) -> Option<&Draft>
-    requires { is_formed_draft draft.now ≡ true }
-    ensures { MatchOption result (IsLeaf draft.now) (λ first. IsFirst draft.now first.now) }
+// The first operand of the term, or None where the syntax tree is no node.
+fn first_operand(tree: &SyntaxTree) -> Option<&SyntaxTree>
+    requires { is_formed_tree tree.now ≡ true }
+    ensures { MatchOption result (IsLeaf tree.now) (λ first. IsFirst tree.now first.now) }
 {
-    match draft {
-        Draft::Node { less, args, .. } => Some(&args.as_slice()[place_in_order(*less, 0)]),
+    match tree {
+        SyntaxTree::Node { less, args, .. } => Some(&args.as_slice()[place_in_order(*less, 0)]),
         _ => None,
     }
 }
 
 // The term of what is no node.
-fn leaf(draft: &Draft, names: &Names, taps: &[Spot]) -> Term
-    requires leaf { IsLeaf draft.now }
+fn leaf(tree: &SyntaxTree, names: &Names, taps: &[WideTap]) -> Term
+    requires leaf { IsLeaf tree.now }
     requires few_defs { length names.now.defs ≤ 64 }
     requires few_taps { length taps.now ≤ 64 }
     requires few_images { length names.now.images ≤ 8 }
-    ensures made { result ≡ term_of (with_these names.now taps.now) draft.now }
-    ensures typed { (others : List Tap) → typing (term_of (with_these names.now others) draft.now) ≡ Ok (stated_type result) }
+    ensures made { result ≡ term_of (with_these names.now taps.now) tree.now }
+    ensures typed { (others : List Tap) → typing (term_of (with_these names.now others) tree.now) ≡ Ok (stated_type result) }
 {
-    match draft {
-        Draft::Number(n, ty) => Term::Leaf {
+    match tree {
+        SyntaxTree::Number(n, ty) => Term::Leaf {
             leaf: Leaf::Const(*n),
             ty: *ty,
         },
-        Draft::Named(name) => definition(&names.defs, name),
-        Draft::Placed(name, dx, dy) => tap(&names.images, taps, name, *dx, *dy),
-        Draft::Node { .. } => unreachable!(),
+        SyntaxTree::Name(name) => definition(&names.defs, name),
+        SyntaxTree::Tap(name, dx, dy) => tap(&names.images, taps, name, *dx, *dy),
+        SyntaxTree::Node { .. } => unreachable!(),
     }
 }
 
@@ -115,12 +112,12 @@ fn leaf(draft: &Draft, names: &Names, taps: &[Spot]) -> Term
 #[cycle(terms)]
 fn resolved_over(
     alloc: Global,
-    node: &Draft,
+    node: &SyntaxTree,
     first: Term,
     names: &Names,
-    taps: &[Spot],
+    taps: &[WideTap],
 ) -> Result<Term, NodeFault>
-    requires formed { is_formed_draft node.now ≡ true }
+    requires formed { is_formed_tree node.now ≡ true }
     requires few_defs { length names.now.defs ≤ 64 }
     requires few_taps { length taps.now ≤ 64 }
     requires few_images { length names.now.images ≤ 8 }
@@ -128,7 +125,7 @@ fn resolved_over(
     ensures made { IfOk result (λ t. t ≡ term_of (with_these names.now taps.now) node.now) }
     ensures found { (others : List Tap) → IsBuilt (typing (term_of (with_these names.now others) node.now)) result }
 {
-    let Draft::Node {
+    let SyntaxTree::Node {
         op,
         less,
         ty,
@@ -138,17 +135,17 @@ fn resolved_over(
     else {
         return Ok(first);
     };
-    let drafts = args.as_slice();
+    let trees = args.as_slice();
     let mut types = [NO_TYPE; 4];
     types[0] = stated_type(&first);
     let mut args = Items::new(alloc);
     args.push(first)?;
-    for n in 1..drafts.len() {
-        let arg = resolved(alloc, &drafts[place_in_order(*less, n)], names, taps)?;
+    for n in 1..trees.len() {
+        let arg = resolved(alloc, &trees[place_in_order(*less, n)], names, taps)?;
         types[n] = stated_type(&arg);
         args.push(arg)?;
     }
-    let ty = node_type(*op, *ty, *k, &types[..drafts.len()])?;
+    let ty = node_type(*op, *ty, *k, &types[..trees.len()])?;
     Ok(Term::Node {
         op: *op,
         ty,
@@ -168,15 +165,15 @@ fn definition(defs: &DefNames, name: &Name) -> Term
     }
 }
 
-fn tap(images: &ImageNames, taps: &[Spot], name: &Name, dx: i64, dy: i64) -> Term
+fn tap(images: &ImageNames, taps: &[WideTap], name: &Name, dx: i64, dy: i64) -> Term
     requires few_images { length images.now ≤ 8 }
     requires few_taps { length taps.now ≤ 64 }
     ensures { result ≡ LeafTerm (TapOf (tap_number taps.now (tap_at images.now name.now dx dy))) (slice_index_or images.now (image_number images.now name.now) no_image).ty }
 {
     let image = image_number(images, name);
-    let spot = Spot::new(image as u8, dx, dy);
+    let wide_tap = WideTap::new(image as u8, dx, dy);
     Term::Leaf {
-        leaf: Leaf::Tap(spot_number(taps, spot) as u8),
+        leaf: Leaf::Tap(wide_tap_number(taps, wide_tap) as u8),
         ty: image_type(images, image),
     }
 }

@@ -1,5 +1,5 @@
-use crate::op::Op;
 use pf_ints::{LaneType, Name};
+use pf_values::Op;
 
 /// A word that begins a line of a kernel.
 #[derive(Clone, Copy, Debug, PartialEq, Eq)]
@@ -12,7 +12,7 @@ pub enum LineWord {
 
 /// What a token is.
 #[derive(Clone, Copy, Debug)]
-pub enum Kind {
+pub enum TokenKind {
     Name(Name),
     TypeWord(LaneType),
     /// A number of at most 10 digits.
@@ -51,5 +51,5 @@ pub enum Kind {
 pub struct Token {
     pub start: usize,
     pub end: usize,
-    pub kind: Kind,
+    pub kind: TokenKind,
 }

@@ -2,15 +2,15 @@
 use Rattle.std.proofs.Common.{◌≡◌, refl, ◌∙◌, true, [], ◌∷◌, ℕ}
 use Rattle.std.specs.Prelude.{ℤ}
 use Rattle.pf_ints.specs.declared.lane.LaneType.{LaneType}
-use Rattle.pf_ints.specs.Lanes.{is_in}
-use Rattle.pf_terms.specs.declared.op.Op.{Op}
-use Rattle.pf_terms.specs.declared.term.Leaf.TheVariants.{Const}
-use Rattle.pf_terms.specs.declared.term.Term.{Term}
-use Rattle.pf_terms.specs.declared.term.Term.TheVariants.{Leaf, Node}
-use Rattle.pf_terms.specs.Operators.{row_of}
-use Rattle.pf_terms.specs.Terms.{is_well_formed, is_formed_node}
-use Rattle.pf_terms.proofs.NodeParts.{formed_is}
-use Rattle.pf_terms.proofs.TermRanges.{formed_leaf}
+use Rattle.pf_ints.specs.Meaning.Lanes.{is_in}
+use Rattle.pf_values.specs.declared.op.Op.{Op}
+use Rattle.pf_values.specs.declared.term.Leaf.TheVariants.{Const}
+use Rattle.pf_values.specs.declared.term.Term.{Term}
+use Rattle.pf_values.specs.declared.term.Term.TheVariants.{Leaf, Node}
+use Rattle.pf_values.specs.Meaning.Operators.{row_of}
+use Rattle.pf_values.specs.Meaning.Terms.{is_well_formed, is_formed_node}
+use Rattle.pf_values.proofs.NodeParts.{formed_is}
+use Rattle.pf_values.proofs.TermRanges.{formed_leaf}
 
 pub number_formed : (n : ℤ) (ty : LaneType) → is_in ty n ≡ true → is_well_formed (Leaf (Const n) ty) ≡ true
 number_formed n ty inside = formed_leaf (Const n) ty ∙ inside

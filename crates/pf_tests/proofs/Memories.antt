@@ -3,9 +3,9 @@ use Rattle.std.proofs.Common.{◌≡◌, sym, ap, subst, ◌∙◌, ℕ, ◌+◌
 use Rattle.std.specs.Prelude.{slice_get, Some}
 use Rattle.std.proofs.lemmas.List.Elements.{All-nil, All-cons, All-weaker}
 use Rattle.std.proofs.lemmas.List.Kept.{AllPairs-cons}
-use Rattle.pf_isa.specs.declared.memory.Region.{Region}
-use Rattle.pf_isa.specs.Machines.{HasTable, IsMemory, is_table}
-use Rattle.pf_isa.specs.Memory.{Apart}
+use Rattle.pf_machine.specs.declared.memory.Region.{Region}
+use Rattle.pf_machine.specs.Meaning.Machines.{HasTable, IsMemory, is_table}
+use Rattle.pf_machine.specs.Meaning.Memory.{Apart}
 
 pub no_memory : IsMemory []
 no_memory = record { apart = λ i j d below inside. absurd (omega arith); low = All-nil (λ r. r.start + length r.bytes < 2 ^ 31) }

@@ -3,24 +3,24 @@ use Rattle.std.proofs.Common.{◌≡◌, sym, ap, ◌∙◌, subst, ℕ, ◌<◌
 use Rattle.std.specs.Prelude.{All}
 use borrow.Author.Tests.{ltb-true}
 use Rattle.pf_ints.specs.declared.lane.LaneType.{LaneType}
-use Rattle.pf_terms.specs.declared.names.Names.{Names}
-use Rattle.pf_terms.specs.declared.names.Tap.{Tap as TapOf}
-use Rattle.pf_terms.specs.declared.term.Env.{Env}
-use Rattle.pf_terms.specs.declared.term.Leaf.{Leaf as LeafOf}
-use Rattle.pf_terms.specs.declared.term.Leaf.TheVariants.{Tap, Const, Def}
-use Rattle.pf_terms.specs.declared.term.Term.{Term}
-use Rattle.pf_terms.specs.declared.term.Term.TheVariants.{rolls-Leaf, rolls-Node}
-use Rattle.pf_terms.specs.declared.term.Term.TheOpen.{Term-F}
-use Rattle.pf_terms.specs.declared.term.Term.TheOpen.Term-F.{Leaf as LeafLayer, Node as NodeLayer}
-use Rattle.pf_terms.specs.declared.term.Term.TheViews.{roll-Term}
-use Rattle.pf_terms.specs.declared.term.Term.TheFolds.{ind-Term, map-Term}
-use Rattle.pf_terms.specs.KernelNames.{IsNames, IsNearTap}
-use Rattle.pf_terms.specs.Meanings.{IsTermText}
-use Rattle.pf_terms.specs.Terms.{all_true, is_env_of, is_env_leaf}
-use Rattle.pf_terms.specs.TermTexts.{is_named, is_named_leaf}
+use Rattle.pf_values.specs.declared.names.Names.{Names}
+use Rattle.pf_values.specs.declared.names.Tap.{Tap as TapOf}
+use Rattle.pf_values.specs.declared.term.Env.{Env}
+use Rattle.pf_values.specs.declared.term.Leaf.{Leaf as LeafOf}
+use Rattle.pf_values.specs.declared.term.Leaf.TheVariants.{Tap, Const, Def}
+use Rattle.pf_values.specs.declared.term.Term.{Term}
+use Rattle.pf_values.specs.declared.term.Term.TheVariants.{rolls-Leaf, rolls-Node}
+use Rattle.pf_values.specs.declared.term.Term.TheOpen.{Term-F}
+use Rattle.pf_values.specs.declared.term.Term.TheOpen.Term-F.{Leaf as LeafLayer, Node as NodeLayer}
+use Rattle.pf_values.specs.declared.term.Term.TheViews.{roll-Term}
+use Rattle.pf_values.specs.declared.term.Term.TheFolds.{ind-Term, map-Term}
+use Rattle.pf_terms.specs.Meaning.KernelNames.{IsNames, IsNearTap}
+use Rattle.pf_terms.specs.Meaning.Meanings.{IsTermText}
+use Rattle.pf_values.specs.Meaning.Terms.{all_true, is_env_of, is_env_leaf}
+use Rattle.pf_values.specs.Meaning.NamedTerms.{is_named, is_named_leaf}
 use Rattle.pf_terms.proofs.ReadBackTerms.{named_leaf, named_node}
-use Rattle.pf_terms.proofs.TermRanges.{env_leaf, env_node}
-use Rattle.pf_terms.proofs.Typing.{and_left, and_right}
+use Rattle.pf_values.proofs.TermRanges.{env_leaf, env_node}
+use Rattle.pf_values.proofs.Typing.{and_left, and_right}
 
 pub no_names : (names : Names) → names.images ≡ [] → names.taps ≡ [] → names.defs ≡ [] → IsNames names
 no_names names images taps defs =

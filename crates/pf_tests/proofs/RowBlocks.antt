@@ -4,25 +4,26 @@ use Rattle.std.specs.Prelude.{replicate, slice_get, Some}
 use Rattle.std.proofs.lemmas.List.{get_or-map, length-map}
 use Rattle.std.proofs.lemmas.List.Elements.{All-from_recursion}
 use Rattle.std.proofs.lemmas.Option.{get_or_from_slice_get, slice_get_within}
-use Rattle.pf_terms.specs.declared.kernel.ImageDecl.{ImageDecl}
-use Rattle.pf_terms.specs.declared.names.Tap.{Tap}
-use Rattle.pf_terms.specs.TermTexts.{no_tap}
-use Rattle.pf_isa.specs.declared.block.Item.{Item}
-use Rattle.pf_isa.specs.declared.program.Head.{Head}
-use Rattle.pf_isa.specs.declared.registers.RegFile.{RegFile}
-use Rattle.pf_isa.specs.Blocks.{BVal, IsClean, IsWithin}
-use Rattle.pf_isa.specs.Heads.{IsHead}
-use Rattle.pf_isa.specs.Runs.{pixel_bytes}
-use Rattle.pf_neon.specs.declared.op.Form.{Form}
-use Rattle.pf_neon.specs.Neon.{table}
-use Rattle.pf_rows.specs.BlockRows.{IsRowBlock, IsStep, StoresEach, no_decl, slots_in, tap_widths}
-use Rattle.pf_tests.specs.RowBlocks.{copy_block, least_block}
+use Rattle.pf_values.specs.declared.kernel.ImageDecl.{ImageDecl}
+use Rattle.pf_values.specs.declared.names.Tap.{Tap}
+use Rattle.pf_values.specs.Meaning.NamedTerms.{no_tap}
+use Rattle.pf_machine.specs.declared.block.Item.{Item}
+use Rattle.pf_machine.specs.declared.program.Head.{Head}
+use Rattle.pf_machine.specs.declared.registers.RegFile.{RegFile}
+use Rattle.pf_machine.specs.Meaning.Blocks.{BVal, IsClean, IsWithin}
+use Rattle.pf_machine.specs.Meaning.Heads.{IsHead}
+use Rattle.pf_machine.specs.Meaning.Runs.{pixel_bytes}
+use Rattle.pf_neon.specs.declared.op.Instruction.{Instruction}
+use Rattle.pf_neon.specs.Meaning.Neon.{table}
+use Rattle.pf_rows.specs.Meaning.BlockRows.{IsRowBlock, IsBlockItem, StoresEach, slots_in, tap_widths}
+use Rattle.pf_values.specs.Meaning.Kernels.{no_decl}
+use Rattle.pf_tests.specs.Steps.RowBlocks.{copy_block, least_block}
 
 abbrev zeros : RegFile
 zeros = record { vectors = [] ∷ [] ∷ [] ∷ [] ∷ []; k = 0; q = [] }
 
 -- what a block stores from any registers and slots, it stores from these
-abbrev IsFixed : (slots parts : ℕ) → List (Item Form) → Type 0
+abbrev IsFixed : (slots parts : ℕ) → List (Item Instruction) → Type 0
 IsFixed slots parts block =
     (taps : List (List ℕ)) (vectors : List (List ℕ)) (k : ℕ) (q : List Bool) (kept : List (List ℕ)) → length vectors ≡ 32 → length kept ≡ slots
     → BVal table parts block taps (record { vectors = vectors; k = k; q = q }) kept ≡ BVal table parts block taps zeros (replicate slots [])
@@ -44,7 +45,7 @@ least_fixed taps (a ∷ b ∷ c ∷ d ∷ more) k q (_ ∷ []) long two = absurd
 least_fixed taps (a ∷ b ∷ c ∷ d ∷ more) k q (s ∷ t ∷ []) long two = refl
 least_fixed taps (a ∷ b ∷ c ∷ d ∷ more) k q (_ ∷ _ ∷ _ ∷ _) long two = absurd (omega arith)
 
-clean : (slots parts : ℕ) (block : List (Item Form)) → IsFixed slots parts block → All (IsWithin table 32 slots) block → IsClean table 32 slots parts block
+clean : (slots parts : ℕ) (block : List (Item Instruction)) → IsFixed slots parts block → All (IsWithin table 32 slots) block → IsClean table 32 slots parts block
 clean slots parts block fixed within = record {
   within = within;
   same = λ taps f g kept other f_is g_is kept_long other_long.
@@ -57,12 +58,12 @@ copy_within = All-from_recursion (IsWithin table 32 0) copy_block (search rules)
 least_within : All (IsWithin table 32 2) least_block
 least_within = All-from_recursion (IsWithin table 32 2) least_block (search rules)
 
-copy_steps : (widths : List ℕ) → 1 ≤ length widths → 1 < get_or widths 0 0 → All (IsStep widths 2) copy_block
-copy_steps widths some wide = All-from_recursion (IsStep widths 2) copy_block ((omega arith, omega arith), (omega arith, ((omega arith, omega arith), (omega arith, tt))))
+copy_steps : (widths : List ℕ) → 1 ≤ length widths → 1 < get_or widths 0 0 → All (IsBlockItem widths 2) copy_block
+copy_steps widths some wide = All-from_recursion (IsBlockItem widths 2) copy_block ((omega arith, omega arith), (omega arith, ((omega arith, omega arith), (omega arith, tt))))
 
-least_steps : (widths : List ℕ) → 17 ≤ length widths → 0 < get_or widths 0 0 → 0 < get_or widths 15 0 → 0 < get_or widths 16 0 → All (IsStep widths 1) least_block
+least_steps : (widths : List ℕ) → 17 ≤ length widths → 0 < get_or widths 0 0 → 0 < get_or widths 15 0 → 0 < get_or widths 16 0 → All (IsBlockItem widths 1) least_block
 least_steps widths many first second third =
-    All-from_recursion (IsStep widths 1) least_block ((omega arith, omega arith), (tt, ((omega arith, omega arith), (tt, (tt, (tt, (tt, ((omega arith, omega arith), (tt, (omega arith, tt))))))))))
+    All-from_recursion (IsBlockItem widths 1) least_block ((omega arith, omega arith), (tt, ((omega arith, omega arith), (tt, (tt, (tt, (tt, ((omega arith, omega arith), (tt, (omega arith, tt))))))))))
 
 copy_stores : StoresEach 2 copy_block
 copy_stores zero inside = refl

@@ -1,8 +1,8 @@
 //! Forms, and the steps of certificates.
 
 ghost use Rattle.std.specs.Prelude.{◌≡◌, ◌<◌, IfOk, length};
-ghost use Rattle.pf_forms.specs.Shapes.{shape};
-ghost use Rattle.pf_forms.specs.Values.{IsFormOver};
+ghost use Rattle.pf_forms.specs.Meaning.Shapes.{shape};
+ghost use Rattle.pf_forms.specs.Meaning.Values.{IsFormOver};
 
 use pf_axioms::{StepFault, apply};
 use pf_forms::{Axiom, Form, at, equal, form_bounds, print_form, put, size};

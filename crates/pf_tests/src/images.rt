@@ -1,6 +1,6 @@
 //! PGM files that are read and written.
 
-ghost use Rattle.pf_ints.specs.Images.{IsPixelType};
+ghost use Rattle.pf_ints.specs.Meaning.Images.{IsPixelType};
 
 use pf_images::{ImageFault, read_pgm, write_pgm};
 use pf_ints::LaneType;

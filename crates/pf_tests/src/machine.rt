@@ -1,7 +1,7 @@
 //! Rows of programs on the machine, over memory that is given region by region.
 
 ghost use Rattle.std.specs.Prelude.{◌≡◌, ◌≤◌, ◌<◌, ◌^◌, All, IsTrue, length};
-ghost use Rattle.pf_isa.specs.Machines.{HasTable, IsMemory};
+ghost use Rattle.pf_machine.specs.Meaning.Machines.{HasTable, IsMemory};
 
 use pf_ints::{Memory, Sequence};
 use pf_isa::{Isa, Machine, Program, Region, RegionList, Trap, read_text};
@@ -248,7 +248,9 @@ const TRIALS: &[Trial] = &[
         pixels: 16,
         steps: 6,
         end: End::Returned,
-        output: &[0, 0, 0, 0, 0, 0, 0, 0, 252, 255, 255, 255, 255, 255, 255, 255],
+        output: &[
+            0, 0, 0, 0, 0, 0, 0, 0, 252, 255, 255, 255, 255, 255, 255, 255,
+        ],
     },
     // 2^64 - 1 is not below 1, and 1 is below it.
     Trial {
@@ -291,8 +293,17 @@ fn try_row<R: Abort + AllocGlobal>(rt: &R, trial: &Trial) -> Result<(), Fail> {
     regions.push(region(alloc, 81_920, &PIXELS[..trial.pixels], false)?)?;
     regions.push(region(alloc, 81_920 + count, &zeros[..trial.pixels], true)?)?;
     let mut machine = machine_of(rt, program(alloc, trial.code)?, regions)?;
-    start_row(rt, &mut machine, 65_536, &[81_920, 81_920 + count, 73_728, count]);
-    assert!(rt; machine.run_row(trial.steps) == end_of(trial), "{:?}", trial.code);
+    start_row(
+        rt,
+        &mut machine,
+        65_536,
+        &[81_920, 81_920 + count, 73_728, count],
+    );
+    assert!(rt;
+        machine.run_row(trial.steps) == end_of(trial),
+        "{:?}",
+        trial.code
+    );
     let output = machine.region(3).ok_or("no output")?.bytes.as_slice();
     for (i, byte) in output.iter().enumerate() {
         let wanted = trial.output.get(i).copied().unwrap_or(0);

@@ -2,8 +2,8 @@
 //! against pixels that are computed here.
 
 ghost use Rattle.std.specs.Prelude.{◌≡◌, [], ◌∷◌, ◌++◌, IfOk, OnOk, IsTrue, slice_index};
-ghost use Rattle.pf_rows.specs.BlockRows.{tap_widths};
-ghost use Rattle.pf_tests.specs.RowBlocks.{copy_block, kept_taps, least_block, lesser};
+ghost use Rattle.pf_rows.specs.Meaning.BlockRows.{tap_widths};
+ghost use Rattle.pf_tests.specs.Steps.RowBlocks.{copy_block, kept_taps, least_block, lesser};
 
 use pf_images::read_pgm;
 use pf_ints::{Duplicate, Image, ImageSet, LaneType, Memory, Sequence};

@@ -1,6 +1,6 @@
 //! Sets of images that are judged, and kernels that are evaluated on images.
 
-ghost use Rattle.pf_ints.specs.Images.{IsPixelType};
+ghost use Rattle.pf_ints.specs.Meaning.Images.{IsPixelType};
 
 use pf_images::read_pgm;
 use pf_ints::{ImageSet, LaneType, Name, Sequence};

@@ -1,10 +1,10 @@
 //! Expressions that are read, their values and their types.
 
 ghost use Rattle.std.specs.Prelude.{◌≡◌, [], true, IfOk};
-ghost use Rattle.pf_ints.specs.Lanes.{is_in};
-ghost use Rattle.pf_terms.specs.KernelNames.{IsNames};
-ghost use Rattle.pf_terms.specs.Operators.{row_of};
-ghost use Rattle.pf_terms.specs.Terms.{is_formed_node, is_well_formed};
+ghost use Rattle.pf_ints.specs.Meaning.Lanes.{is_in};
+ghost use Rattle.pf_terms.specs.Meaning.KernelNames.{IsNames};
+ghost use Rattle.pf_values.specs.Meaning.Operators.{row_of};
+ghost use Rattle.pf_values.specs.Meaning.Terms.{is_formed_node, is_well_formed};
 
 use crate::faults::read_fault;
 use pf_ints::{Duplicate, LaneType, Sequence};
@@ -165,7 +165,10 @@ fn expressions_are_printed(rt: HostRuntime) -> Result<(), Fail> {
     for &(text, wanted) in PRINTED {
         let mut names = some_names(alloc)?;
         let term = read_term(alloc, text.as_bytes(), &mut names)?;
-        assert_eq!(rt; print_term(alloc, &term, &names)?.as_slice(), wanted.as_bytes());
+        assert_eq!(rt;
+            print_term(alloc, &term, &names)?.as_slice(),
+            wanted.as_bytes()
+        );
     }
     Ok(())
 }
@@ -205,18 +208,19 @@ const REFUSED: &[(&str, &str)] = &[
     ("select(a < b, -3i16, i16(y))", "name a"),
     ("mul_shr(d, a[65,0], 300)", "types i16 u8"),
     ("(d >> 9999999999) + 1u8", "amount 9999999999"),
-    ("select(a[0,-65] < b[99,0], a[0,0], b[0,0])", "limit offset -65"),
+    (
+        "select(a[0,-65] < b[99,0], a[0,0], b[0,0])",
+        "limit offset -65",
+    ),
     ("a[1,2] * u8(d) + b[0,0] + a[65,0]", "limit offset 65"),
 ];
 
 /// Tries an expression of which this is told, and that no tap is added.
-fn try_refused<R: Abort + AllocGlobal>(
-    rt: &R,
-    text: &[u8],
-    wanted: &str,
-) -> Result<(), Fail> {
+fn try_refused<R: Abort + AllocGlobal>(rt: &R, text: &[u8], wanted: &str) -> Result<(), Fail> {
     let mut names = some_names(rt.alloc())?;
-    let fault = read_term(rt.alloc(), text, &mut names).err().ok_or("a fault")?;
+    let fault = read_term(rt.alloc(), text, &mut names)
+        .err()
+        .ok_or("a fault")?;
     let told = read_fault(rt.alloc(), &fault)?;
     assert_eq!(rt; told.as_str(), wanted, "at {text:?}");
     assert_eq!(rt; names.taps.len(), 0);
@@ -296,7 +300,13 @@ fn shifted(alloc: Global, ty: LaneType, k: u8, operand: Term) -> Result<Term, Al
 fn terms_have_types(rt: HostRuntime) -> Result<(), Fail> {
     let alloc = rt.alloc();
     let (byte, half) = (LaneType::U8, LaneType::U16);
-    let sum = pair(alloc, Op::WideningAdd, half, number(1, byte), number(2, byte))?;
+    let sum = pair(
+        alloc,
+        Op::WideningAdd,
+        half,
+        number(1, byte),
+        number(2, byte),
+    )?;
     assert_eq!(rt; type_of(alloc, &sum)?, half);
     let mixed = pair(alloc, Op::Min, half, number(1, half), number(2, byte))?;
     let whole = pair(alloc, Op::Max, half, number(7, half), mixed)?;

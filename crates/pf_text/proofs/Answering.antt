@@ -1,7 +1,7 @@
 -- A reader's answer is the only one.
 use Rattle.std.proofs.Common.{◌≡◌, inl, inr}
 use Rattle.std.specs.Prelude.{◌⊎◌, Result, Ok, Err, IfOk}
-use Rattle.pf_text.specs.Answers.{Answers, Decides}
+use Rattle.pf_text.specs.Meaning.Answers.{Answers, Decides}
 
 pub answers_map : {A F : Type 0} (wanting : F) (P Q : A → Type 0) (E G : F → Type 0) (r : Result A F) → ((a : A) → P a → Q a) → ((f : F) → E f → G f) → Answers wanting P E r → Answers wanting Q G r
 answers_map wanting P Q E G (Ok a) read told h = read a h

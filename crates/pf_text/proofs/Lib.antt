@@ -1,3 +1,9 @@
 pub mod Answering
 pub mod Lists
 pub mod OneFault
+pub mod LineLaws
+pub mod Fronts
+pub mod ScanLaws
+pub mod TightLaws
+pub mod QuietLaws
+pub mod ListLaws

@@ -1,6 +1,6 @@
 -- A text has one reading or one first fault.
 use Rattle.std.proofs.Common.{◌≡◌, refl, sym, ◌∙◌, ap, subst, ℕ, List, [], ◌∷◌, ◌++◌, length, suc}
-use Rattle.pf_text.specs.FirstFaults.{Steps, OnlySteps, Halts, IsFirstFault}
+use Rattle.pf_text.specs.Meaning.FirstFaults.{Steps, OnlySteps, Halts, IsFirstFault}
 use Rattle.pf_text.proofs.Lists.{first_same, rest_same}
 
 module _ (S X : Type 0) (Step : S → X → S → Type 0) where

@@ -1,2 +1,2 @@
-pub mod Answers
-pub mod FirstFaults
+pub mod Meaning
+pub mod Steps

@@ -5,22 +5,22 @@ use Rattle.std.specs.List.{AllZip}
 use Rattle.std.proofs.lemmas.List.{take_all}
 use Rattle.std.proofs.lemmas.Option.{slice_get_within}
 use Rattle.std.proofs.lemmas.Slice.Zip.{length-zip}
-use Rattle.pf_ints.specs.Images.{Picture}
-use Rattle.pf_terms.specs.declared.kernel.ImageDecl.{ImageDecl}
-use Rattle.pf_images.specs.Counts.{Rose}
-use Rattle.pf_images.specs.Outside.{Contents, Changes}
+use Rattle.pf_ints.specs.Meaning.Images.{Picture}
+use Rattle.pf_values.specs.declared.kernel.ImageDecl.{ImageDecl}
+use Rattle.pf_images.specs.Meaning.Counts.{Rose}
+use Rattle.pf_images.specs.Meaning.Outside.{Contents, Changes}
 use Rattle.pf_top.specs.declared.image_files.ImageRefusal.{ImageRefusal}
 use Rattle.pf_top.specs.declared.image_files.ImageRefusal.TheVariants.{TooLong as ImageTooLong, At as ImageAt}
 use Rattle.pf_top.specs.declared.run_verdict.NoImage.{NoImage}
 use Rattle.pf_top.specs.declared.run_verdict.RunFile.TheVariants.{Text as TextFile, Image}
 use Rattle.pf_top.specs.declared.run_verdict.RunVerdict.{RunVerdict}
 use Rattle.pf_top.specs.declared.run_verdict.RunVerdict.TheVariants.{Done, Missing, ReadFailed, TextRefused, Count, ImageRefused, NoImage as WithoutImage, WriteFailed, Memory}
-use Rattle.pf_top.specs.Completeness.{IsSomeImage, IsImageThere, IsRunnable}
-use Rattle.pf_top.specs.Courses.{Store, Begins}
-use Rattle.pf_top.specs.ImageFiles.{HoldsImage, IsImageFile, RefusesImage, image_limit}
-use Rattle.pf_top.specs.Running.{Language, Run, Holds, HoldsText, RunLeads, RanTo}
-use Rattle.pf_top.specs.RunStatuses.{run_due}
-use Rattle.pf_top.specs.Statuses.{Due, Output, Told, Tells, wanting}
+use Rattle.pf_top.specs.Meaning.Completeness.{IsSomeImage, IsImageThere, IsRunnable}
+use Rattle.pf_top.specs.Meaning.StoreCalls.{Store, FileStartsWith}
+use Rattle.pf_top.specs.Meaning.ImageFiles.{HoldsImage, IsImageFile, RefusesImage, image_limit}
+use Rattle.pf_top.specs.Meaning.Running.{Language, Run, FilesHold, HoldsText, RunEffect, RunEndsWith}
+use Rattle.pf_top.specs.Meaning.RunStatuses.{report_of_run}
+use Rattle.pf_top.specs.Meaning.Statuses.{Report, Output, ReportsLine, Reports, wanting}
 
 -- what is spelled has one meaning and is not refused, and what works is not without_image
 pub record IsFit {P R : Type 0} (l : Language P R) : Type 0 where
@@ -75,18 +75,18 @@ module _ {P R : Type 0} (l : Language P R) (fit : IsFit l) (r : Run) (m : Conten
   same_meaning : (p : P) → HoldsText l r m p → p ≡ can.meaning
   same_meaning p held = let facts = both (m r.text) (l.most + 1) (l.Means p) (l.Spells can.meaning) held can.text in fit.same p can.meaning facts.0 facts.1 facts.2
 
-  no_text_refusal : (e : R) → Begins r.text (l.most + 1) (l.Refuses e) m → ⊥
+  no_text_refusal : (e : R) → FileStartsWith r.text (l.most + 1) (l.Refuses e) m → ⊥
   no_text_refusal e refused = let facts = both (m r.text) (l.most + 1) (l.Refuses e) (l.Spells can.meaning) refused can.text in fit.not_refused e can.meaning facts.0 facts.1 facts.2
 
-  no_image_refusal : (n : ℕ) (e : ImageRefusal) (d : ImageDecl) → n < length r.images → slice_get (l.decls can.meaning) n ≡ Some d → Begins (get_or r.images n []) (image_limit + 1) (RefusesImage d.ty e) m → ⊥
+  no_image_refusal : (n : ℕ) (e : ImageRefusal) (d : ImageDecl) → n < length r.images → slice_get (l.decls can.meaning) n ≡ Some d → FileStartsWith (get_or r.images n []) (image_limit + 1) (RefusesImage d.ty e) m → ⊥
   no_image_refusal n e d low declared refused =
       let there = image_at (IsImageThere m) r.images (l.decls can.meaning) can.pictures n low can.count can.images in
       let same : there.0.1 ≡ d = let two : Some there.0.1 ≡ Some d = sym there.4 ∙ declared in cc in
-      let named : Begins there.0.0 (image_limit + 1) (RefusesImage there.0.1.ty e) m =
-      subst (λ name. Begins name (image_limit + 1) (RefusesImage there.0.1.ty e) m) (sym there.3) (subst (λ x. Begins (get_or r.images n []) (image_limit + 1) (RefusesImage x.ty e) m) (sym same) refused) in
+      let named : FileStartsWith there.0.0 (image_limit + 1) (RefusesImage there.0.1.ty e) m =
+      subst (λ name. FileStartsWith name (image_limit + 1) (RefusesImage there.0.1.ty e) m) (sym there.3) (subst (λ x. FileStartsWith (get_or r.images n []) (image_limit + 1) (RefusesImage x.ty e) m) (sym same) refused) in
       clash e there.0 there.1 named there.2
     where
-      clash : (e : ImageRefusal) (w : List ℕ × ImageDecl) (q : Picture) → Begins w.0 (image_limit + 1) (RefusesImage w.1.ty e) m → IsImageThere m w q → ⊥
+      clash : (e : ImageRefusal) (w : List ℕ × ImageDecl) (q : Picture) → FileStartsWith w.0 (image_limit + 1) (RefusesImage w.1.ty e) m → IsImageThere m w q → ⊥
       clash ImageTooLong w q refused held =
           let facts = both (m w.0) (image_limit + 1) (RefusesImage w.1.ty ImageTooLong) (IsSomeImage w.1.ty q) refused held in
           let over : image_limit < length facts.0 = facts.1 in
@@ -94,7 +94,7 @@ module _ {P R : Type 0} (l : Language P R) (fit : IsFit l) (r : Run) (m : Conten
           omega (arith, over, within)
       clash (ImageAt at kind) w q refused held = let facts = both (m w.0) (image_limit + 1) (RefusesImage w.1.ty (ImageAt at kind)) (IsSomeImage w.1.ty q) refused held in facts.1.1 q facts.2.1
 
-  without_image : (e : NoImage) (p : P) (pictures : List Picture) → Holds l r m (length r.images) p pictures → l.Ends p pictures (Err e) → ⊥
+  without_image : (e : NoImage) (p : P) (pictures : List Picture) → FilesHold l r m (length r.images) p pictures → l.Ends p pictures (Err e) → ⊥
   without_image e p pictures holds ran =
       let same : p ≡ can.meaning = same_meaning p holds.text in
       let zipped = length-zip r.images (l.decls p) in
@@ -105,7 +105,7 @@ module _ {P R : Type 0} (l : Language P R) (fit : IsFit l) (r : Run) (m : Conten
       fit.not_prevented e can.meaning can.pictures can.works (subst (λ (q : P). l.Ends q can.pictures (Err e)) same (subst (λ ps. l.Ends p ps (Err e)) all ran))
 
   -- no refusal has its cause in the files
-  no_refusal : (v : RunVerdict R) (n : Contents) → IsRefusal v → RunLeads l r v m n → ⊥
+  no_refusal : (v : RunVerdict R) (n : Contents) → IsRefusal v → RunEffect l r v m n → ⊥
   no_refusal Done n refusal leads = refusal
   no_refusal (Missing TextFile) n refusal leads = not_missing (m r.text) (λ all. l.Spells can.meaning (take (l.most + 1) all)) leads.1 can.text
   no_refusal (Missing (Image k)) n refusal leads =
@@ -127,18 +127,18 @@ module _ {P R : Type 0} (l : Language P R) (fit : IsFit l) (r : Run) (m : Conten
   no_refusal WriteFailed n refusal leads = refusal
   no_refusal Memory n refusal leads = refusal
 
-  refuted : (b a : Store) (v : RunVerdict R) → b.held ≡ Some m → IsRefusal v → RanTo l r b v a → ⊥
-  refuted b a v is refusal ran = let change = led (RunLeads l r v) b.held a.held m is ran.went.contents in no_refusal v change.0 refusal change.1
+  refuted : (b a : Store) (v : RunVerdict R) → b.held ≡ Some m → IsRefusal v → RunEndsWith l r b v a → ⊥
+  refuted b a v is refusal ran = let change = led (RunEffect l r v) b.held a.held m is ran.went.contents in no_refusal v change.0 refusal change.1
 
 -- where memory is wanting the answer is 13, or the output failed
-pub poor : (ob oa : Output) (answer : ℕ) → (Rose ob.faults oa.faults → ⊥) → Told wanting ob answer oa → answer ≡ 13
+pub poor : (ob oa : Output) (answer : ℕ) → (Rose ob.faults oa.faults → ⊥) → ReportsLine wanting ob answer oa → answer ≡ 13
 unfolding wanting
 poor ob oa answer calm (inl said) = said.status
 poor ob oa answer calm (inr (inl failed)) = absurd (calm failed.faults)
 poor ob oa answer calm (inr (inr wanted)) = wanted.status
 
-pub complete : {P R : Type 0} (l : Language P R) (fit : IsFit l) (refused : List ℕ → R → Due) (r : Run) (m : Contents) (b a : Store) (ob oa : Output) (answer : ℕ) (v : RunVerdict R) → b.held ≡ Some m → IsRunnable l r m → (Rose b.faults a.faults → ⊥) → (Rose ob.faults oa.faults → ⊥)
-    → RanTo l r b v a → Tells (run_due refused r v) ob answer oa → (answer ≡ 0) ⊎ (answer ≡ 13)
+pub complete : {P R : Type 0} (l : Language P R) (fit : IsFit l) (refused : List ℕ → R → Report) (r : Run) (m : Contents) (b a : Store) (ob oa : Output) (answer : ℕ) (v : RunVerdict R) → b.held ≡ Some m → IsRunnable l r m → (Rose b.faults a.faults → ⊥) → (Rose ob.faults oa.faults → ⊥)
+    → RunEndsWith l r b v a → Reports (report_of_run refused r v) ob answer oa → (answer ≡ 0) ⊎ (answer ≡ 13)
 complete l fit refused r m b a ob oa answer Done is can calm quiet ran told = inl told.0
 complete l fit refused r m b a ob oa answer (Missing w) is can calm quiet ran told = absurd (refuted l fit r m can b a (Missing w) is tt ran)
 complete l fit refused r m b a ob oa answer (ReadFailed w) is can calm quiet ran told = absurd (calm ran.went.faults)

@@ -3,21 +3,21 @@ use Rattle.std.proofs.Common.{◌≡◌, ◌≢◌, ℕ, ◌+◌, ◌⊎◌, inl
 use Rattle.std.specs.Prelude.{codes}
 use Rattle.pf_ints.specs.declared.target.Target.{Target}
 use Rattle.pf_ints.specs.declared.target.Target.TheVariants.{Neon, Avx2, Hvx}
-use Rattle.pf_ints.specs.Targets.{target_word}
-use Rattle.pf_images.specs.Counts.{Rose}
-use Rattle.pf_images.specs.Outside.{Contents}
-use Rattle.pf_kernel.specs.Texts.{IsKernel}
+use Rattle.pf_ints.specs.Meaning.Targets.{target_word}
+use Rattle.pf_images.specs.Meaning.Counts.{Rose}
+use Rattle.pf_images.specs.Meaning.Outside.{Contents}
+use Rattle.pf_kernel.specs.Meaning.Texts.{IsKernel}
 use Rattle.pf_top.specs.declared.kernel_file.KernelRefusal.{KernelRefusal}
 use Rattle.pf_top.specs.declared.verdict.FileWord.{FileWord}
 use Rattle.pf_top.specs.declared.verdict.FileWord.TheVariants.{Kernel, Lift, Lower}
 use Rattle.pf_top.specs.declared.verdict.Verdict.{Verdict}
 use Rattle.pf_top.specs.declared.verdict.Verdict.TheVariants.{Done, TargetNotBuilt, KernelRefused, NotBuilt, Missing, ReadFailed, WriteFailed, Memory}
-use Rattle.pf_top.specs.Completeness.{IsSelectable}
-use Rattle.pf_top.specs.Courses.{Store}
-use Rattle.pf_top.specs.KernelFiles.{RefusesKernel}
-use Rattle.pf_top.specs.Selections.{Select, IsSelect, IsTaken, HasForm, IsOther, OfJudged, Differs, Leads, Came, file_name, limit}
-use Rattle.pf_top.specs.SelectStatuses.{select_due}
-use Rattle.pf_top.specs.Statuses.{Output, Tells}
+use Rattle.pf_top.specs.Meaning.Completeness.{IsSelectable}
+use Rattle.pf_top.specs.Meaning.StoreCalls.{Store}
+use Rattle.pf_top.specs.Meaning.KernelFiles.{RefusesKernel}
+use Rattle.pf_top.specs.Meaning.Selections.{Select, IsSelect, IsSelectableKernel, HasForm, IsOther, OfJudged, Differs, Effect, EndsWith, file_name, limit}
+use Rattle.pf_top.specs.Meaning.SelectStatuses.{report_of_select}
+use Rattle.pf_top.specs.Meaning.Statuses.{Output, Reports}
 use Rattle.pf_top.proofs.Completing.{both, led, not_missing, poor}
 
 -- words that begin with other letters are others
@@ -59,7 +59,7 @@ module _ (s : Select) (m : Contents) (can : IsSelectable s m) where
   no_other Kernel other =
       let facts = both (m s.kernel) (limit Kernel + 1) (IsOther Kernel) (λ bytes. IsKernel bytes can.meaning) other can.kernel in
       let same : facts.1.0 ≡ can.meaning = facts.1.1.1 can.meaning facts.2 in
-      facts.1.2 (subst IsTaken (sym same) can.built)
+      facts.1.2 (subst IsSelectableKernel (sym same) can.built)
   no_other Lift other = let facts = both (m s.lift) (limit Lift + 1) (IsOther Lift) (HasForm Lift) other can.lift in facts.1 facts.2
   no_other Lower other = let facts = both (m s.lower) (limit Lower + 1) (IsOther Lower) (HasForm Lower) other can.lower in facts.1 facts.2
 
@@ -69,12 +69,12 @@ module _ (s : Select) (m : Contents) (can : IsSelectable s m) where
   none_missing Lower none = not_missing (m s.lower) (λ all. HasForm Lower (take (limit Lower + 1) all)) none can.lower
 
   module _ (b a : Store) (ob oa : Output) (answer : ℕ) (is : b.held ≡ Some m) (calm : Rose b.faults a.faults → ⊥) (quiet : Rose ob.faults oa.faults → ⊥) where
-    pub selection_completes : (v : Verdict) → Came s b v a → Tells (select_due s v) ob answer oa → (answer ≡ 0) ⊎ (answer ≡ 13)
+    pub selection_completes : (v : Verdict) → EndsWith s b v a → Reports (report_of_select s v) ob answer oa → (answer ≡ 0) ⊎ (answer ≡ 13)
     selection_completes Done came told = inl told.0
     selection_completes TargetNotBuilt came told = absurd (came.target.0 refl can.target)
-    selection_completes (KernelRefused e) came told = let change = led (Leads s (KernelRefused e)) b.held a.held m is came.went.contents in absurd (no_refusal e change.1.0)
-    selection_completes (NotBuilt w) came told = let change = led (Leads s (NotBuilt w)) b.held a.held m is came.went.contents in absurd (no_other w change.1.1)
-    selection_completes (Missing w) came told = let change = led (Leads s (Missing w)) b.held a.held m is came.went.contents in absurd (none_missing w change.1.1)
+    selection_completes (KernelRefused e) came told = let change = led (Effect s (KernelRefused e)) b.held a.held m is came.went.contents in absurd (no_refusal e change.1.0)
+    selection_completes (NotBuilt w) came told = let change = led (Effect s (NotBuilt w)) b.held a.held m is came.went.contents in absurd (no_other w change.1.1)
+    selection_completes (Missing w) came told = let change = led (Effect s (Missing w)) b.held a.held m is came.went.contents in absurd (none_missing w change.1.1)
     selection_completes (ReadFailed w) came told = absurd (calm came.went.faults)
     selection_completes WriteFailed came told = absurd (calm came.went.faults)
     selection_completes Memory came told = inr (poor ob oa answer quiet told)

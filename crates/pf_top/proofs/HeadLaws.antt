@@ -6,34 +6,34 @@ use Rattle.std.proofs.lemmas.Bool.Decides.{nat_tests}
 use Rattle.std.proofs.lemmas.List.{append-nil, length-map}
 use Rattle.std.proofs.lemmas.List.Elements.{All-from_recursion, All-push, recursion_from_All}
 use Rattle.std.proofs.lemmas.List.Kept.{AllPairs-cons}
-use Rattle.pf_ints.specs.Images.{IsPixelType}
-use Rattle.pf_ints.specs.Words.{is_name, is_reserved}
-use Rattle.pf_terms.specs.declared.kernel.Definition.{Definition}
-use Rattle.pf_terms.specs.declared.kernel.ImageDecl.{ImageDecl}
-use Rattle.pf_terms.specs.declared.names.Names.{Names}
-use Rattle.pf_terms.specs.declared.names.Tap.{Tap}
-use Rattle.pf_terms.specs.declared.op.Op.TheVariants.{Min}
-use Rattle.pf_terms.specs.declared.term.Leaf.TheVariants.{Tap as TapLeaf}
-use Rattle.pf_terms.specs.declared.term.Term.TheVariants.{rolls-Leaf, rolls-Node}
-use Rattle.pf_terms.specs.declared.term.Term.TheOpen.{Term-F}
-use Rattle.pf_terms.specs.declared.term.Term.TheOpen.Term-F.{Leaf as LeafLayer, Node as NodeLayer}
-use Rattle.pf_terms.specs.declared.term.Term.TheFolds.{fold-Term, fold-roll-Term}
-use Rattle.pf_terms.specs.KernelNames.{all_names, IsNearTap}
-use Rattle.pf_terms.specs.Kernels.{Source}
-use Rattle.pf_terms.specs.Terms.{node_count}
-use Rattle.pf_terms.specs.TermTexts.{is_named, named_step, is_named_leaf}
-use Rattle.pf_isa.specs.declared.program.Head.{Head}
-use Rattle.pf_isa.specs.Heads.{IsHead, IsDecl, IsTap}
-use Rattle.pf_kernel.specs.Kernels.{Meaning, IsKernelOf, IsTermOf, names_of, names_behind, image_name, def_name, terms_of, IsDecl as IsRange}
-use Rattle.pf_top.specs.Least.{byte_type, tap_term, least_term, AreTapsOf, IsLeastOf, HasTaps}
-use Rattle.pf_top.specs.Selected.{head_of}
+use Rattle.pf_ints.specs.Meaning.Images.{IsPixelType}
+use Rattle.pf_text.specs.Meaning.Words.{is_name, is_reserved}
+use Rattle.pf_values.specs.declared.kernel.Definition.{Definition}
+use Rattle.pf_values.specs.declared.kernel.ImageDecl.{ImageDecl}
+use Rattle.pf_values.specs.declared.names.Names.{Names}
+use Rattle.pf_values.specs.declared.names.Tap.{Tap}
+use Rattle.pf_values.specs.declared.op.Op.TheVariants.{Min}
+use Rattle.pf_values.specs.declared.term.Leaf.TheVariants.{Tap as TapLeaf}
+use Rattle.pf_values.specs.declared.term.Term.TheVariants.{rolls-Leaf, rolls-Node}
+use Rattle.pf_values.specs.declared.term.Term.TheOpen.{Term-F}
+use Rattle.pf_values.specs.declared.term.Term.TheOpen.Term-F.{Leaf as LeafLayer, Node as NodeLayer}
+use Rattle.pf_values.specs.declared.term.Term.TheFolds.{fold-Term, fold-roll-Term}
+use Rattle.pf_terms.specs.Meaning.KernelNames.{all_names, IsNearTap}
+use Rattle.pf_values.specs.Meaning.Kernels.{Source}
+use Rattle.pf_values.specs.Meaning.Terms.{node_count}
+use Rattle.pf_values.specs.Meaning.NamedTerms.{is_named, named_step, is_named_leaf}
+use Rattle.pf_machine.specs.declared.program.Head.{Head}
+use Rattle.pf_machine.specs.Meaning.Heads.{IsHead, IsDecl, IsTap}
+use Rattle.pf_kernel.specs.Meaning.Kernels.{Meaning, IsKernelOf, IsTermOf, names_of, names_behind, image_name, def_name, terms_of, IsDeclaredRange as IsRange}
+use Rattle.pf_top.specs.Meaning.MinOfTaps.{byte_type, tap_term, min_term, AreTapsOf, IsMinOfTaps, HasTaps}
+use Rattle.pf_top.specs.Meaning.Selected.{head_of}
 
 -- ---- a fold of a tap, and of the lesser of two
 fold_tap : {A : Type 0} (step : Term-F A → A) (n : ℕ) → fold-Term A step (tap_term byte_type n) ≡ step (LeafLayer (TapLeaf n) byte_type)
 fold_tap {A = A} step n = ap (fold-Term A step) (sym (rolls-Leaf (TapLeaf n) byte_type)) ∙ fold-roll-Term A step (LeafLayer (TapLeaf n) byte_type)
 
 fold_least : {A : Type 0} (step : Term-F A → A) (m n : ℕ)
-    → fold-Term A step (least_term byte_type m n) ≡ step (NodeLayer Min byte_type 0 (step (LeafLayer (TapLeaf m) byte_type) ∷ step (LeafLayer (TapLeaf n) byte_type) ∷ []))
+    → fold-Term A step (min_term byte_type m n) ≡ step (NodeLayer Min byte_type 0 (step (LeafLayer (TapLeaf m) byte_type) ∷ step (LeafLayer (TapLeaf n) byte_type) ∷ []))
 fold_least {A = A} step m n =
     ap (fold-Term A step) (sym (rolls-Node Min byte_type 0 (tap_term byte_type m ∷ tap_term byte_type n ∷ []))) ∙ fold-roll-Term A step (NodeLayer Min byte_type 0 (tap_term byte_type m ∷ tap_term byte_type n ∷ []))
     ∙ ap (λ a. step (NodeLayer Min byte_type 0 (a ∷ fold-Term A step (tap_term byte_type n) ∷ []))) (fold_tap step m)
@@ -52,7 +52,7 @@ leaf_within : (names : Names) (n : ℕ) → is_named_leaf names (TapLeaf n) byte
 leaf_within names n named = let low : nat_lt n (length names.taps) ≡ true = first_true _ _ named in grind (arith, nat_tests)
 
 -- both taps of the lesser of two are there
-taps_within : (names : Names) (m n : ℕ) → is_named names (least_term byte_type m n) ≡ true → (m < length names.taps) × (n < length names.taps)
+taps_within : (names : Names) (m n : ℕ) → is_named names (min_term byte_type m n) ≡ true → (m < length names.taps) × (n < length names.taps)
 taps_within names m n named =
     let both = both_true (is_named_leaf names (TapLeaf m) byte_type) (is_named_leaf names (TapLeaf n) byte_type) (sym (fold_least (named_step names) m n) ∙ named) in
     (leaf_within names m both.0, leaf_within names n both.1)
@@ -161,7 +161,7 @@ pub taps_known : (k : Meaning) → IsKernelOf k → All (λ t. t.image < length 
 taps_known k kernel i d h = let near = kernel.names.near i d h in omega (arith, near.image, length-map k.source.images image_name)
 
 -- the head of a kernel that is the lesser of two taps
-pub head_taps : (k : Meaning) (first second : ℕ) → IsKernelOf k → IsLeastOf k.source first second → HasTaps (head_of k.source) first second
+pub head_taps : (k : Meaning) (first second : ℕ) → IsKernelOf k → IsMinOfTaps k.source first second → HasTaps (head_of k.source) first second
 head_taps k first second kernel least =
     let named = subst (λ t. is_named (names_behind k.source.images k.source.taps []) t ≡ true) least.out (out_of k kernel least.defs).named in
     let within = taps_within (names_behind k.source.images k.source.taps []) first second named in

@@ -3,10 +3,10 @@ use Rattle.std.proofs.Common.{◌<◌, List, [], ◌∷◌, length, map, subst, 
 use Rattle.std.specs.Prelude.{All}
 use Rattle.std.proofs.lemmas.List.{get_or-map, length-map}
 use Rattle.std.proofs.lemmas.List.Elements.{All-get_or, All-from_get_or}
-use Rattle.pf_ints.specs.Images.{IsPixelType}
-use Rattle.pf_terms.specs.declared.kernel.ImageDecl.{ImageDecl}
-use Rattle.pf_terms.specs.declared.names.ImageName.{ImageName}
-use Rattle.pf_kernel.specs.Kernels.{image_name}
+use Rattle.pf_ints.specs.Meaning.Images.{IsPixelType}
+use Rattle.pf_values.specs.declared.kernel.ImageDecl.{ImageDecl}
+use Rattle.pf_values.specs.declared.names.ImageName.{ImageName}
+use Rattle.pf_kernel.specs.Meaning.Kernels.{image_name}
 
 pub pixel_decls : (ds : List ImageDecl) → All (λ (i : ImageName). IsPixelType i.ty) (map image_name ds) → All (λ d. IsPixelType d.ty) ds
 pixel_decls [] all = λ k d low. absurd (omega (arith, low))

@@ -1,6 +1,6 @@
 pub mod Selecting
 pub mod SixWords
-pub mod Courses
+pub mod StoreCalls
 pub mod RunLists
 pub mod TextFiles
 pub mod KernelFiles
@@ -12,6 +12,6 @@ pub mod Tellable
 pub mod ImageLists
 pub mod Telling
 pub mod SameWords
-pub mod LeastBlock
+pub mod MinBlock
 pub mod HeadLaws
 pub mod HeadlineLaws

@@ -5,11 +5,11 @@ use Rattle.std.specs.List.{AllZip}
 use Rattle.std.proofs.lemmas.List.{take_all}
 use Rattle.std.proofs.lemmas.Option.{get_or_from_slice_get}
 use Rattle.std.proofs.lemmas.Slice.Zip.{length-zip, AllZip-long}
-use Rattle.pf_ints.specs.Images.{Picture}
-use Rattle.pf_terms.specs.declared.kernel.ImageDecl.{ImageDecl}
+use Rattle.pf_ints.specs.Meaning.Images.{Picture}
+use Rattle.pf_values.specs.declared.kernel.ImageDecl.{ImageDecl}
 use Rattle.pf_images.specs.declared.files.FilesFault.TheVariants.{Missing as MissingFault, Failed as FailedFault, Memory as MemoryFault}
-use Rattle.pf_images.specs.Outside.{Contents, SameContents, Puts, PutsPart}
-use Rattle.pf_images.specs.Pgm.{pgm_text}
+use Rattle.pf_images.specs.Meaning.Outside.{Contents, SameContents, Puts, PutsPart}
+use Rattle.pf_images.specs.Meaning.Pgm.{pgm_text}
 use Rattle.pf_top.specs.declared.image_files.ImageRefusal.{ImageRefusal}
 use Rattle.pf_top.specs.declared.image_files.ImageStop.{ImageStop}
 use Rattle.pf_top.specs.declared.judging.Stop.{Stop}
@@ -20,14 +20,15 @@ use Rattle.pf_top.specs.declared.run_verdict.NoImage.{NoImage as Why}
 use Rattle.pf_top.specs.declared.run_verdict.RunFile.TheVariants.{Text as TextFile, Image}
 use Rattle.pf_top.specs.declared.run_verdict.RunVerdict.{RunVerdict}
 use Rattle.pf_top.specs.declared.run_verdict.RunVerdict.TheVariants.{Done, Missing, ReadFailed, TextRefused, Count, ImageRefused, NoImage, WriteFailed, Memory}
-use Rattle.pf_top.specs.Courses.{Store, Course, Well, Lacking, Failing, Wanting, Went, Begins, Judged, Written}
-use Rattle.pf_top.specs.ImageFiles.{HoldsImage, HoldImages, IsImageFile, RefusesImage, image_limit, images_course}
-use Rattle.pf_top.specs.Running.{Language, Run, Holds, HoldsText, IsAmong, IsImageAmong, RunLeads, RanTo, files_read, run_course, run_file_name}
-use Rattle.pf_top.specs.RunSteps.{text_stopped, image_stopped, run_unwritten, StopsAt}
-use Rattle.pf_top.proofs.Courses.{After, after_none, after_then, after_judged, begins_before, changes_weaker, went_then, same_then, puts_then, puts_part_then}
+use Rattle.pf_top.specs.Meaning.StoreCalls.{Store, Calls, Well, Lacking, Failing, Wanting, StoreAfter, FileStartsWith}
+use Rattle.pf_top.specs.Steps.FileSteps.{Judged, Written, HoldImages, calls_of_images}
+use Rattle.pf_top.specs.Meaning.ImageFiles.{HoldsImage, IsImageFile, RefusesImage, image_limit}
+use Rattle.pf_top.specs.Meaning.Running.{Language, Run, FilesHold, HoldsText, IsAmong, IsImageAmong, RunEffect, RunEndsWith, files_read, calls_of_run, run_file_name}
+use Rattle.pf_top.specs.Steps.RunSteps.{text_stopped, image_stopped, run_unwritten, StopsAt}
+use Rattle.pf_top.proofs.StoreCalls.{After, after_none, after_then, after_judged, begins_before, changes_weaker, went_then, same_then, puts_then, puts_part_then}
 
-pub ran : {P R : Type 0} (l : Language P R) (r : Run) (b d : Store) (v : RunVerdict R) (c : Course) → IsAmong r v → c ≡ run_course r v → Went (RunLeads l r v) c b d → RanTo l r b v d
-ran l r b d v c among same went = record { among = among; went = subst (λ c. Went (RunLeads l r v) c b d) same went }
+pub ran : {P R : Type 0} (l : Language P R) (r : Run) (b d : Store) (v : RunVerdict R) (c : Calls) → IsAmong r v → c ≡ calls_of_run r v → StoreAfter (RunEffect l r v) c b d → RunEndsWith l r b v d
+ran l r b d v c among same went = record { among = among; went = subst (λ c. StoreAfter (RunEffect l r v) c b d) same went }
 
 -- what stands beside one another in a list of pairs
 left_of_pair : {A B : Type 0} (xs : List A) (ys : List B) (n : ℕ) (w : A × B) → slice_get (zip xs ys) n ≡ Some w → slice_get xs n ≡ Some w.0
@@ -47,7 +48,7 @@ written_verdict (Ok _) = Done
 written_verdict (Err u) = run_unwritten u
 
 -- the text's file was not read, or it holds no text
-pub stopped_text : {P R : Type 0} (l : Language P R) (r : Run) (s : Stop R) (b c : Store) → Judged {A = P} l.Means l.Refuses r.text (l.most + 1) b (Err s) c → RanTo l r b (text_stopped s) c
+pub stopped_text : {P R : Type 0} (l : Language P R) (r : Run) (s : Stop R) (b c : Store) → Judged {A = P} l.Means l.Refuses r.text (l.most + 1) b (Err s) c → RunEndsWith l r b (text_stopped s) c
 stopped_text l r (Unread MissingFault) b c step =
     ran l r b c (Missing TextFile) (Lacking 1) (omega arith) refl (record { contents = changes_weaker _ _ (λ m n q. (tt, q.0, q.1)) b.held c.held step.contents; faults = step.faults; calls = step.calls })
 stopped_text l r (Unread FailedFault) b c step =
@@ -60,7 +61,7 @@ stopped_text l r (Refused e) b c step =
 
 -- the text declares another number of images
 pub stopped_count : {P R : Type 0} (l : Language P R) (r : Run) (p : P) (want got : ℕ) (b c : Store) → Judged l.Means l.Refuses r.text (l.most + 1) b (Ok p) c
-    → want ≡ length (l.decls p) → got ≡ length r.images → want ≢ got → RanTo l r b (Count want got) c
+    → want ≡ length (l.decls p) → got ≡ length r.images → want ≢ got → RunEndsWith l r b (Count want got) c
 stopped_count l r p want got b c step declared there differ =
     ran l r b c (Count want got) (Well 1) tt refl (record { contents = changes_weaker _ _ (λ m n q. (p, q.0, declared, there, differ, q.1)) b.held c.held step.contents; faults = step.faults; calls = step.calls })
 
@@ -75,7 +76,7 @@ module _ {P R : Type 0} (l : Language P R) (r : Run) (p : P) (b c : Store) (one 
   has_text : After (λ m. HoldsText l r m p) 1 b c
   has_text = after_judged l.Means l.Refuses (λ _. Unit {0}) (λ m. HoldsText l r m p) r.text (l.most + 1) 0 b b c p (λ m _ is. is) (after_none b) one
 
-  holds : (m o : Contents) (n : ℕ) (pictures : List Picture) → HoldsText l r m p → SameContents m o → AllZip (HoldsImage o) (take n (zip r.images (l.decls p))) pictures → Holds l r m n p pictures
+  holds : (m o : Contents) (n : ℕ) (pictures : List Picture) → HoldsText l r m p → SameContents m o → AllZip (HoldsImage o) (take n (zip r.images (l.decls p))) pictures → FilesHold l r m n p pictures
   holds m o n pictures text same all = record { text = text; count = count; images = all_before m o same (take n (zip r.images (l.decls p))) pictures all }
 
   -- the reading of the images stopped
@@ -86,8 +87,8 @@ module _ {P R : Type 0} (l : Language P R) (r : Run) (p : P) (b c : Store) (one 
     abbrev Lead : Stop ImageRefusal → Contents → Contents → Type 0
     Lead s old new = HoldImages (zip r.images (l.decls p)) (Err (record { image = n; stop = s })) old × SameContents old new
 
-    abbrev Course-of : Stop ImageRefusal → Course
-    Course-of s = images_course (Err (record { image = n; stop = s }))
+    abbrev Course-of : Stop ImageRefusal → Calls
+    Course-of s = calls_of_images (Err (record { image = n; stop = s }))
 
     count_up : 1 + n + 1 ≡ n + 2
     count_up = omega arith
@@ -95,22 +96,22 @@ module _ {P R : Type 0} (l : Language P R) (r : Run) (p : P) (b c : Store) (one 
     among : n + 2 ≤ files_read r
     among = omega (arith, within)
 
-    pub image_stop : (s : Stop ImageRefusal) → Went (Lead s) (Course-of s) c d → RanTo l r b (image_stopped n s) d
+    pub image_stop : (s : Stop ImageRefusal) → StoreAfter (Lead s) (Course-of s) c d → RunEndsWith l r b (image_stopped n s) d
     image_stop (Refused e) step =
         ran l r b d (ImageRefused n e) (Well (1 + n + 1)) within (ap Well count_up)
-        (went_then _ (Lead (Refused e)) (RunLeads l r (ImageRefused n e)) 1 (Well (1 + n)) b c d
+        (went_then _ (Lead (Refused e)) (RunEffect l r (ImageRefused n e)) 1 (Well (1 + n)) b c d
         (λ m o q f g. (
           p,
           g.0.0,
           g.0.1.1,
           holds m o n g.0.0 f.0 f.1 g.0.2,
           right_of_pair r.images (l.decls p) n g.0.1 g.0.3,
-          subst (λ name. Begins name (image_limit + 1) (RefusesImage g.0.1.1.ty e) m) (named g.0.1 g.0.3) (begins_before g.0.1.0 (image_limit + 1) (RefusesImage g.0.1.1.ty e) m o f.1 g.0.4),
+          subst (λ name. FileStartsWith name (image_limit + 1) (RefusesImage g.0.1.1.ty e) m) (named g.0.1 g.0.3) (begins_before g.0.1.0 (image_limit + 1) (RefusesImage g.0.1.1.ty e) m o f.1 g.0.4),
           same_then m o q f.1 g.1,
         )) has_text step)
     image_stop (Unread MissingFault) step =
         ran l r b d (Missing (Image n)) (Lacking (1 + n + 1)) among (ap Lacking count_up)
-        (went_then _ (Lead (Unread MissingFault)) (RunLeads l r (Missing (Image n))) 1 (Lacking (1 + n)) b c d
+        (went_then _ (Lead (Unread MissingFault)) (RunEffect l r (Missing (Image n))) 1 (Lacking (1 + n)) b c d
         (λ m o q f g. (
           (p, g.0.0, holds m o n g.0.0 f.0 f.1 g.0.2, within),
           subst (λ name. m name ≡ None) (named g.0.1 g.0.3) (sym (f.1 g.0.1.0) ∙ g.0.4),
@@ -118,18 +119,18 @@ module _ {P R : Type 0} (l : Language P R) (r : Run) (p : P) (b c : Store) (one 
         )) has_text step)
     image_stop (Unread FailedFault) step =
         ran l r b d (ReadFailed (Image n)) (Failing (1 + n + 1)) among (ap Failing count_up)
-        (went_then _ (Lead (Unread FailedFault)) (RunLeads l r (ReadFailed (Image n))) 1 (Failing (1 + n)) b c d
+        (went_then _ (Lead (Unread FailedFault)) (RunEffect l r (ReadFailed (Image n))) 1 (Failing (1 + n)) b c d
         (λ m o q f g. ((p, g.0.0, holds m o n g.0.0 f.0 f.1 g.0.2, within), same_then m o q f.1 g.1)) has_text step)
     image_stop (Unread MemoryFault) step =
-        let went : Went SameContents (Wanting (1 + n + 1)) b d = went_then _ (Lead (Unread MemoryFault)) SameContents 1 (Wanting (1 + n)) b c d (λ m o q f g. same_then m o q f.1 g.1) has_text step in
+        let went : StoreAfter SameContents (Wanting (1 + n + 1)) b d = went_then _ (Lead (Unread MemoryFault)) SameContents 1 (Wanting (1 + n)) b c d (λ m o q f g. same_then m o q f.1 g.1) has_text step in
         ran l r b d Memory (Wanting (files_read r + 1)) tt refl
         (record { contents = went.contents; faults = went.faults; calls = (went.calls.0, omega (arith, went.calls.1, among), went.calls.2) })
 
   -- all images were read
   module _ (pictures : List Picture) (d : Store) (long : length pictures ≡ length r.images)
-      (two : Went (λ old new. AllZip (HoldsImage old) (zip r.images (l.decls p)) pictures × SameContents old new) (Well (length pictures)) c d) where
+      (two : StoreAfter (λ old new. AllZip (HoldsImage old) (zip r.images (l.decls p)) pictures × SameContents old new) (Well (length pictures)) c d) where
     abbrev All : Contents → Type 0
-    All m = Holds l r m (length r.images) p pictures
+    All m = FilesHold l r m (length r.images) p pictures
 
     whole : take (length r.images) (zip r.images (l.decls p)) ≡ zip r.images (l.decls p)
     whole = let zipped = length-zip r.images (l.decls p) in take_all (length r.images) (zip r.images (l.decls p)) (omega (arith, zipped))
@@ -141,7 +142,7 @@ module _ {P R : Type 0} (l : Language P R) (r : Run) (p : P) (b c : Store) (one 
         (λ m o same text all. holds m o (length r.images) pictures text same (subst (λ w. AllZip (HoldsImage o) w pictures) (sym whole) all)) has_text two in
         subst (λ k. After All (k + 1) b d) long went
 
-    pub no_image : (among_of : (e : Why) → length pictures ≡ length r.images → l.Ends p pictures (Err e) → IsImageAmong r e) (v : RunVerdict R) → StopsAt l p pictures v → RanTo l r b v d
+    pub no_image : (among_of : (e : Why) → length pictures ≡ length r.images → l.Ends p pictures (Err e) → IsImageAmong r e) (v : RunVerdict R) → StopsAt l p pictures v → RunEndsWith l r b v d
     no_image among_of (NoImage e) outputs =
         ran l r b d (NoImage e) (Well (files_read r)) (among_of e long outputs) refl
         (record { contents = changes_weaker _ _ (λ m n q. ((p, pictures, q.0, outputs), q.1)) b.held d.held has_all.contents; faults = has_all.faults; calls = has_all.calls })
@@ -161,37 +162,37 @@ module _ {P R : Type 0} (l : Language P R) (r : Run) (p : P) (b c : Store) (one 
       turned : 1 + files_read r ≡ files_read r + 1
       turned = omega arith
 
-      pub written : (w : Result ⊤ Unwritten) → Written r.out text d w e → RanTo l r b (written_verdict w) e
+      pub written : (w : Result ⊤ Unwritten) → Written r.out text d w e → RunEndsWith l r b (written_verdict w) e
       written (Ok z) step =
           ran l r b e Done (Well (1 + files_read r)) tt (ap Well turned)
-          (went_then _ _ (RunLeads l r Done) (files_read r) (Well 1) b d e (λ m n q f g. (o, (p, pictures, f.0, output), subst (λ t. Puts r.out t m q) spelled (puts_then r.out text m n q f.1 g))) has_all step)
+          (went_then _ _ (RunEffect l r Done) (files_read r) (Well 1) b d e (λ m n q f g. (o, (p, pictures, f.0, output), subst (λ t. Puts r.out t m q) spelled (puts_then r.out text m n q f.1 g))) has_all step)
       written (Err NotWritten) step =
           ran l r b e WriteFailed (Failing (1 + files_read r)) tt (ap Failing turned)
-          (went_then _ _ (RunLeads l r WriteFailed) (files_read r) (Failing 1) b d e (λ m n q f g. (o, (p, pictures, f.0, output), subst (λ t. PutsPart r.out t m q) spelled (puts_part_then r.out text m n q f.1 g))) has_all step)
+          (went_then _ _ (RunEffect l r WriteFailed) (files_read r) (Failing 1) b d e (λ m n q f g. (o, (p, pictures, f.0, output), subst (λ t. PutsPart r.out t m q) spelled (puts_part_then r.out text m n q f.1 g))) has_all step)
       written (Err NoMemory) step =
           ran l r b e Memory (Wanting (1 + files_read r)) tt (ap Wanting turned)
-          (went_then _ _ (RunLeads l r Memory) (files_read r) (Wanting 1) b d e (λ m n q f g. same_then m n q f.1 g) has_all step)
+          (went_then _ _ (RunEffect l r Memory) (files_read r) (Wanting 1) b d e (λ m n q f g. same_then m n q f.1 g) has_all step)
 
 -- the same over a list that is the declared images
 pub stopped_images : {P R : Type 0} (l : Language P R) (r : Run) (p : P) (b c d : Store) → Judged l.Means l.Refuses r.text (l.most + 1) b (Ok p) c → (decls : List ImageDecl) → decls ≡ (l.decls p) → length r.images ≡ length decls
-    → (s : ImageStop) → s.image < length r.images → Went (λ old new. HoldImages (zip r.images decls) (Err s) old × SameContents old new) (images_course (Err s)) c d → RanTo l r b (image_stopped s.image s.stop) d
+    → (s : ImageStop) → s.image < length r.images → StoreAfter (λ old new. HoldImages (zip r.images decls) (Err s) old × SameContents old new) (calls_of_images (Err s)) c d → RunEndsWith l r b (image_stopped s.image s.stop) d
 stopped_images l r p b c d one decls same count s within step =
     image_stop l r p b c one (count ∙ ap (λ (ds : List ImageDecl). length ds) same) d s.image within s.stop
-    (subst (λ ds. Went (λ old new. HoldImages (zip r.images ds) (Err s) old × SameContents old new) (images_course (Err s)) c d) same step)
+    (subst (λ ds. StoreAfter (λ old new. HoldImages (zip r.images ds) (Err s) old × SameContents old new) (calls_of_images (Err s)) c d) same step)
 
 module _ {P R : Type 0} (l : Language P R) (r : Run) (p : P) (b c d : Store) (one : Judged l.Means l.Refuses r.text (l.most + 1) b (Ok p) c) (decls : List ImageDecl) (same : decls ≡ (l.decls p)) (count : length r.images ≡ length decls)
-    (pictures : List Picture) (types : AllZip (λ e q. q.ty ≡ e.ty) decls pictures) (two : Went (λ old new. AllZip (HoldsImage old) (zip r.images decls) pictures × SameContents old new) (Well (length pictures)) c d) where
+    (pictures : List Picture) (types : AllZip (λ e q. q.ty ≡ e.ty) decls pictures) (two : StoreAfter (λ old new. AllZip (HoldsImage old) (zip r.images decls) pictures × SameContents old new) (Well (length pictures)) c d) where
   counted : length r.images ≡ length (l.decls p)
   counted = count ∙ ap (λ (ds : List ImageDecl). length ds) same
 
   long : length pictures ≡ length r.images
   long = AllZip-long (λ e q. q.ty ≡ e.ty) decls pictures types ∙ sym count
 
-  read : Went (λ old new. AllZip (HoldsImage old) (zip r.images (l.decls p)) pictures × SameContents old new) (Well (length pictures)) c d
-  read = subst (λ ds. Went (λ old new. AllZip (HoldsImage old) (zip r.images ds) pictures × SameContents old new) (Well (length pictures)) c d) same two
+  read : StoreAfter (λ old new. AllZip (HoldsImage old) (zip r.images (l.decls p)) pictures × SameContents old new) (Well (length pictures)) c d
+  read = subst (λ ds. StoreAfter (λ old new. AllZip (HoldsImage old) (zip r.images ds) pictures × SameContents old new) (Well (length pictures)) c d) same two
 
-  pub stopped_output : (among_of : (e : Why) → length pictures ≡ length r.images → l.Ends p pictures (Err e) → IsImageAmong r e) (v : RunVerdict R) → StopsAt l p pictures v → RanTo l r b v d
+  pub stopped_output : (among_of : (e : Why) → length pictures ≡ length r.images → l.Ends p pictures (Err e) → IsImageAmong r e) (v : RunVerdict R) → StopsAt l p pictures v → RunEndsWith l r b v d
   stopped_output among_of v stops = no_image l r p b c one counted pictures d long read among_of v stops
 
-  pub ended : (text items : List ℕ) (e : Store) (w : Result ⊤ Unwritten) → text ≡ items → (o : Picture) × l.Ends p pictures (Ok o) × (items ≡ pgm_text o) → Written r.out text d w e → RanTo l r b (written_verdict w) e
+  pub ended : (text items : List ℕ) (e : Store) (w : Result ⊤ Unwritten) → text ≡ items → (o : Picture) × l.Ends p pictures (Ok o) × (items ≡ pgm_text o) → Written r.out text d w e → RunEndsWith l r b (written_verdict w) e
   ended text items e w is output step = written l r p b c one counted pictures d long read output.0 output.1 text (is ∙ output.2) e w step

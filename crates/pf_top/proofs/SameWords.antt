@@ -1,6 +1,6 @@
 -- The words of a run are those of no other.
 use Rattle.std.proofs.Common.{◌≡◌, ℕ, suc, List, [], ◌∷◌, ◌++◌, length, length-append, refl, sym, ◌∙◌, ap, arith}
-use Rattle.pf_top.specs.Running.{Run, IsRun}
+use Rattle.pf_top.specs.Meaning.Running.{Run, IsRunCommand}
 
 -- lists that end in one item
 same_ends : (xs ys : List (List ℕ)) (x y : List ℕ) → xs ++ x ∷ [] ≡ ys ++ y ∷ [] → (xs ≡ ys) × (x ≡ y)
@@ -13,7 +13,7 @@ same_ends (a ∷ xs) (b ∷ ys) x y e =
     let rest = same_ends xs ys x y more in
     (rw (first, rest.0) refl, rest.1)
 
-pub same_run : (command : List ℕ) (words : List (List ℕ)) (r t : Run) → IsRun command words r → IsRun command words t → r ≡ t
+pub same_run : (command : List ℕ) (words : List (List ℕ)) (r t : Run) → IsRunCommand command words r → IsRunCommand command words t → r ≡ t
 same_run command words r t is also =
     let both : command ∷ r.text ∷ (r.images ++ r.out ∷ []) ≡ command ∷ t.text ∷ (t.images ++ t.out ∷ []) = sym is.0 ∙ also.0 in
     let text : r.text ≡ t.text = cc in

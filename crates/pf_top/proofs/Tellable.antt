@@ -1,27 +1,27 @@
 -- The faults that a run or an evaluation may have on as many images as declared, of their types, and the images that they name.
 use Rattle.std.proofs.Common.{◌≡◌, ℕ, ℤ, ◌+◌, ◌<◌, arith, List, [], ◌∷◌, length, Err, inl, inr}
 use Rattle.std.specs.List.{AllZip}
-use Rattle.pf_ints.specs.Images.{Picture}
-use Rattle.pf_terms.specs.declared.kernel.ImageDecl.{ImageDecl}
-use Rattle.pf_terms.specs.declared.names.Tap.{Tap}
-use Rattle.pf_kernel.specs.Kernels.{Meaning}
-use Rattle.pf_isa.specs.Programs.{Text}
-use Rattle.pf_isa.specs.Tables.{Table}
+use Rattle.pf_ints.specs.Meaning.Images.{Picture}
+use Rattle.pf_values.specs.declared.kernel.ImageDecl.{ImageDecl}
+use Rattle.pf_values.specs.declared.names.Tap.{Tap}
+use Rattle.pf_kernel.specs.Meaning.Kernels.{Meaning}
+use Rattle.pf_machine.specs.Meaning.Programs.{ProgramOf}
+use Rattle.pf_machine.specs.Meaning.Tables.{Table}
 use Rattle.pf_run.specs.declared.fault.RunFault.{RunFault}
 use Rattle.pf_run.specs.declared.fault.RunFault.TheVariants.{Text as TextAt, Set, Outside, Spent, Memory}
 use Rattle.pf_run.specs.declared.fault.SetFault.{SetFault}
 use Rattle.pf_run.specs.declared.fault.SetFault.TheVariants.{Count, Kind, Size, Pixel, NoOutput}
-use Rattle.pf_run.specs.Answers.{Ran}
-use Rattle.pf_run.specs.Sets.{IsFirstFault, IsSetFault}
+use Rattle.pf_run.specs.Meaning.Answers.{Ran}
+use Rattle.pf_run.specs.Meaning.Sets.{IsFirstBadImage, IsSetFault}
 use Rattle.pf_top.specs.declared.run_verdict.NoImage.{NoImage}
 use Rattle.pf_top.specs.declared.run_verdict.NoImage.TheVariants.{Size as NoImageSize, Pixel as NoImagePixel, NoOutput as NoImageNoOutput, Outside as NoImageOutside, Spent as NoImageSpent}
-use Rattle.pf_top.specs.KernelFiles.{Evaluates}
-use Rattle.pf_top.specs.Running.{Run, IsImageAmong}
-use Rattle.pf_top.specs.RunSteps.{IsTellable}
-use Rattle.pf_top.specs.TextFiles.{fault_of}
+use Rattle.pf_top.specs.Meaning.KernelFiles.{Evaluates}
+use Rattle.pf_top.specs.Meaning.Running.{Run, IsImageAmong}
+use Rattle.pf_top.specs.Steps.RunSteps.{IsTellable}
+use Rattle.pf_top.specs.Meaning.TextFiles.{fault_of}
 
 -- no image is of another type
-no_kind : (width height number image : ℕ) (decls : List ImageDecl) (pictures : List Picture) → AllZip (λ d p. p.ty ≡ d.ty) decls pictures → IsFirstFault width height number decls pictures (Kind image) → ⊥
+no_kind : (width height number image : ℕ) (decls : List ImageDecl) (pictures : List Picture) → AllZip (λ d p. p.ty ≡ d.ty) decls pictures → IsFirstBadImage width height number decls pictures (Kind image) → ⊥
 no_kind width height number image [] pictures types fault = fault
 no_kind width height number image (d ∷ ds) [] types fault = fault
 no_kind width height number image (d ∷ ds) (p ∷ ps) types (inl here) = here.1 types.0
@@ -34,7 +34,7 @@ tellable_set decls taps pictures (Size image width height) count types is = tt
 tellable_set decls taps pictures (Pixel image x y value) count types is = tt
 tellable_set decls taps pictures NoOutput count types is = tt
 
-pub tellable : {I O : Type 0} (t : Table O) (p : Text I O) (pictures : List Picture) (fault : RunFault)
+pub tellable : {I O : Type 0} (t : Table O) (p : ProgramOf I O) (pictures : List Picture) (fault : RunFault)
     → length pictures ≡ length p.head.images → AllZip (λ d q. q.ty ≡ d.ty) p.head.images pictures → Ran t p pictures (Err fault) → IsTellable fault
 tellable t p pictures (TextAt line kind) count types ran = ran
 tellable t p pictures (Set fault) count types ran = tellable_set p.head.images p.head.taps pictures fault count types ran.1
@@ -43,19 +43,19 @@ tellable t p pictures (Spent steps) count types ran = tt
 tellable t p pictures Memory count types ran = tt
 
 -- the image that a fault names is one of them
-size_within : (width height number : ℕ) (decls : List ImageDecl) (pictures : List Picture) (image w h : ℕ) → IsFirstFault width height number decls pictures (Size image w h) → image < number + length pictures
+size_within : (width height number : ℕ) (decls : List ImageDecl) (pictures : List Picture) (image w h : ℕ) → IsFirstBadImage width height number decls pictures (Size image w h) → image < number + length pictures
 size_within width height number [] pictures image w h fault = absurd fault
 size_within width height number (d ∷ ds) [] image w h fault = absurd fault
 size_within width height number (d ∷ ds) (p ∷ ps) image w h (inl here) = let same : image ≡ number = here.0 in omega (arith, same)
 size_within width height number (d ∷ ds) (p ∷ ps) image w h (inr next) = let low = size_within width height (number + 1) ds ps image w h next.1 in omega (arith, low)
 
-pixel_within : (width height number : ℕ) (decls : List ImageDecl) (pictures : List Picture) (image x y : ℕ) (n : ℤ) → IsFirstFault width height number decls pictures (Pixel image x y n) → image < number + length pictures
+pixel_within : (width height number : ℕ) (decls : List ImageDecl) (pictures : List Picture) (image x y : ℕ) (n : ℤ) → IsFirstBadImage width height number decls pictures (Pixel image x y n) → image < number + length pictures
 pixel_within width height number [] pictures image x y n fault = absurd fault
 pixel_within width height number (d ∷ ds) [] image x y n fault = absurd fault
 pixel_within width height number (d ∷ ds) (p ∷ ps) image x y n (inl here) = let same : image ≡ number = here.0 in omega (arith, same)
 pixel_within width height number (d ∷ ds) (p ∷ ps) image x y n (inr next) = let low = pixel_within width height (number + 1) ds ps image x y n next.1 in omega (arith, low)
 
-pub image_among : {I O : Type 0} (t : Table O) (p : Text I O) (r : Run) (pictures : List Picture) (e : NoImage) → length pictures ≡ length r.images → Ran t p pictures (Err (fault_of e)) → IsImageAmong r e
+pub image_among : {I O : Type 0} (t : Table O) (p : ProgramOf I O) (r : Run) (pictures : List Picture) (e : NoImage) → length pictures ≡ length r.images → Ran t p pictures (Err (fault_of e)) → IsImageAmong r e
 image_among t p r pictures (NoImageSize image w h) long ran = let low = size_within _ _ 0 p.head.images pictures image w h ran.1.1 in omega (arith, low, long)
 image_among t p r pictures (NoImagePixel image x y n) long ran = let low = pixel_within _ _ 0 p.head.images pictures image x y n ran.1.1 in omega (arith, low, long)
 image_among t p r pictures NoImageNoOutput long ran = tt

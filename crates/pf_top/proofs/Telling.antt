@@ -3,10 +3,10 @@ use Rattle.std.proofs.Common.{◌≡◌, ◌≢◌, ℕ, zero, suc, ◌≤◌, �
 use Rattle.std.specs.Prelude.{⊤, codes}
 use Rattle.pf_images.specs.declared.files.FilesFault.{FilesFault}
 use Rattle.pf_images.specs.declared.files.FilesFault.TheVariants.{Missing as MissingFault, Failed as FailedFault, Memory as MemoryFault}
-use Rattle.pf_images.specs.Counts.{raised, raised_by, Rose}
-use Rattle.pf_images.specs.Outside.{Changes, Appends, AppendsPart, Adds, HasCause}
-use Rattle.pf_top.specs.Statuses.{due, line_of, memory_line, wanting, write_failed, Output, Told}
-use Rattle.pf_top.proofs.Courses.{changes_then, changes_weaker}
+use Rattle.pf_images.specs.Meaning.Counts.{raised, raised_by, Rose}
+use Rattle.pf_images.specs.Meaning.Outside.{Changes, Appends, AppendsPart, Adds, HasCause}
+use Rattle.pf_top.specs.Meaning.Statuses.{report, line_of, memory_line, wanting, write_failed, Output, ReportsLine}
+use Rattle.pf_top.proofs.StoreCalls.{changes_then, changes_weaker}
 
 -- nothing was appended in so many calls
 pub record Quiet (count : ℕ) (before after : Output) : Type 0 where
@@ -26,7 +26,7 @@ no_part zero = refl
 no_part (suc count) = refl
 
 -- what was told of wanting memory after nothing was put is told of the line that memory was wanting for
-pub want_after : (count status : ℕ) (line : List ℕ) (b m a : Output) (n : ℕ) → count ≤ 1 → Quiet count b m → Told wanting m n a → a.calls ≡ raised m.calls → Told (due status line) b n a
+pub want_after : (count status : ℕ) (line : List ℕ) (b m a : Output) (n : ℕ) → count ≤ 1 → Quiet count b m → ReportsLine wanting m n a → a.calls ≡ raised m.calls → ReportsLine (report status line) b n a
 unfolding wanting
 want_after count status line b m a n few quiet (inl said) counted = inr (inr (record {
   status = said.status;
@@ -61,7 +61,7 @@ quiet_put b m written faults calls = record { written = written; faults = faults
 
 -- whatever the put of the line on a failed write answers, 4 is the status
 pub told_write_failed : (name line : List ℕ) (b a : Output) (r : Result ⊤ FilesFault) → line ≡ line_of (codes "write failed: " ∷ name ∷ [])
-    → Adds line b.written a.written r → HasCause b.faults a.faults r → r ≢ Err MissingFault → a.calls ≡ raised b.calls → Told (write_failed name) b 4 a
+    → Adds line b.written a.written r → HasCause b.faults a.faults r → r ≢ Err MissingFault → a.calls ≡ raised b.calls → ReportsLine (write_failed name) b 4 a
 unfolding write_failed
 told_write_failed name line b a (Ok _) is written cause there calls = inl (record { status = refl; written = subst (λ u. Changes (Appends u) b.written a.written) is written; faults = cause; calls = calls })
 told_write_failed name line b a (Err FailedFault) is written cause there calls = inr (inl (record {

@@ -1,16 +1,2 @@
-pub mod Courses
-pub mod ImageFiles
-pub mod Least
-pub mod Headline
-pub mod KernelFiles
-pub mod KernelStatuses
-pub mod Running
-pub mod Completeness
-pub mod RunStatuses
-pub mod RunSteps
-pub mod Selected
-pub mod Selections
-pub mod SelectStatuses
-pub mod Statuses
+pub mod Meaning
 pub mod Steps
-pub mod TextFiles

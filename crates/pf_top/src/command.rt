@@ -1,7 +1,7 @@
 ghost use Rattle.std.specs.Prelude.{◌≡◌, MatchOption, map, string_bytes};
-ghost use Rattle.pf_ints.specs.Targets.{target_word};
-ghost use Rattle.pf_top.specs.Selections.{Select, IsSelect};
-ghost use Rattle.pf_top.specs.Steps.{the_words};
+ghost use Rattle.pf_ints.specs.Meaning.Targets.{target_word};
+ghost use Rattle.pf_top.specs.Meaning.Selections.{Select, IsSelect};
+ghost use Rattle.pf_top.specs.Steps.SelectSteps.{the_words};
 
 use pf_ints::Target;
 

@@ -2,10 +2,10 @@
 
 ghost use Rattle.std.specs.Prelude.{◌≡◌, length};
 ghost use Rattle.std.specs.List.{AllZip};
-ghost use Rattle.pf_top.specs.Courses.{seen};
-ghost use Rattle.pf_top.specs.KernelFiles.{kernels};
-ghost use Rattle.pf_top.specs.Running.{RanTo};
-ghost use Rattle.pf_top.specs.RunSteps.{the_run, run_verdict_of, Outputs};
+ghost use Rattle.pf_top.specs.Meaning.StoreCalls.{seen};
+ghost use Rattle.pf_top.specs.Meaning.KernelFiles.{kernels};
+ghost use Rattle.pf_top.specs.Meaning.Running.{RunEndsWith};
+ghost use Rattle.pf_top.specs.Steps.RunSteps.{the_run, run_verdict_of, Outputs};
 
 use crate::image_files::read_images;
 use crate::judging::write_file;
@@ -45,7 +45,7 @@ fn eval_files<F: Files>(
     words: &RunWords<'_>,
     files: &mut F,
 ) -> Result<(), RunVerdict<KernelRefusal>>
-    ensures { RanTo kernels (the_run words.now) (seen F.held F.faults F.calls files.old) (run_verdict_of result)
+    ensures { RunEndsWith kernels (the_run words.now) (seen F.held F.faults F.calls files.old) (run_verdict_of result)
         (seen F.held F.faults F.calls files.new) }
 {
     let kernel = read_kernel_file(alloc, files, words.text)?;
@@ -64,7 +64,7 @@ pub fn eval<F: Files>(
     words: &RunWords<'_>,
     files: &mut F,
 ) -> RunVerdict<KernelRefusal>
-    ensures { RanTo kernels (the_run words.now) (seen F.held F.faults F.calls files.old) result
+    ensures { RunEndsWith kernels (the_run words.now) (seen F.held F.faults F.calls files.old) result
         (seen F.held F.faults F.calls files.new) }
 {
     match eval_files(alloc, words, files) {

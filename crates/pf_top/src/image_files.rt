@@ -2,11 +2,12 @@
 
 ghost use Rattle.std.specs.Prelude.{◌≡◌, ◌+◌, ◌<◌, ◌≤◌, length, All, IfOk, IfErr, map, zip, string_bytes};
 ghost use Rattle.std.specs.List.{AllZip};
-ghost use Rattle.pf_ints.specs.Images.{IsPixelType};
-ghost use Rattle.pf_images.specs.Outside.{SameContents};
-ghost use Rattle.pf_top.specs.Courses.{seen, Judged, Went};
-ghost use Rattle.pf_top.specs.ImageFiles.{image_limit, IsImageFile, RefusesImage, HoldImages, images_course};
-ghost use Rattle.pf_top.specs.Steps.{Finds};
+ghost use Rattle.pf_ints.specs.Meaning.Images.{IsPixelType};
+ghost use Rattle.pf_images.specs.Meaning.Outside.{SameContents};
+ghost use Rattle.pf_top.specs.Meaning.StoreCalls.{seen, StoreAfter};
+ghost use Rattle.pf_top.specs.Steps.FileSteps.{Judged, HoldImages, calls_of_images};
+ghost use Rattle.pf_top.specs.Meaning.ImageFiles.{image_limit, IsImageFile, RefusesImage};
+ghost use Rattle.pf_top.specs.Steps.SelectSteps.{JudgesBytes};
 
 use crate::judging::{Stop, read_front};
 use pf_images::{Files, FilesFault, ImageFault, PgmKind, read_pgm};
@@ -32,7 +33,7 @@ pub struct ImageStop {
 }
 
 /// The most bytes of a file of an image.
-#[tactic(auto, unfolding(crate::specs::ImageFiles::image_limit))]
+#[tactic(auto, unfolding(crate::specs::Meaning::ImageFiles::image_limit))]
 fn image_limit() -> u64
     ensures value { result ≡ image_limit }
     ensures low { result < 4294967296 }
@@ -43,7 +44,7 @@ fn image_limit() -> u64
 /// The image that the bytes of a file are.
 fn image_of(alloc: Global, bytes: &[u8], ty: LaneType) -> Result<Image, Stop<ImageRefusal>>
     requires { IsPixelType ty }
-    ensures found { Finds (IsImageFile ty) (RefusesImage ty) result bytes.now }
+    ensures found { JudgesBytes (IsImageFile ty) (RefusesImage ty) result bytes.now }
     ensures ty { IfOk result (λ image. image.ty ≡ ty) }
 {
     if bytes.len() as u64 > image_limit() {
@@ -81,8 +82,8 @@ pub fn read_images<F: Files>(
 ) -> Result<ImageSet, ImageStop>
     requires count { length names.now ≡ length decls.now }
     requires types { All (λ d. IsPixelType d.ty) decls.now }
-    ensures read { Went (λ old new. HoldImages (zip (map string_bytes names.now) decls.now) result old × SameContents old new)
-        (images_course result)
+    ensures read { StoreAfter (λ old new. HoldImages (zip (map string_bytes names.now) decls.now) result old × SameContents old new)
+        (calls_of_images result)
         (seen F.held F.faults F.calls files.old) (seen F.held F.faults F.calls files.new) }
     ensures within { IfErr result (λ s. s.image < length names.now) }
     ensures types { IfOk result (λ images. AllZip (λ d p. p.ty ≡ d.ty) decls.now images) }

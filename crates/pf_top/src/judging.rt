@@ -1,7 +1,8 @@
 //! The calls of a store, one file at a time, whatever the command.
 
 ghost use Rattle.std.specs.Prelude.{◌≡◌};
-ghost use Rattle.pf_top.specs.Courses.{seen, Read, Written};
+ghost use Rattle.pf_top.specs.Meaning.StoreCalls.{seen};
+ghost use Rattle.pf_top.specs.Steps.FileSteps.{Read, Written};
 
 use pf_images::{Files, FilesFault};
 use std::alloc::{AllocError, Global};

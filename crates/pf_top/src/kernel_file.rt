@@ -1,10 +1,11 @@
 //! The file of a kernel.
 
 ghost use Rattle.std.specs.Prelude.{◌≡◌, ◌+◌, ◌<◌, MatchOption};
-ghost use Rattle.pf_kernel.specs.Texts.{byte_limit};
-ghost use Rattle.pf_top.specs.Courses.{seen, Judged};
-ghost use Rattle.pf_top.specs.KernelFiles.{kernel_fault, IsKernelFile, RefusesKernel};
-ghost use Rattle.pf_top.specs.Steps.{Finds};
+ghost use Rattle.pf_kernel.specs.Meaning.Texts.{byte_limit};
+ghost use Rattle.pf_top.specs.Meaning.StoreCalls.{seen};
+ghost use Rattle.pf_top.specs.Steps.FileSteps.{Judged};
+ghost use Rattle.pf_top.specs.Meaning.KernelFiles.{kernel_fault, IsKernelFile, RefusesKernel};
+ghost use Rattle.pf_top.specs.Steps.SelectSteps.{JudgesBytes};
 
 use crate::judging::{Stop, read_front};
 use pf_images::{Files, FilesFault};
@@ -40,7 +41,7 @@ pub enum KernelRefusal {
 }
 
 /// The most bytes of a kernel's text.
-#[tactic(auto, unfolding(pf_kernel::specs::Texts::byte_limit))]
+#[tactic(auto, unfolding(pf_kernel::specs::Meaning::Texts::byte_limit))]
 fn byte_limit() -> u64
     ensures value { result ≡ byte_limit }
     ensures low { result < 4294967296 }
@@ -63,7 +64,7 @@ fn refusal_of(fault: KernelFault) -> Option<KernelRefusal>
 
 /// The kernel that the text is of.
 fn kernel_of(alloc: Global, text: &[u8]) -> Result<Kernel, Stop<KernelRefusal>>
-    ensures { Finds IsKernelFile RefusesKernel result text.now }
+    ensures { JudgesBytes IsKernelFile RefusesKernel result text.now }
 {
     match read_kernel(alloc, text) {
         Ok(kernel) => Ok(kernel),

@@ -1,9 +1,8 @@
 //! The lines of a kernel that is refused.
 
 ghost use Rattle.std.specs.Prelude.{◌≡◌};
-ghost use Rattle.pf_top.specs.KernelStatuses.{kernel_due};
-ghost use Rattle.pf_top.specs.Statuses.{Told};
-ghost use Rattle.pf_top.specs.Steps.{seen_output};
+ghost use Rattle.pf_top.specs.Meaning.KernelStatuses.{report_of_kernel};
+ghost use Rattle.pf_top.specs.Meaning.Statuses.{ReportsLine, seen_output};
 
 use crate::kernel_file::KernelRefusal;
 use crate::report::{Piece, tell};
@@ -13,7 +12,7 @@ use std::alloc::Global;
 
 /// Puts why a kernel is refused, and answers the status.
 pub fn tell_kernel<S: Sink>(alloc: Global, out: &mut S, name: &[u8], refusal: KernelRefusal) -> u8
-    ensures { Told (kernel_due name.now refusal)
+    ensures { ReportsLine (report_of_kernel name.now refusal)
         (seen_output S.written S.faults S.calls out.old) result
         (seen_output S.written S.faults S.calls out.new) }
 {
@@ -49,7 +48,7 @@ pub fn tell_kernel<S: Sink>(alloc: Global, out: &mut S, name: &[u8], refusal: Ke
 
 /// Puts at which column a line of a kernel has its first fault, and answers the status.
 fn tell_syntax<S: Sink>(alloc: Global, out: &mut S, name: &[u8], line: u32, column: u64) -> u8
-    ensures { Told (kernel_due name.now (KernelRefusal.Syntax line column))
+    ensures { ReportsLine (report_of_kernel name.now (KernelRefusal.Syntax line column))
         (seen_output S.written S.faults S.calls out.old) result
         (seen_output S.written S.faults S.calls out.new) }
 {
@@ -76,7 +75,7 @@ fn tell_types<S: Sink>(
     want: LaneType,
     got: LaneType,
 ) -> u8
-    ensures { Told (kernel_due name.now (KernelRefusal.Types line want got))
+    ensures { ReportsLine (report_of_kernel name.now (KernelRefusal.Types line want got))
         (seen_output S.written S.faults S.calls out.old) result
         (seen_output S.written S.faults S.calls out.new) }
 {

@@ -7,7 +7,7 @@ mod image_files;
 mod judging;
 mod kernel_file;
 mod kernel_report;
-mod least_program;
+mod min_program;
 mod operands;
 mod report;
 mod run;

@@ -1,5 +1,5 @@
 ghost use Rattle.std.specs.Prelude.{◌≡◌, ◌↔◌, ◌<◌, ℕ, All, MatchOption, length, true};
-ghost use Rattle.pf_top.specs.Least.{byte_type, tap_term, least_term, AreTapsOf, IsLeastOf};
+ghost use Rattle.pf_top.specs.Meaning.MinOfTaps.{byte_type, tap_term, min_term, AreTapsOf, IsMinOfTaps};
 
 use pf_ints::LaneType;
 use pf_kernel::Kernel;
@@ -42,8 +42,8 @@ fn tap_of(term: &Term) -> Option<u8>
 
 /// The taps that a term is the lesser of.
 fn taps_of(term: &Term) -> Option<Operands>
-    ensures { MatchOption result ((m n : ℕ) → term.now ≡ least_term byte_type m n → ⊥)
-        (λ o. term.now ≡ least_term byte_type o.first o.second) }
+    ensures { MatchOption result ((m n : ℕ) → term.now ≡ min_term byte_type m n → ⊥)
+        (λ o. term.now ≡ min_term byte_type o.first o.second) }
 {
     let Term::Node {
         op: Op::Min,
@@ -69,8 +69,8 @@ fn taps_of(term: &Term) -> Option<Operands>
 /// its output are of u8.
 #[tactic(auto, using(crate::proofs::HeadLaws::taps_known))]
 pub fn operands_of(kernel: &Kernel) -> Option<Operands>
-    ensures { MatchOption result ((m n : ℕ) → IsLeastOf kernel.now.source m n → ⊥)
-        (λ o. IsLeastOf kernel.now.source o.first o.second) }
+    ensures { MatchOption result ((m n : ℕ) → IsMinOfTaps kernel.now.source m n → ⊥)
+        (λ o. IsMinOfTaps kernel.now.source o.first o.second) }
 {
     let taps = kernel.names().taps.as_slice();
     if !kernel.defs().is_empty()

@@ -1,11 +1,12 @@
 ghost use Rattle.std.specs.Prelude.{◌≡◌, [], ◌∷◌, ◌++◌, map, IfOk, OnOk};
-ghost use Rattle.pf_images.specs.Counts.{raised};
-ghost use Rattle.pf_top.specs.Statuses.{due, line_of, memory_line, wanting, write_failed, usage, Told};
-ghost use Rattle.pf_top.specs.Steps.{seen_output, piece_text};
+ghost use Rattle.pf_images.specs.Meaning.Counts.{raised};
+ghost use Rattle.pf_top.specs.Meaning.Statuses.{report, line_of, memory_line, wanting, write_failed, usage, ReportsLine, seen_output};
+ghost use Rattle.pf_top.specs.Steps.SelectSteps.{piece_text};
 
 use pf_images::{FilesFault, Sink};
-use pf_ints::{LaneType, Memory, push_number, push_whole};
+use pf_ints::{LaneType, Memory};
 use pf_terms::write_type;
+use pf_text::{push_number, push_whole};
 use std::alloc::Global;
 
 /// A piece of a line: a word, a number in decimal digits, behind `-` where it is negative, or the
@@ -42,9 +43,9 @@ fn line_of(alloc: Global, pieces: &[Piece<'_>]) -> Result<Vec<u8>, Memory>
 }
 
 /// Puts that memory is wanting, and answers 13, or 4 where the output failed.
-#[tactic(auto, unfolding(crate::specs::Statuses::wanting, crate::specs::Statuses::memory_line))]
+#[tactic(auto, unfolding(crate::specs::Meaning::Statuses::wanting, crate::specs::Meaning::Statuses::memory_line))]
 pub fn tell_want<S: Sink>(alloc: Global, out: &mut S) -> u8
-    ensures told { Told wanting (seen_output S.written S.faults S.calls out.old) result
+    ensures told { ReportsLine wanting (seen_output S.written S.faults S.calls out.old) result
         (seen_output S.written S.faults S.calls out.new) }
     ensures calls { S.calls out.new ≡ raised (S.calls out.old) }
 {
@@ -56,7 +57,7 @@ pub fn tell_want<S: Sink>(alloc: Global, out: &mut S) -> u8
 
 /// Puts the line, and answers the status, 4 where the output failed, or 13 where memory is wanting.
 pub fn tell<S: Sink>(alloc: Global, out: &mut S, status: u8, pieces: &[Piece<'_>]) -> u8
-    ensures { Told (due status (line_of (map piece_text pieces.now))) (seen_output S.written S.faults S.calls out.old)
+    ensures { ReportsLine (report status (line_of (map piece_text pieces.now))) (seen_output S.written S.faults S.calls out.old)
         result (seen_output S.written S.faults S.calls out.new) }
 {
     let Ok(line) = line_of(alloc, pieces) else {
@@ -71,9 +72,9 @@ pub fn tell<S: Sink>(alloc: Global, out: &mut S, status: u8, pieces: &[Piece<'_>
 }
 
 /// Puts that the write of OUT failed, and answers 4 in every case.
-#[tactic(auto, unfolding(crate::specs::Statuses::write_failed))]
+#[tactic(auto, unfolding(crate::specs::Meaning::Statuses::write_failed))]
 pub fn tell_write_failed<S: Sink>(alloc: Global, out: &mut S, name: &[u8]) -> u8
-    ensures { Told (write_failed name.now) (seen_output S.written S.faults S.calls out.old) result
+    ensures { ReportsLine (write_failed name.now) (seen_output S.written S.faults S.calls out.old) result
         (seen_output S.written S.faults S.calls out.new) }
 {
     if let Ok(line) = line_of(alloc, &[Piece::Word(b"write failed: "), Piece::Word(name)]) {
@@ -83,9 +84,9 @@ pub fn tell_write_failed<S: Sink>(alloc: Global, out: &mut S, name: &[u8]) -> u8
 }
 
 /// Puts the line on the words that are of no form.
-#[tactic(auto, unfolding(crate::specs::Statuses::usage))]
+#[tactic(auto, unfolding(crate::specs::Meaning::Statuses::usage))]
 pub fn tell_usage<S: Sink>(alloc: Global, out: &mut S) -> u8
-    ensures { Told usage (seen_output S.written S.faults S.calls out.old) result
+    ensures { ReportsLine usage (seen_output S.written S.faults S.calls out.old) result
         (seen_output S.written S.faults S.calls out.new) }
 {
     let line = b"usage: pitchfork select|check|run|eval|explain|demo";
@@ -94,7 +95,7 @@ pub fn tell_usage<S: Sink>(alloc: Global, out: &mut S) -> u8
 
 /// Puts the line of the words, and answers the status.
 pub fn tell_named<S: Sink>(alloc: Global, out: &mut S, status: u8, head: &[u8], name: &[u8]) -> u8
-    ensures { Told (due status (line_of (head.now ∷ name.now ∷ [])))
+    ensures { ReportsLine (report status (line_of (head.now ∷ name.now ∷ [])))
         (seen_output S.written S.faults S.calls out.old) result
         (seen_output S.written S.faults S.calls out.new) }
 {

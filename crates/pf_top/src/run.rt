@@ -2,11 +2,11 @@
 
 ghost use Rattle.std.specs.Prelude.{◌≡◌, ◌<◌, ◌^◌, length, Some};
 ghost use Rattle.std.specs.List.{AllZip};
-ghost use Rattle.pf_top.specs.Courses.{seen};
-ghost use Rattle.pf_top.specs.KernelFiles.{set_fault};
-ghost use Rattle.pf_top.specs.Running.{RanTo};
-ghost use Rattle.pf_top.specs.RunSteps.{the_run, run_verdict_of, Counted, IsTellable, IsVerdictOf, Outputs};
-ghost use Rattle.pf_top.specs.TextFiles.{fault_of, programs};
+ghost use Rattle.pf_top.specs.Meaning.StoreCalls.{seen};
+ghost use Rattle.pf_top.specs.Meaning.KernelFiles.{set_fault};
+ghost use Rattle.pf_top.specs.Meaning.Running.{RunEndsWith};
+ghost use Rattle.pf_top.specs.Steps.RunSteps.{the_run, run_verdict_of, Counted, IsTellable, IsVerdictOf, Outputs};
+ghost use Rattle.pf_top.specs.Meaning.TextFiles.{fault_of, programs};
 
 use crate::image_files::read_images;
 use crate::judging::write_file;
@@ -103,7 +103,7 @@ fn run_files<F: Files>(
     words: &RunWords<'_>,
     files: &mut F,
 ) -> Result<(), RunVerdict<TextRefusal>>
-    ensures { RanTo programs (the_run words.now) (seen F.held F.faults F.calls files.old) (run_verdict_of result)
+    ensures { RunEndsWith programs (the_run words.now) (seen F.held F.faults F.calls files.old) (run_verdict_of result)
         (seen F.held F.faults F.calls files.new) }
 {
     let program = read_program(alloc, files, words.text)?;
@@ -117,7 +117,7 @@ fn run_files<F: Files>(
 
 /// What the command `run` comes to.
 pub fn run<F: Files>(alloc: Global, words: &RunWords<'_>, files: &mut F) -> RunVerdict<TextRefusal>
-    ensures { RanTo programs (the_run words.now) (seen F.held F.faults F.calls files.old) result
+    ensures { RunEndsWith programs (the_run words.now) (seen F.held F.faults F.calls files.old) result
         (seen F.held F.faults F.calls files.new) }
 {
     match run_files(alloc, words, files) {

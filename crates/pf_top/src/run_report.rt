@@ -1,12 +1,11 @@
 //! The lines of `run` and `eval`.
 
 ghost use Rattle.std.specs.Prelude.{◌≡◌, ℕ, List};
-ghost use Rattle.pf_top.specs.KernelStatuses.{kernel_due};
-ghost use Rattle.pf_top.specs.Running.{run_file_name};
-ghost use Rattle.pf_top.specs.RunStatuses.{text_due, image_due, count_due, size_due, pixel_due, outside_due, spent_due, no_image_due, run_due};
-ghost use Rattle.pf_top.specs.RunSteps.{the_run};
-ghost use Rattle.pf_top.specs.Statuses.{Due, Told, Tells};
-ghost use Rattle.pf_top.specs.Steps.{seen_output};
+ghost use Rattle.pf_top.specs.Meaning.KernelStatuses.{report_of_kernel};
+ghost use Rattle.pf_top.specs.Meaning.Running.{run_file_name};
+ghost use Rattle.pf_top.specs.Meaning.RunStatuses.{report_of_text, report_of_image, report_of_count, report_of_size, report_of_pixel, report_of_outside, report_of_spent, report_of_no_image, report_of_run};
+ghost use Rattle.pf_top.specs.Steps.RunSteps.{the_run};
+ghost use Rattle.pf_top.specs.Meaning.Statuses.{Report, ReportsLine, Reports, seen_output};
 
 use crate::image_files::ImageRefusal;
 use crate::kernel_file::KernelRefusal;
@@ -20,17 +19,17 @@ use std::alloc::Global;
 
 /// Why a text is refused.
 pub trait Refusal {
-    /// What is due, by the name of the text's file.
-    ghost told: { List ℕ → Self → Due };
+    /// The report, by the name of the text's file.
+    ghost told: { List ℕ → Self → Report };
 
     /// Puts it, and answers the status.
     fn tell<S: Sink>(self, alloc: Global, out: &mut S, name: &[u8]) -> u8
-        ensures { Told (told name.now self) (seen_output S.written S.faults S.calls out.old) result
+        ensures { ReportsLine (told name.now self) (seen_output S.written S.faults S.calls out.old) result
             (seen_output S.written S.faults S.calls out.new) };
 }
 
 impl Refusal for TextRefusal {
-    ghost told = { text_due };
+    ghost told = { report_of_text };
 
     fn tell<S: Sink>(self, alloc: Global, out: &mut S, name: &[u8]) -> u8 {
         tell_text(alloc, out, name, self)
@@ -38,7 +37,7 @@ impl Refusal for TextRefusal {
 }
 
 impl Refusal for KernelRefusal {
-    ghost told = { kernel_due };
+    ghost told = { report_of_kernel };
 
     fn tell<S: Sink>(self, alloc: Global, out: &mut S, name: &[u8]) -> u8 {
         tell_kernel(alloc, out, name, self)
@@ -60,7 +59,7 @@ fn file_name<'a>(words: &RunWords<'a>, file: RunFile) -> &'a [u8]
 
 /// Puts why a text is not run, and answers the status.
 fn tell_text<S: Sink>(alloc: Global, out: &mut S, name: &[u8], refusal: TextRefusal) -> u8
-    ensures { Told (text_due name.now refusal)
+    ensures { ReportsLine (report_of_text name.now refusal)
         (seen_output S.written S.faults S.calls out.old) result
         (seen_output S.written S.faults S.calls out.new) }
 {
@@ -94,7 +93,7 @@ fn tell_text<S: Sink>(alloc: Global, out: &mut S, name: &[u8], refusal: TextRefu
 
 /// Puts why the file of an image is refused, and answers the status.
 fn tell_image<S: Sink>(alloc: Global, out: &mut S, name: &[u8], refusal: ImageRefusal) -> u8
-    ensures { Told (image_due name.now refusal)
+    ensures { ReportsLine (report_of_image name.now refusal)
         (seen_output S.written S.faults S.calls out.old) result
         (seen_output S.written S.faults S.calls out.new) }
 {
@@ -122,7 +121,7 @@ fn tell_image<S: Sink>(alloc: Global, out: &mut S, name: &[u8], refusal: ImageRe
 
 /// Puts that an image has another size than the first, and answers the status.
 fn tell_size<S: Sink>(alloc: Global, out: &mut S, name: &[u8], width: u32, height: u32) -> u8
-    ensures { Told (size_due name.now width height)
+    ensures { ReportsLine (report_of_size name.now width height)
         (seen_output S.written S.faults S.calls out.old) result
         (seen_output S.written S.faults S.calls out.new) }
 {
@@ -142,7 +141,7 @@ fn tell_size<S: Sink>(alloc: Global, out: &mut S, name: &[u8], width: u32, heigh
 
 /// Puts that a pixel of an image is outside its range, and answers the status.
 fn tell_pixel<S: Sink>(alloc: Global, out: &mut S, name: &[u8], x: u32, y: u32, value: i128) -> u8
-    ensures { Told (pixel_due name.now x y value)
+    ensures { ReportsLine (report_of_pixel name.now x y value)
         (seen_output S.written S.faults S.calls out.old) result
         (seen_output S.written S.faults S.calls out.new) }
 {
@@ -164,7 +163,7 @@ fn tell_pixel<S: Sink>(alloc: Global, out: &mut S, name: &[u8], x: u32, y: u32, 
 
 /// Puts that an instruction loads or stores where it may not, and answers the status.
 fn tell_outside<S: Sink>(alloc: Global, out: &mut S, at: u64, address: u64, length: u32) -> u8
-    ensures { Told (outside_due at address length)
+    ensures { ReportsLine (report_of_outside at address length)
         (seen_output S.written S.faults S.calls out.old) result
         (seen_output S.written S.faults S.calls out.new) }
 {
@@ -185,7 +184,7 @@ fn tell_outside<S: Sink>(alloc: Global, out: &mut S, at: u64, address: u64, leng
 
 /// Puts that a row took all its steps, and answers the status.
 fn tell_spent<S: Sink>(alloc: Global, out: &mut S, steps: u64) -> u8
-    ensures { Told (spent_due steps)
+    ensures { ReportsLine (report_of_spent steps)
         (seen_output S.written S.faults S.calls out.old) result
         (seen_output S.written S.faults S.calls out.new) }
 {
@@ -203,7 +202,7 @@ fn tell_spent<S: Sink>(alloc: Global, out: &mut S, steps: u64) -> u8
 
 /// Puts why there is no image of the images, and answers the status.
 fn tell_no_image<S: Sink>(alloc: Global, out: &mut S, words: &RunWords<'_>, why: NoImage) -> u8
-    ensures { Told (no_image_due (the_run words.now) why)
+    ensures { ReportsLine (report_of_no_image (the_run words.now) why)
         (seen_output S.written S.faults S.calls out.old) result
         (seen_output S.written S.faults S.calls out.new) }
 {
@@ -243,7 +242,7 @@ fn tell_no_image<S: Sink>(alloc: Global, out: &mut S, words: &RunWords<'_>, why:
 
 /// Puts that the program or kernel is for another number of images, and answers the status.
 fn tell_count<S: Sink>(alloc: Global, out: &mut S, want: u64, got: u64) -> u8
-    ensures { Told (count_due want got)
+    ensures { ReportsLine (report_of_count want got)
         (seen_output S.written S.faults S.calls out.old) result
         (seen_output S.written S.faults S.calls out.new) }
 {
@@ -267,7 +266,7 @@ pub fn tell_run_verdict<R: Refusal, S: Sink>(
     verdict: RunVerdict<R>,
     out: &mut S,
 ) -> u8
-    ensures { Tells (run_due R.told (the_run words.now) verdict)
+    ensures { Reports (report_of_run R.told (the_run words.now) verdict)
         (seen_output S.written S.faults S.calls out.old) result
         (seen_output S.written S.faults S.calls out.new) }
 {

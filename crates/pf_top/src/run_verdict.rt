@@ -1,7 +1,7 @@
 //! What a call of `run` or `eval` comes to.
 
 ghost use Rattle.std.specs.Prelude.{◌≡◌};
-ghost use Rattle.pf_top.specs.RunSteps.{unread};
+ghost use Rattle.pf_top.specs.Steps.RunSteps.{unread};
 
 use crate::image_files::{ImageRefusal, ImageStop};
 use crate::judging::{Stop, Unwritten};
@@ -93,7 +93,7 @@ fn unread<R>(file: RunFile, fault: FilesFault) -> RunVerdict<R>
 }
 
 impl<R> From<Stop<R>> for RunVerdict<R> {
-    ghost use Rattle.pf_top.specs.RunSteps.{text_stopped};
+    ghost use Rattle.pf_top.specs.Steps.RunSteps.{text_stopped};
 
     ghost from_gives = { λ stop verdict. verdict ≡ text_stopped stop };
 
@@ -106,7 +106,7 @@ impl<R> From<Stop<R>> for RunVerdict<R> {
 }
 
 impl<R> From<ImageStop> for RunVerdict<R> {
-    ghost use Rattle.pf_top.specs.RunSteps.{image_stopped};
+    ghost use Rattle.pf_top.specs.Steps.RunSteps.{image_stopped};
 
     ghost from_gives = { λ s verdict. verdict ≡ image_stopped s.image s.stop };
 
@@ -120,7 +120,7 @@ impl<R> From<ImageStop> for RunVerdict<R> {
 }
 
 impl<R> From<Unwritten> for RunVerdict<R> {
-    ghost use Rattle.pf_top.specs.RunSteps.{run_unwritten};
+    ghost use Rattle.pf_top.specs.Steps.RunSteps.{run_unwritten};
 
     ghost from_gives = { λ stop verdict. verdict ≡ run_unwritten stop };
 

@@ -1,6 +1,6 @@
 ghost use Rattle.std.specs.Prelude.{MatchOption, map, string_bytes};
-ghost use Rattle.pf_top.specs.Running.{Run, IsRun};
-ghost use Rattle.pf_top.specs.RunSteps.{the_run};
+ghost use Rattle.pf_top.specs.Meaning.Running.{Run, IsRunCommand};
+ghost use Rattle.pf_top.specs.Steps.RunSteps.{the_run};
 
 /// The words of `run TEXT IMG.. OUT` or `eval KERNEL IMG.. OUT`.
 #[derive(Clone, Copy)]
@@ -14,8 +14,8 @@ pub struct RunWords<'a> {
 
 /// What the words ask of this command, or None where they are of another form.
 pub fn run_of<'a>(command: &str, words: &'a [String]) -> Option<RunWords<'a>>
-    ensures { MatchOption result ((r : Run) → IsRun command.now (map string_bytes words.now) r → ⊥)
-        (λ r. IsRun command.now (map string_bytes words.now) (the_run r)) }
+    ensures { MatchOption result ((r : Run) → IsRunCommand command.now (map string_bytes words.now) r → ⊥)
+        (λ r. IsRunCommand command.now (map string_bytes words.now) (the_run r)) }
 {
     let [run, text, images @ .., out] = words else {
         return None;

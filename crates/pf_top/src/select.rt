@@ -1,8 +1,9 @@
 ghost use Rattle.std.specs.Prelude.{◌≡◌, ◌+◌};
 ghost use Rattle.pf_top.specs.declared.verdict.FileWord.TheVariants.{Lift, Lower};
-ghost use Rattle.pf_top.specs.Courses.{seen, Judged};
-ghost use Rattle.pf_top.specs.Selections.{lift_text, lower_text, rule_limit, limit, HasForm, IsOther, Came};
-ghost use Rattle.pf_top.specs.Steps.{the_words, unread_at, at, at_kernel, verdict_of};
+ghost use Rattle.pf_top.specs.Meaning.StoreCalls.{seen};
+ghost use Rattle.pf_top.specs.Steps.FileSteps.{Judged};
+ghost use Rattle.pf_top.specs.Meaning.Selections.{lift_text, lower_text, rule_limit, limit, HasForm, IsOther, EndsWith};
+ghost use Rattle.pf_top.specs.Steps.SelectSteps.{the_words, unread_at, at, at_kernel, verdict_of};
 
 use crate::command::Selection;
 use crate::judging::{Stop, read_front, write_file};
@@ -15,7 +16,7 @@ use pf_ints::Target;
 use std::alloc::Global;
 
 /// The rule file without rules.
-#[tactic(auto, unfolding(crate::specs::Selections::lift_text))]
+#[tactic(auto, unfolding(crate::specs::Meaning::Selections::lift_text))]
 fn lift_text() -> &'static [u8]
     ensures { result.now ≡ lift_text }
 {
@@ -23,7 +24,7 @@ fn lift_text() -> &'static [u8]
 }
 
 /// The rule file with the one rule that lowers `min` to the lane operation of its name.
-#[tactic(auto, unfolding(crate::specs::Selections::lower_text))]
+#[tactic(auto, unfolding(crate::specs::Meaning::Selections::lower_text))]
 fn lower_text() -> &'static [u8]
     ensures { result.now ≡ lower_text }
 {
@@ -31,7 +32,7 @@ fn lower_text() -> &'static [u8]
 }
 
 /// How many bytes of a rule file are judged at most: one more than its limit.
-#[tactic(auto, unfolding(crate::specs::Selections::rule_limit))]
+#[tactic(auto, unfolding(crate::specs::Meaning::Selections::rule_limit))]
 fn most_judged() -> u64
     ensures { result ≡ rule_limit + 1 }
 {
@@ -99,8 +100,12 @@ fn at_kernel<A>(judged: Result<A, Stop<KernelRefusal>>) -> Result<A, Verdict>
 
 /// Reads and judges the files in the order of the words, each before the next is read, and writes
 /// the text of the kernel.
-fn run<F: Files>(alloc: Global, words: &Selection<'_>, files: &mut F) -> Result<(), Verdict>
-    ensures { Came (the_words words.now) (seen F.held F.faults F.calls files.old) (verdict_of result)
+fn select_files<F: Files>(
+    alloc: Global,
+    words: &Selection<'_>,
+    files: &mut F,
+) -> Result<(), Verdict>
+    ensures { EndsWith (the_words words.now) (seen F.held F.faults F.calls files.old) (verdict_of result)
         (seen F.held F.faults F.calls files.new) }
 {
     if words.target != Target::Neon {
@@ -119,10 +124,10 @@ fn run<F: Files>(alloc: Global, words: &Selection<'_>, files: &mut F) -> Result<
 
 /// What the command `select` comes to.
 pub fn select<F: Files>(alloc: Global, words: &Selection<'_>, files: &mut F) -> Verdict
-    ensures { Came (the_words words.now) (seen F.held F.faults F.calls files.old) result
+    ensures { EndsWith (the_words words.now) (seen F.held F.faults F.calls files.old) result
         (seen F.held F.faults F.calls files.new) }
 {
-    match run(alloc, words, files) {
+    match select_files(alloc, words, files) {
         Ok(()) => Verdict::Done,
         Err(verdict) => verdict,
     }

@@ -1,10 +1,10 @@
 //! The lines of `select`.
 
 ghost use Rattle.std.specs.Prelude.{◌≡◌};
-ghost use Rattle.pf_top.specs.Selections.{file_name};
-ghost use Rattle.pf_top.specs.SelectStatuses.{select_due};
-ghost use Rattle.pf_top.specs.Statuses.{Tells};
-ghost use Rattle.pf_top.specs.Steps.{the_words, seen_output};
+ghost use Rattle.pf_top.specs.Meaning.Selections.{file_name};
+ghost use Rattle.pf_top.specs.Meaning.SelectStatuses.{report_of_select};
+ghost use Rattle.pf_top.specs.Meaning.Statuses.{Reports, seen_output};
+ghost use Rattle.pf_top.specs.Steps.SelectSteps.{the_words};
 
 use crate::command::Selection;
 use crate::kernel_report::tell_kernel;
@@ -31,7 +31,7 @@ pub fn tell_verdict<S: Sink>(
     verdict: Verdict,
     out: &mut S,
 ) -> u8
-    ensures { Tells (select_due (the_words words.now) verdict)
+    ensures { Reports (report_of_select (the_words words.now) verdict)
         (seen_output S.written S.faults S.calls out.old) result
         (seen_output S.written S.faults S.calls out.new) }
 {

@@ -1,9 +1,9 @@
 ghost use Rattle.std.specs.Prelude.{◌≡◌, ◌+◌, ◌*◌, ◌/◌, ◌≤◌, [], ◌∷◌, codes, length, IfOk};
-ghost use Rattle.pf_rows.specs.Scratch.{scratch_bytes};
-ghost use Rattle.pf_top.specs.Least.{IsLeastOf};
-ghost use Rattle.pf_top.specs.Selected.{IsSelected, output_of, head_of};
+ghost use Rattle.pf_rows.specs.Meaning.Scratch.{scratch_bytes};
+ghost use Rattle.pf_top.specs.Meaning.MinOfTaps.{IsMinOfTaps};
+ghost use Rattle.pf_top.specs.Meaning.Selected.{IsSelected, output_of, head_of};
 
-use crate::least_program::least_program;
+use crate::min_program::min_program;
 use crate::operands::Operands;
 use pf_ints::{Duplicate, Memory, Name, Sequence};
 use pf_isa::{Head, write_text};
@@ -56,12 +56,12 @@ fn head_of(alloc: Global, kernel: &Kernel) -> Result<Head, Memory>
 
 /// The text that is selected for a kernel that is the lesser of these two taps.
 pub fn text_of(alloc: Global, kernel: &Kernel, operands: Operands) -> Result<Vec<u8>, Memory>
-    requires { IsLeastOf kernel.now.source operands.first operands.second }
+    requires { IsMinOfTaps kernel.now.source operands.first operands.second }
     ensures { IfOk result (λ text. IsSelected kernel.now.source text.items) }
 {
     let _names = kernel.names();
     let head = head_of(alloc, kernel)?;
-    let program = least_program(alloc, head, operands.first, operands.second)?;
+    let program = min_program(alloc, head, operands.first, operands.second)?;
     let text = write_text::<Neon>(alloc, &program)?;
     Ok(text)
 }

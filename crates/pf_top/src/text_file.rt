@@ -3,10 +3,11 @@
 ghost use Rattle.std.specs.Prelude.{◌≡◌, ◌≢◌, ◌+◌, ◌^◌, ◌<◌, length, IfOk, MatchOption};
 ghost use Rattle.std.specs.Str.Lines.{lines};
 ghost use Rattle.pf_ints.specs.declared.target.Target.{Target};
-ghost use Rattle.pf_isa.specs.TextFaults.{IsFor};
-ghost use Rattle.pf_top.specs.Courses.{seen, Judged};
-ghost use Rattle.pf_top.specs.Steps.{Finds};
-ghost use Rattle.pf_top.specs.TextFiles.{text_limit, IsTextFile, RefusesText};
+ghost use Rattle.pf_isa.specs.Meaning.TextFaults.{IsFor};
+ghost use Rattle.pf_top.specs.Meaning.StoreCalls.{seen};
+ghost use Rattle.pf_top.specs.Steps.FileSteps.{Judged};
+ghost use Rattle.pf_top.specs.Steps.SelectSteps.{JudgesBytes};
+ghost use Rattle.pf_top.specs.Meaning.TextFiles.{text_limit, IsTextFile, RefusesText};
 
 use crate::judging::{Stop, read_front};
 use pf_images::{Files, FilesFault};
@@ -27,7 +28,7 @@ pub enum TextRefusal {
 }
 
 /// The most bytes of a text.
-#[tactic(auto, unfolding(crate::specs::TextFiles::text_limit))]
+#[tactic(auto, unfolding(crate::specs::Meaning::TextFiles::text_limit))]
 fn text_limit() -> u64
     ensures value { result ≡ text_limit }
     ensures low { result < 4294967296 }
@@ -50,7 +51,7 @@ fn other_target(text: &[u8]) -> Option<Target>
 
 /// The program that the text is of.
 fn program_of(alloc: Global, text: &[u8]) -> Result<Program<Neon>, Stop<TextRefusal>>
-    ensures found { Finds IsTextFile RefusesText result text.now }
+    ensures found { JudgesBytes IsTextFile RefusesText result text.now }
     ensures size { IfOk result (λ p. length p.code < 2 ^ 31) }
 {
     if text.len() as u64 > text_limit() {

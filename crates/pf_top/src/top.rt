@@ -3,18 +3,17 @@ ghost use Rattle.pf_top.specs.declared.kernel_file.KernelRefusal.{KernelRefusal}
 ghost use Rattle.pf_top.specs.declared.run_verdict.RunVerdict.{RunVerdict};
 ghost use Rattle.pf_top.specs.declared.text_file.TextRefusal.{TextRefusal};
 ghost use Rattle.pf_top.specs.declared.verdict.Verdict.{Verdict};
-ghost use Rattle.pf_images.specs.Outside.{Contents};
-ghost use Rattle.pf_top.specs.Completeness.{IsCalm, IsRunnable, IsSelectable};
-ghost use Rattle.pf_top.specs.Courses.{seen};
-ghost use Rattle.pf_top.specs.KernelFiles.{kernels};
-ghost use Rattle.pf_top.specs.KernelStatuses.{kernel_due};
-ghost use Rattle.pf_top.specs.Running.{Run, IsRun, RanTo};
-ghost use Rattle.pf_top.specs.RunStatuses.{run_due, text_due};
-ghost use Rattle.pf_top.specs.Selections.{Select, IsSelect, Came};
-ghost use Rattle.pf_top.specs.SelectStatuses.{select_due};
-ghost use Rattle.pf_top.specs.Statuses.{usage, Told, Tells};
-ghost use Rattle.pf_top.specs.Steps.{seen_output};
-ghost use Rattle.pf_top.specs.TextFiles.{programs};
+ghost use Rattle.pf_images.specs.Meaning.Outside.{Contents};
+ghost use Rattle.pf_top.specs.Meaning.Completeness.{IsCalm, IsRunnable, IsSelectable};
+ghost use Rattle.pf_top.specs.Meaning.StoreCalls.{seen};
+ghost use Rattle.pf_top.specs.Meaning.KernelFiles.{kernels};
+ghost use Rattle.pf_top.specs.Meaning.KernelStatuses.{report_of_kernel};
+ghost use Rattle.pf_top.specs.Meaning.Running.{Run, IsRunCommand, RunEndsWith};
+ghost use Rattle.pf_top.specs.Meaning.RunStatuses.{report_of_run, report_of_text};
+ghost use Rattle.pf_top.specs.Meaning.Selections.{Select, IsSelect, EndsWith};
+ghost use Rattle.pf_top.specs.Meaning.SelectStatuses.{report_of_select};
+ghost use Rattle.pf_top.specs.Meaning.Statuses.{usage, ReportsLine, Reports, seen_output};
+ghost use Rattle.pf_top.specs.Meaning.TextFiles.{programs};
 
 use crate::command::selection_of;
 use crate::eval::eval;
@@ -43,28 +42,28 @@ pub fn pitchfork<F: Files, S: Sink>(
 ) -> u8
     // Words of no form: 2 with the line on them, and no file is touched.
     ensures usage { ((s : Select) → IsSelect (map string_bytes words.now.items) s → ⊥)
-        → ((r : Run) → IsRun (codes "run") (map string_bytes words.now.items) r → ⊥)
-        → ((r : Run) → IsRun (codes "eval") (map string_bytes words.now.items) r → ⊥)
-        → Told usage (seen_output S.written S.faults S.calls out.old) result
+        → ((r : Run) → IsRunCommand (codes "run") (map string_bytes words.now.items) r → ⊥)
+        → ((r : Run) → IsRunCommand (codes "eval") (map string_bytes words.now.items) r → ⊥)
+        → ReportsLine usage (seen_output S.written S.faults S.calls out.old) result
         (seen_output S.written S.faults S.calls out.new) × (files.new ≡ files.old) }
 
     // The words of `select`: the call came to a verdict, which has its cause in the words and the
     // files, and told it.
     ensures selects { (s : Select) → IsSelect (map string_bytes words.now.items) s
-        → (v : Verdict) × Came s (seen F.held F.faults F.calls files.old) v (seen F.held F.faults F.calls files.new)
-        × Tells (select_due s v) (seen_output S.written S.faults S.calls out.old) result
+        → (v : Verdict) × EndsWith s (seen F.held F.faults F.calls files.old) v (seen F.held F.faults F.calls files.new)
+        × Reports (report_of_select s v) (seen_output S.written S.faults S.calls out.old) result
         (seen_output S.written S.faults S.calls out.new) }
 
     // The same of the words of `run`.
-    ensures runs { (r : Run) → IsRun (codes "run") (map string_bytes words.now.items) r
-        → (v : RunVerdict TextRefusal) × RanTo programs r (seen F.held F.faults F.calls files.old) v (seen F.held F.faults F.calls files.new)
-        × Tells (run_due text_due r v) (seen_output S.written S.faults S.calls out.old) result
+    ensures runs { (r : Run) → IsRunCommand (codes "run") (map string_bytes words.now.items) r
+        → (v : RunVerdict TextRefusal) × RunEndsWith programs r (seen F.held F.faults F.calls files.old) v (seen F.held F.faults F.calls files.new)
+        × Reports (report_of_run report_of_text r v) (seen_output S.written S.faults S.calls out.old) result
         (seen_output S.written S.faults S.calls out.new) }
 
     // The same of the words of `eval`.
-    ensures evals { (e : Run) → IsRun (codes "eval") (map string_bytes words.now.items) e
-        → (v : RunVerdict KernelRefusal) × RanTo kernels e (seen F.held F.faults F.calls files.old) v (seen F.held F.faults F.calls files.new)
-        × Tells (run_due kernel_due e v) (seen_output S.written S.faults S.calls out.old) result
+    ensures evals { (e : Run) → IsRunCommand (codes "eval") (map string_bytes words.now.items) e
+        → (v : RunVerdict KernelRefusal) × RunEndsWith kernels e (seen F.held F.faults F.calls files.old) v (seen F.held F.faults F.calls files.new)
+        × Reports (report_of_run report_of_kernel e v) (seen_output S.written S.faults S.calls out.old) result
         (seen_output S.written S.faults S.calls out.new) }
 
     // `select` does its work, or memory is wanting, for neon on a kernel that is built and the two
@@ -76,13 +75,13 @@ pub fn pitchfork<F: Files, S: Sink>(
 
     // `run` does its work, or memory is wanting, on a text and images such as it asks for on which
     // all rows of its run return, where neither the store nor the output failed.
-    ensures completes { (r : Run) (held : Contents) → IsRun (codes "run") (map string_bytes words.now.items) r
+    ensures completes { (r : Run) (held : Contents) → IsRunCommand (codes "run") (map string_bytes words.now.items) r
         → F.held files.old ≡ Some held → IsRunnable programs r held
         → IsCalm (F.faults files.old) (F.faults files.new) → IsCalm (S.faults out.old) (S.faults out.new)
         → (result ≡ 0) ⊎ (result ≡ 13) }
 
     // `eval` does its work, or memory is wanting, on a kernel and images such as it asks for.
-    ensures completes_eval { (e : Run) (held : Contents) → IsRun (codes "eval") (map string_bytes words.now.items) e
+    ensures completes_eval { (e : Run) (held : Contents) → IsRunCommand (codes "eval") (map string_bytes words.now.items) e
         → F.held files.old ≡ Some held → IsRunnable kernels e held
         → IsCalm (F.faults files.old) (F.faults files.new) → IsCalm (S.faults out.old) (S.faults out.new)
         → (result ≡ 0) ⊎ (result ≡ 13) }

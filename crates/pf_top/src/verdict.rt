@@ -44,7 +44,7 @@ impl From<AllocError> for Verdict {
 }
 
 impl From<Unwritten> for Verdict {
-    ghost use Rattle.pf_top.specs.Steps.{unwritten};
+    ghost use Rattle.pf_top.specs.Steps.SelectSteps.{unwritten};
 
     ghost from_gives = { λ stop verdict. verdict ≡ unwritten stop };
 

@@ -2,7 +2,7 @@
 //! nothing of what they hold, so that a call owes no more over them than over real ones.
 
 ghost use Rattle.std.specs.Prelude.{◌≡◌, ◌≢◌, Err};
-ghost use Rattle.pf_images.specs.Outside.{counted_after};
+ghost use Rattle.pf_images.specs.Meaning.Outside.{counted_after};
 
 use pf_images::{FileMap, Files, FilesFault, Sink};
 use pf_ints::Sequence;

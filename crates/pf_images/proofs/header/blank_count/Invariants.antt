@@ -1,5 +1,5 @@
 use Rattle.std.proofs.Common.{◌≡◌, ◌+◌, drop, false}
-use Rattle.pf_images.specs.Reading.{blank_count}
+use Rattle.pf_images.specs.Steps.Reading.{blank_count}
 use Rattle.pf_images.proofs.header.blank_count.Given as goal
 
 abbrev pub invariant-bytes : goal.invariant-bytes

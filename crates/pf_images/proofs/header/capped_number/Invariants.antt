@@ -1,5 +1,5 @@
 use Rattle.std.proofs.Common.{◌≡◌, ◌≤◌, min, drop}
-use Rattle.pf_images.specs.Pgm.{number_from}
+use Rattle.pf_images.specs.Meaning.Pgm.{number_from}
 use Rattle.pf_images.proofs.header.capped_number.Given as goal
 
 abbrev pub invariant-digits : goal.invariant-digits

@@ -1,5 +1,5 @@
 use Rattle.std.proofs.Common.{◌≡◌, ◌+◌, drop}
-use Rattle.pf_images.specs.Reading.{digit_count}
+use Rattle.pf_images.specs.Steps.Reading.{digit_count}
 use Rattle.pf_images.proofs.header.digit_count.Given as goal
 
 abbrev pub invariant-bytes : goal.invariant-bytes

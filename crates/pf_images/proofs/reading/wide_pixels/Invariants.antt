@@ -1,5 +1,5 @@
 use Rattle.std.proofs.Common.{◌≡◌, ◌*◌, ◌++◌, drop}
-use Rattle.pf_images.specs.Reading.{pairs}
+use Rattle.pf_images.specs.Steps.Reading.{pairs}
 use Rattle.pf_images.proofs.reading.wide_pixels.Given as goal
 
 abbrev pub invariant-pairs : goal.invariant-pairs

@@ -1,5 +1,5 @@
 use Rattle.std.proofs.Common.{rules}
-use Rattle.pf_ints.specs.Lanes.{clamped}
+use Rattle.pf_ints.specs.Meaning.Lanes.{clamped}
 use Rattle.pf_ints.proofs.lane.clamped_number.Goals as goal
 
 pub returns : goal.returns

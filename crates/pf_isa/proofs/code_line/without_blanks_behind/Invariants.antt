@@ -1,5 +1,5 @@
 use Rattle.std.proofs.Common.{◌≡◌, ◌≤◌, length, take}
-use Rattle.pf_isa.specs.Lines.{tight}
+use Rattle.pf_text.specs.Meaning.Lines.{tight}
 use Rattle.pf_isa.proofs.code_line.without_blanks_behind.Given as goal
 
 abbrev pub invariant-loop-end : goal.invariant-loop-end

@@ -1,5 +1,5 @@
 use Rattle.std.proofs.Common.{◌≢◌, ℕ, ◌<◌, get_or}
-use Rattle.pf_terms.specs.TermTexts.{no_image}
+use Rattle.pf_values.specs.Meaning.NamedTerms.{no_image}
 use Rattle.pf_isa.proofs.head_words.image_of_name.Given as goal
 
 abbrev pub invariant-loop-n : goal.invariant-loop-n

@@ -1,6 +1,6 @@
 use Rattle.std.specs.Prelude.{codes}
-use Rattle.pf_ints.specs.Images.{IsPixelType}
-use Rattle.pf_terms.specs.TermTexts.{type_word}
+use Rattle.pf_ints.specs.Meaning.Images.{IsPixelType}
+use Rattle.pf_terms.specs.Meaning.TermTexts.{type_word}
 use Rattle.pf_isa.proofs.HeadWordLaws.{only_behind}
 use Rattle.pf_isa.proofs.head_words.out_of.Goals as goal
 

@@ -1,8 +1,8 @@
 use Rattle.std.proofs.Common.{◌≡◌, ◌+◌, ◌∙◌, sym, true, take, drop, refl}
 use Rattle.std.proofs.lemmas.List.{take_all}
 use Rattle.std.proofs.lemmas.List.Elements.{All-same, All-more}
-use Rattle.pf_isa.specs.CodeReading.{has_name}
-use Rattle.pf_isa.proofs.PlaceLaws.{split_item}
+use Rattle.pf_isa.specs.Steps.CodeReading.{has_name}
+use Rattle.pf_machine.proofs.PlaceLaws.{split_item}
 use Rattle.pf_isa.proofs.jumps.first_missing.Goals as goal
 
 pub returns-then-not-contains : goal.returns-then-not-contains

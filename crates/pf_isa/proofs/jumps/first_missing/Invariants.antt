@@ -1,5 +1,5 @@
 use Rattle.std.proofs.Common.{◌≡◌, take, true, All}
-use Rattle.pf_isa.specs.CodeReading.{has_name}
+use Rattle.pf_isa.specs.Steps.CodeReading.{has_name}
 use Rattle.pf_isa.proofs.jumps.first_missing.Given as goal
 
 abbrev pub invariant-loop-jump : goal.invariant-loop-jump

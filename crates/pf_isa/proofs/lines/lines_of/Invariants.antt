@@ -1,6 +1,6 @@
 use Rattle.std.specs.Prelude.{◌≡◌, ◌++◌, length}
 use Rattle.std.specs.Str.Lines.{lines}
-use Rattle.pf_isa.specs.TextFaults.{texts}
+use Rattle.pf_isa.specs.Meaning.TextFaults.{texts}
 use Rattle.pf_isa.proofs.lines.lines_of.Given as goal
 
 abbrev pub invariant-loop-rest : goal.invariant-loop-rest

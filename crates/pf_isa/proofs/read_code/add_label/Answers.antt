@@ -1,6 +1,6 @@
 use Rattle.std.proofs.Common.{◌≡◌, refl}
 use Rattle.std.proofs.lemmas.Map.Text.{is_eq-slice_cmp}
-use Rattle.pf_isa.specs.CodeReading.{has_name}
+use Rattle.pf_isa.specs.Steps.CodeReading.{has_name}
 use Rattle.pf_isa.proofs.CodeLineLaws.{name_size}
 use Rattle.pf_isa.proofs.CodeLaws.{added_new}
 use Rattle.pf_isa.proofs.read_code.add_label.Goals as goal

@@ -1,5 +1,5 @@
 use Rattle.std.proofs.Common.{drop}
-use Rattle.pf_isa.specs.TextFaults.{texts}
+use Rattle.pf_isa.specs.Meaning.TextFaults.{texts}
 use Rattle.pf_isa.proofs.CodeOnce.{code_only}
 use Rattle.pf_isa.proofs.OneFault.{code_told}
 use Rattle.pf_isa.proofs.read_code.read_code.Goals as goal

@@ -1,5 +1,5 @@
 use Rattle.std.proofs.Common.{sym, take, drop, refl, [], arith}
-use Rattle.pf_isa.specs.TextFaults.{texts}
+use Rattle.pf_isa.specs.Meaning.TextFaults.{texts}
 use Rattle.pf_isa.proofs.CodeLaws.{carried, text_at, number_at, reading_on, line_refused}
 use Rattle.pf_isa.proofs.read_code.read_lines.Goals as goal
 

@@ -1,9 +1,9 @@
 use Rattle.std.proofs.Common.{◌≡◌, drop, true, All}
 use Rattle.std.specs.List.{last_or}
 use Rattle.std.specs.Prelude.{None}
-use Rattle.pf_isa.specs.Programs.{IsLast}
-use Rattle.pf_isa.specs.TextFaults.{texts}
-use Rattle.pf_isa.specs.CodeReading.{has_name, IsFirstMissing}
+use Rattle.pf_machine.specs.Meaning.Programs.{IsLast}
+use Rattle.pf_isa.specs.Meaning.TextFaults.{texts}
+use Rattle.pf_isa.specs.Steps.CodeReading.{has_name, IsFirstMissing}
 use Rattle.pf_isa.proofs.CodeTexts.{code_says, code_missing, code_open, length_behind}
 use Rattle.pf_isa.proofs.read_code.read_whole_code.Goals as goal
 

@@ -1,7 +1,7 @@
 use Rattle.std.proofs.Common.{◌≡◌, ◌≢◌, arith, ◌<◌, ◌-◌, ◌+◌, [], length, take, drop, get_or, subst, sym, inl, rules}
 use Rattle.pf_isa.specs.declared.so_far.Stage.TheVariants.{Code}
-use Rattle.pf_isa.specs.HeadWords.{IsTheOne}
-use Rattle.pf_isa.specs.TextFaults.{texts, GoesOn, Stops}
+use Rattle.pf_isa.specs.Steps.HeadWords.{IsTheOne}
+use Rattle.pf_isa.specs.Meaning.TextFaults.{texts, GoesOn, HeadStops}
 use Rattle.pf_isa.proofs.HeadSaid.{reached_ready}
 use Rattle.pf_isa.proofs.ReadingLaws.{whole_here, stops_here, onward, reached_on, texts_first, texts_none, rest_count}
 use Rattle.pf_isa.proofs.read_head.+read_rest.Goals as goal
@@ -24,7 +24,7 @@ returns-then-is_whole t c = whole_here c.args.so_far (texts c.args.lines.now) c.
 pub returns-in-empty : goal.returns-in-empty
 returns-in-empty t c =
     let other : c.args.so_far.stage ≢ Code = λ e. let is = c.is_whole.ensures.1 e in absurd (search rules) in
-    let stops : Stops c.args.so_far (texts c.args.lines.now) = subst (Stops c.args.so_far) (sym (texts_none c.args.lines.now c.in-empty.len_below)) other in
+    let stops : HeadStops c.args.so_far (texts c.args.lines.now) = subst (HeadStops c.args.so_far) (sym (texts_none c.args.lines.now c.in-empty.len_below)) other in
     inl (stops_here c.args.so_far (texts c.args.lines.now) c.args.n c.directive.result stops c.directive.ensures)
 
 pub returns-in-None : goal.returns-in-None
@@ -33,7 +33,7 @@ returns-in-None t c =
     let line = (get_or c.args.lines.now 0 (record { ref_ptr = (0, 0); now = [] })).now in
     let none = subst (IsTheOne (GoesOn c.args.so_far line)) c.in-None.is c.in_ok-next-in-len1-up.ensures in
     let is = texts_first c.args.lines.now (record { ref_ptr = (0, 0); now = [] }) c.in-len1-up.len_at_least in
-    let stops : Stops c.args.so_far (texts c.args.lines.now) = subst (Stops c.args.so_far) (sym is) (other, none) in
+    let stops : HeadStops c.args.so_far (texts c.args.lines.now) = subst (HeadStops c.args.so_far) (sym is) (other, none) in
     inl (stops_here c.args.so_far (texts c.args.lines.now) c.args.n c.directive-in-None.result stops c.directive-in-None.ensures)
 
 pub returns-in-Some : goal.returns-in-Some

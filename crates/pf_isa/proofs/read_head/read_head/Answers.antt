@@ -1,10 +1,10 @@
 use Rattle.std.proofs.Common.{length}
 use Rattle.std.specs.Prelude.{◌≤◌, take}
 use Rattle.pf_isa.specs.declared.fault.TextFault.TheVariants.{Memory}
-use Rattle.pf_isa.specs.HeadSteps.{IsHeadWay, IsHeadStop}
-use Rattle.pf_isa.specs.Heads.{IsHead}
-use Rattle.pf_isa.specs.Texts.{IsHeadText}
-use Rattle.pf_isa.specs.TextFaults.{texts}
+use Rattle.pf_isa.specs.Steps.HeadSteps.{IsHeadWay, IsHeadStop}
+use Rattle.pf_machine.specs.Meaning.Heads.{IsHead}
+use Rattle.pf_isa.specs.Meaning.Texts.{IsHeadText}
+use Rattle.pf_isa.specs.Meaning.TextFaults.{texts}
 use Rattle.pf_text.proofs.Answering.{on_read}
 use Rattle.pf_isa.proofs.ReadingLaws.{length-texts, way_within, way_says, way_head, only_way, way_fault, way_told}
 use Rattle.pf_isa.proofs.read_head.read_head.Goals as goal

@@ -1,10 +1,10 @@
 use Rattle.std.proofs.Common.{◌-◌, [], length, take, drop, get_or, subst, sym, inl, rules}
-use Rattle.pf_text.specs.Answers.{Answers}
+use Rattle.pf_text.specs.Meaning.Answers.{Answers}
 use Rattle.pf_isa.specs.declared.fault.TextFault.TheVariants.{Memory}
-use Rattle.pf_isa.specs.HeadSteps.{IsReached, IsWholeFrom, IsStopped}
-use Rattle.pf_isa.specs.Lines.{IsLine}
-use Rattle.pf_isa.specs.Texts.{target_line}
-use Rattle.pf_isa.specs.TextFaults.{texts, IsFor}
+use Rattle.pf_isa.specs.Steps.HeadSteps.{IsReached, IsWholeFrom, IsStopped}
+use Rattle.pf_text.specs.Meaning.Lines.{IsLine}
+use Rattle.pf_isa.specs.Meaning.Texts.{target_line}
+use Rattle.pf_isa.specs.Meaning.TextFaults.{texts, IsFor}
 use Rattle.pf_isa.proofs.ReadingLaws.{texts_first, nothing_reached, way_from}
 use Rattle.pf_isa.proofs.read_head.way_of.Goals as goal
 

@@ -1,8 +1,8 @@
 use Rattle.std.proofs.Common.{◌≡◌, true, rules, subst, refl}
-use Rattle.pf_terms.specs.Meanings.{IsTermText}
-use Rattle.pf_terms.specs.Terms.{IsWellTyped}
-use Rattle.pf_terms.specs.TermTexts.{is_named}
-use Rattle.pf_isa.specs.HeadWords.{IsTheOne}
+use Rattle.pf_terms.specs.Meaning.Meanings.{IsTermText}
+use Rattle.pf_values.specs.Meaning.Terms.{IsWellTyped}
+use Rattle.pf_values.specs.Meaning.NamedTerms.{is_named}
+use Rattle.pf_isa.specs.Steps.HeadWords.{IsTheOne}
 use Rattle.pf_isa.proofs.HeadStepLaws.{definition_only, no_definition, unfitting}
 use Rattle.pf_isa.proofs.NodeLaws.{too_many}
 use Rattle.pf_isa.proofs.so_far.definition_of.Goals as goal

@@ -1,7 +1,6 @@
-use Rattle.std.proofs.Common.{rules, ◌≤◌, ◌<◌, length}
+use Rattle.std.proofs.Common.{rules, ◌≤◌, ◌<◌, length, subst, true, ◌≡◌}
 use Rattle.pf_isa.proofs.HeadStepLaws.{term_refused, known_refused, more_taps, term_read, kept_names}
-use Rattle.pf_terms.specs.TermTexts.{is_named}
-use Rattle.std.proofs.Common.{subst, true, ◌≡◌}
+use Rattle.pf_values.specs.Meaning.NamedTerms.{is_named}
 use Rattle.pf_isa.proofs.so_far.lifted_term.Goals as goal
 
 pub returns-in-Err-clause-found : goal.returns-in-Err-clause-found

@@ -2,8 +2,8 @@ use Rattle.std.proofs.Common.{◌≡◌, ◌≤◌, ◌∙◌, sym, ap, subst, l
 use Rattle.std.specs.Prelude.{Ok, Err}
 use Rattle.std.specs.Result.{IfErr}
 use Rattle.std.specs.Str.Lines.{lines}
-use Rattle.pf_isa.specs.Texts.{IsHeadText}
-use Rattle.pf_isa.specs.TextFaults.{texts, IsTextRefusal, IsProgramOr, IsTextFaultOr}
+use Rattle.pf_isa.specs.Meaning.Texts.{IsHeadText}
+use Rattle.pf_isa.specs.Meaning.TextFaults.{texts, IsTextRefusal, IsProgramOr, IsTextFaultOr}
 use Rattle.pf_isa.proofs.JoinLaws.{text_found, head_only, code_only, same_text, head_fault_only, code_fault_only, carried, code_refusal, length-texts}
 use Rattle.pf_isa.proofs.OneFault.{head_refused, behind_told, code_refused}
 use Rattle.pf_isa.proofs.text.read_text.Goals as goal

@@ -1,5 +1,5 @@
 use Rattle.std.proofs.Common.{refl, sym}
-use Rattle.pf_isa.specs.HeadWords.{is_space}
+use Rattle.pf_isa.specs.Steps.HeadWords.{is_space}
 use Rattle.pf_isa.proofs.HeadWordLaws.{part_in_front, parts_alone}
 use Rattle.pf_isa.proofs.words.first_word.Goals as goal
 

@@ -1,7 +1,7 @@
 use Rattle.std.proofs.Common.{◌≡◌, ◌++◌, length}
 use Rattle.std.specs.List.{slice_split}
-use Rattle.pf_isa.specs.HeadWords.{is_space}
-use Rattle.pf_isa.specs.TextFaults.{texts}
+use Rattle.pf_isa.specs.Steps.HeadWords.{is_space}
+use Rattle.pf_isa.specs.Meaning.TextFaults.{texts}
 use Rattle.pf_isa.proofs.words.words_of.Given as goal
 
 abbrev pub invariant-words : goal.invariant-words

@@ -1,5 +1,5 @@
 use Rattle.std.proofs.Common.{◌≡◌, ◌++◌, take}
-use Rattle.pf_isa.specs.Texts.{printed, label_lines}
+use Rattle.pf_isa.specs.Meaning.Texts.{printed, label_lines}
 use Rattle.pf_isa.proofs.write.push_all_labels.Given as goal
 
 abbrev pub invariant-loop-label : goal.invariant-loop-label

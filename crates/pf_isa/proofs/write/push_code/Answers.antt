@@ -1,6 +1,6 @@
 use Rattle.std.proofs.Common.{arith}
 use Rattle.std.proofs.lemmas.List.Elements.{All-more}
-use Rattle.pf_isa.specs.Texts.{IsOpOf}
+use Rattle.pf_isa.specs.Meaning.Texts.{IsOpOf}
 use Rattle.pf_isa.proofs.TextLaws.{code_lines-drop, written_on}
 use Rattle.pf_isa.proofs.write.push_code.Goals as goal
 

@@ -1,5 +1,5 @@
 use Rattle.std.proofs.Common.{◌≡◌, ◌++◌, drop, take, All}
-use Rattle.pf_isa.specs.Texts.{printed, code_lines, IsOpOf}
+use Rattle.pf_isa.specs.Meaning.Texts.{printed, code_lines, IsOpOf}
 use Rattle.pf_isa.proofs.write.push_code.Given as goal
 
 abbrev pub invariant-loop-line : goal.invariant-loop-line

@@ -1,5 +1,5 @@
 use Rattle.std.proofs.Common.{◌≡◌, ◌++◌, take, map}
-use Rattle.pf_isa.specs.Texts.{printed, image_line}
+use Rattle.pf_isa.specs.Meaning.Texts.{printed, image_line}
 use Rattle.pf_isa.proofs.write.push_image_lines.Given as goal
 
 abbrev pub invariant-loop-image : goal.invariant-loop-image

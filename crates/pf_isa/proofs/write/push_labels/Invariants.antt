@@ -1,5 +1,5 @@
 use Rattle.std.proofs.Common.{◌≡◌, ◌++◌, drop}
-use Rattle.pf_isa.specs.Texts.{printed, label_lines, labels_at, labels_behind}
+use Rattle.pf_isa.specs.Meaning.Texts.{printed, label_lines, labels_at, labels_behind}
 use Rattle.pf_isa.proofs.write.push_labels.Given as goal
 
 abbrev pub invariant-loop-k : goal.invariant-loop-k

@@ -1,5 +1,5 @@
 use Rattle.std.proofs.Common.{◌≡◌, ◌++◌, take, map}
-use Rattle.pf_isa.specs.Texts.{printed, tap_line}
+use Rattle.pf_isa.specs.Meaning.Texts.{printed, tap_line}
 use Rattle.pf_isa.proofs.write.push_tap_lines.Given as goal
 
 abbrev pub invariant-loop-tap : goal.invariant-loop-tap

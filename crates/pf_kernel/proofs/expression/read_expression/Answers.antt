@@ -1,6 +1,6 @@
 use Rattle.std.proofs.Common.{◌+◌, ◌≤◌}
-use Rattle.pf_terms.specs.Terms.{stated_type, depth_of, node_count}
-use Rattle.pf_kernel.specs.Kernels.{IsTermOf}
+use Rattle.pf_values.specs.Meaning.Terms.{stated_type, depth_of, node_count}
+use Rattle.pf_kernel.specs.Meaning.Kernels.{IsTermOf}
 use Rattle.pf_kernel.proofs.Judging.{judged_found, judged_only, refused_only, clean, if_clean, on_clean}
 use Rattle.pf_kernel.proofs.expression.read_expression.Goals as goal
 

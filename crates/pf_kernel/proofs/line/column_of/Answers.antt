@@ -4,5 +4,5 @@ use Rattle.pf_kernel.proofs.line.column_of.Goals as goal
 
 pub overflow_add-result : goal.overflow_add-result
 overflow_add-result c =
-    let fits : c.place_of.result ≤ length c.args.text.now = omega (arith, place_fits c.args.text.now c.args.tokens.now c.told_at.result c.requires.lexed, c.place_of.ensures) in
+    let fits : c.token_place.result ≤ length c.args.text.now = omega (arith, place_fits c.args.text.now c.args.tokens.now c.told_at.result c.requires.lexed, c.token_place.ensures) in
     omega arith

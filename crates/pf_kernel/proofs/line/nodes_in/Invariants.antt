@@ -1,5 +1,5 @@
 use Rattle.std.proofs.Common.{◌≡◌, ◌-◌, ◌^◌, min, map, sum, take}
-use Rattle.pf_terms.specs.Terms.{node_count}
+use Rattle.pf_values.specs.Meaning.Terms.{node_count}
 use Rattle.pf_kernel.proofs.line.nodes_in.Given as goal
 
 abbrev pub invariant-loop-def : goal.invariant-loop-def

@@ -1,15 +1,15 @@
 use Rattle.std.proofs.Common.{◌≡◌, sym, ◌∙◌, ap, subst, ◌+◌, ◌-◌, ◌^◌, ◌≤◌, min, sum, map, false, List, length, IfOk, OnOk, Result, arith}
-use Rattle.pf_terms.specs.declared.kernel.Definition.{Definition}
+use Rattle.pf_values.specs.declared.kernel.Definition.{Definition}
 use Rattle.pf_terms.specs.declared.meaning.ReadFault.{ReadFault}
-use Rattle.pf_terms.specs.declared.names.Names.{Names}
-use Rattle.pf_terms.specs.declared.term.Term.{Term}
-use Rattle.pf_terms.specs.KernelNames.{IsNames}
-use Rattle.pf_terms.specs.Meanings.{names_after, term_of}
-use Rattle.pf_terms.specs.Terms.{node_count}
-use Rattle.pf_kernel.specs.Expressions.{Judges}
-use Rattle.pf_kernel.specs.Kernels.{IsTermOf}
-use Rattle.pf_kernel.specs.Lines.{names_in, nodes_in, is_taken}
-use Rattle.pf_kernel.specs.Readings.{begun_of}
+use Rattle.pf_values.specs.declared.names.Names.{Names}
+use Rattle.pf_values.specs.declared.term.Term.{Term}
+use Rattle.pf_terms.specs.Meaning.KernelNames.{IsNames}
+use Rattle.pf_terms.specs.Meaning.Meanings.{names_after, term_of}
+use Rattle.pf_values.specs.Meaning.Terms.{node_count}
+use Rattle.pf_kernel.specs.Steps.Expressions.{Judges}
+use Rattle.pf_kernel.specs.Meaning.Kernels.{IsTermOf}
+use Rattle.pf_kernel.specs.Meaning.Lines.{names_in, nodes_in, is_taken}
+use Rattle.pf_kernel.specs.Steps.Readings.{begun_of}
 use Rattle.pf_kernel.proofs.Answering.{def_refused, taken_apart}
 use Rattle.pf_kernel.proofs.Growing.{def_added, judged_so}
 use Rattle.pf_kernel.proofs.line.read_def.Goals as goal

@@ -1,11 +1,11 @@
 use Rattle.std.proofs.Common.{refl, sym, ◌∙◌, ap, subst, Result}
 use Rattle.pf_terms.specs.declared.meaning.ReadFault.{ReadFault}
-use Rattle.pf_terms.specs.Parsing.{kinds}
+use Rattle.pf_terms.specs.Meaning.Tokens.{kinds}
 use Rattle.pf_kernel.specs.declared.front.Front.{Front}
 use Rattle.pf_kernel.specs.declared.front.Front.TheVariants.{Kernel as KernelFront, Image as ImageFront, Def as DefFront, Out as OutFront}
 use Rattle.pf_kernel.specs.declared.reading.Reading.{Reading}
-use Rattle.pf_kernel.specs.Lines.{Bare, IsShape}
-use Rattle.pf_kernel.specs.Readings.{begun_of, AnswersTokens, IsNearColumn, moved}
+use Rattle.pf_kernel.specs.Meaning.Lines.{Bare, IsShape}
+use Rattle.pf_kernel.specs.Steps.Readings.{begun_of, AnswersTokens, IsNearColumn, moved}
 use Rattle.pf_kernel.proofs.FrontLaws.{bare_answers, near_column, moved_answers}
 use Rattle.pf_kernel.proofs.line.read_front.Goals as goal
 

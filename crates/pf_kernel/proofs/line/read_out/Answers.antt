@@ -1,10 +1,10 @@
 use Rattle.std.proofs.Common.{◌≡◌, refl, ◌∙◌, ap, subst, ◌-◌, ◌^◌, min, sum, map, List}
-use Rattle.pf_terms.specs.declared.kernel.Definition.{Definition}
-use Rattle.pf_terms.specs.declared.names.Names.{Names}
-use Rattle.pf_terms.specs.Meanings.{names_after, term_of}
-use Rattle.pf_terms.specs.Terms.{node_count}
-use Rattle.pf_kernel.specs.Lines.{names_in, nodes_in}
-use Rattle.pf_kernel.specs.Readings.{begun_of}
+use Rattle.pf_values.specs.declared.kernel.Definition.{Definition}
+use Rattle.pf_values.specs.declared.names.Names.{Names}
+use Rattle.pf_terms.specs.Meaning.Meanings.{names_after, term_of}
+use Rattle.pf_values.specs.Meaning.Terms.{node_count}
+use Rattle.pf_kernel.specs.Meaning.Lines.{names_in, nodes_in}
+use Rattle.pf_kernel.specs.Steps.Readings.{begun_of}
 use Rattle.pf_kernel.proofs.Growing.{out_set}
 use Rattle.pf_kernel.proofs.line.read_out.Goals as goal
 

@@ -1,6 +1,6 @@
 use Rattle.std.proofs.Common.{inl}
 use Rattle.pf_kernel.proofs.LineLaws.{front_told, front_shape}
-use Rattle.pf_kernel.specs.Readings.{begun_of}
+use Rattle.pf_kernel.specs.Steps.Readings.{begun_of}
 use Rattle.pf_kernel.proofs.FrontLaws.{shape_may}
 use Rattle.pf_kernel.proofs.line.read_tokens.Goals as goal
 

@@ -1,5 +1,5 @@
 use Rattle.std.proofs.Common.{length}
-use Rattle.pf_kernel.specs.Reads.{IsSoFar}
+use Rattle.pf_kernel.specs.Steps.Reads.{IsSoFar}
 use Rattle.pf_kernel.proofs.read.read_lines.Given as goal
 
 abbrev pub invariant-lines : goal.invariant-lines

@@ -1,4 +1,4 @@
-use Rattle.pf_kernel.specs.Readings.{begun_of}
+use Rattle.pf_kernel.specs.Steps.Readings.{begun_of}
 use Rattle.pf_kernel.proofs.ReadLaws.{told_line}
 use Rattle.pf_kernel.proofs.read.read_next.Goals as goal
 

@@ -1,6 +1,6 @@
 use Rattle.std.proofs.Common.{◌≡◌, ◌++◌, drop}
 use Rattle.std.specs.List.{flat_map}
-use Rattle.pf_kernel.specs.Texts.{ended, def_text}
+use Rattle.pf_kernel.specs.Meaning.Texts.{ended, def_text}
 use Rattle.pf_kernel.proofs.write.write_defs.Given as goal
 
 abbrev pub invariant-loop-def : goal.invariant-loop-def

@@ -1,6 +1,6 @@
 use Rattle.std.proofs.Common.{◌≡◌, ◌++◌, drop}
 use Rattle.std.specs.List.{flat_map}
-use Rattle.pf_kernel.specs.Texts.{ended, image_text}
+use Rattle.pf_kernel.specs.Meaning.Texts.{ended, image_text}
 use Rattle.pf_kernel.proofs.write.write_images.Given as goal
 
 abbrev pub invariant-loop-image : goal.invariant-loop-image

@@ -1,5 +1,5 @@
 use Rattle.std.proofs.Common.{◌≡◌, ◌∙◌, subst, ◌<◌, List, length}
-use Rattle.pf_terms.specs.declared.kernel.Definition.{Definition}
+use Rattle.pf_values.specs.declared.kernel.Definition.{Definition}
 use Rattle.pf_kernel.proofs.Printing.{defs_printable}
 use Rattle.pf_kernel.proofs.WrittenKernels.{written_text, written_read}
 use Rattle.pf_kernel.proofs.write.write_kernel.Goals as goal

@@ -1,5 +1,5 @@
 use Rattle.std.proofs.Common.{◌≤◌, ◌<◌, arith, refl, ◌∙◌, sym}
-use Rattle.pf_neon.specs.Forms.{width, count, lane_function}
+use Rattle.pf_neon.specs.Meaning.Instructions.{width, count, lane_function}
 use Rattle.pf_neon.proofs.LaneLaws.{lanes_none, lane_more, lanes_all, within, filled}
 use Rattle.pf_neon.proofs.lane.lanewise.Goals as goal
 

@@ -1,6 +1,6 @@
 use Rattle.std.proofs.Common.{◌≡◌, ◌*◌, ◌-◌, ◌++◌, take, drop, length}
-use Rattle.pf_isa.specs.Bytes.{lanes, packed, map2}
-use Rattle.pf_neon.specs.Forms.{width, count, lane_function, lanewise}
+use Rattle.pf_machine.specs.Meaning.Bytes.{lanes, packed, map2}
+use Rattle.pf_neon.specs.Meaning.Instructions.{width, count, lane_function, lanewise}
 use Rattle.pf_neon.proofs.lane.lanewise.Given as goal
 
 abbrev pub invariant-loop-i : goal.invariant-loop-i

@@ -1,10 +1,10 @@
 use Rattle.std.proofs.Common.{◌≡◌, ◌<◌, None, Some, length, ◌∙◌, sym, ap}
 use Rattle.std.proofs.lemmas.Bool.{false≢true}
-use Rattle.pf_isa.specs.Lines.{tight}
-use Rattle.pf_isa.specs.Control.{IsControl}
-use Rattle.pf_neon.specs.Lines.{control_text}
-use Rattle.pf_neon.specs.Reads.{control_read}
-use Rattle.pf_neon.specs.ControlLaws.{no_long_control, no_control, no_bad_control, no_other_control}
+use Rattle.pf_text.specs.Meaning.Lines.{tight}
+use Rattle.pf_machine.specs.Meaning.Control.{IsControl}
+use Rattle.pf_neon.specs.Meaning.Lines.{control_text}
+use Rattle.pf_neon.specs.Steps.Reads.{control_read}
+use Rattle.pf_neon.specs.Steps.ControlLaws.{no_long_control, no_control, no_bad_control, no_other_control}
 use Rattle.pf_neon.proofs.reads.parse_ctl.Goals as goal
 
 pub returns-in_err-tight : goal.returns-in_err-tight

@@ -1,5 +1,5 @@
 use Rattle.std.proofs.Common.{◌≡◌, ◌++◌, length, drop}
-use Rattle.pf_rows.specs.RowCode.{tap_copies, copy_labels}
+use Rattle.pf_rows.specs.Steps.RowCode.{tap_copies, copy_labels}
 use Rattle.pf_rows.proofs.copies.taps.Given as goal
 
 abbrev pub invariant-loop-width : goal.invariant-loop-width

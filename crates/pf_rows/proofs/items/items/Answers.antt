@@ -3,7 +3,7 @@ use Rattle.std.proofs.lemmas.Iterator.Adapters.{YieldsList-from_vec}
 use Rattle.std.proofs.lemmas.Iterator.Consumers.{YieldsList-end}
 use Rattle.std.proofs.lemmas.List.{flat_map_more, map-id}
 use Rattle.std.proofs.lemmas.List.Elements.{All-push}
-use Rattle.pf_rows.specs.RowCode.{item_lines, block_lines, IsOne}
+use Rattle.pf_rows.specs.Steps.RowCode.{item_lines, block_lines, IsOne}
 use Rattle.pf_rows.proofs.items.items.Goals as goal
 
 pub loop-step-preserved : goal.loop-step-preserved

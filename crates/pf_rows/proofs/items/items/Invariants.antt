@@ -1,5 +1,5 @@
 use Rattle.std.proofs.Common.{◌≡◌, ◌++◌, All}
-use Rattle.pf_rows.specs.RowCode.{block_lines, IsOne}
+use Rattle.pf_rows.specs.Steps.RowCode.{block_lines, IsOne}
 use Rattle.pf_rows.proofs.items.items.Given as goal
 
 abbrev pub invariant-loop-step : goal.invariant-loop-step

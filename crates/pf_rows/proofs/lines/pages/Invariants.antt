@@ -1,7 +1,7 @@
 use Rattle.std.proofs.Common.{◌≡◌, ◌++◌, false}
 use Rattle.std.specs.Prelude.{replicate}
-use Rattle.pf_isa.specs.declared.control.Control.TheVariants.{AddImm}
-use Rattle.pf_isa.specs.declared.code.Line.TheVariants.{Control as Controls}
+use Rattle.pf_machine.specs.declared.control.Control.TheVariants.{AddImm}
+use Rattle.pf_machine.specs.declared.code.Line.TheVariants.{Control as Controls}
 use Rattle.pf_rows.proofs.lines.pages.Given as goal
 
 abbrev pub invariant-loop-step : goal.invariant-loop-step

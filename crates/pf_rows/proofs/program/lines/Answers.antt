@@ -1,5 +1,5 @@
 use Rattle.std.proofs.Common.{length}
-use Rattle.pf_rows.specs.RowCode.{back_lines, begin_lines, block_lines, last_lines, narrow_lines, next_lines, tail_lines}
+use Rattle.pf_rows.specs.Steps.RowCode.{back_lines, begin_lines, block_lines, last_lines, narrow_lines, next_lines, tail_lines}
 use Rattle.pf_rows.proofs.RowTexts.{joined, labels_joined}
 use Rattle.pf_rows.proofs.program.lines.Goals as goal
 

@@ -1,6 +1,6 @@
 use Rattle.std.proofs.Common.{◌≡◌, length, sym, subst, ap}
-use Rattle.pf_isa.specs.Moved.{Moved, Work}
-use Rattle.pf_rows.specs.BlockRows.{block_cost, RunsBlock, LeavesLanes}
+use Rattle.pf_machine.specs.Meaning.Moved.{Moved, Work}
+use Rattle.pf_rows.specs.Meaning.BlockRows.{block_cost, RunsBlock, LeavesLanes}
 use Rattle.pf_rows.proofs.Lanewise.{runs_block, leaves_lanes}
 use Rattle.pf_rows.proofs.RowTexts.{row_is_moved, row_is_work}
 use Rattle.pf_rows.proofs.program.row_program.Goals as goal

@@ -1,5 +1,5 @@
 use Rattle.std.proofs.Common.{◌≡◌, sym, subst, ◌∙◌}
-use Rattle.pf_isa.specs.Programs.{IsProgram}
+use Rattle.pf_machine.specs.Meaning.Programs.{IsProgram}
 use Rattle.pf_rows.proofs.RowTexts.{widths_pixels, near_block, row_is_program, text_is}
 use Rattle.pf_rows.proofs.program.row_text.Goals as goal
 

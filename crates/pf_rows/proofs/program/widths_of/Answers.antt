@@ -2,11 +2,11 @@ use Rattle.std.proofs.Common.{◌≡◌, ℕ, ◌+◌, ◌<◌, List, [], ◌∷
 use Rattle.std.specs.Prelude.{pos}
 use Rattle.std.proofs.lemmas.List.{map-append, take_more, get_or_default}
 use Rattle.std.proofs.lemmas.List.Elements.{All-get_or}
-use Rattle.pf_terms.specs.declared.kernel.ImageDecl.{ImageDecl}
-use Rattle.pf_terms.specs.declared.names.Tap.{Tap}
-use Rattle.pf_isa.specs.Heads.{IsTap}
-use Rattle.pf_isa.specs.Runs.{pixel_bytes}
-use Rattle.pf_rows.specs.BlockRows.{no_decl}
+use Rattle.pf_values.specs.declared.kernel.ImageDecl.{ImageDecl}
+use Rattle.pf_values.specs.declared.names.Tap.{Tap}
+use Rattle.pf_machine.specs.Meaning.Heads.{IsTap}
+use Rattle.pf_machine.specs.Meaning.Runs.{pixel_bytes}
+use Rattle.pf_values.specs.Meaning.Kernels.{no_decl}
 use Rattle.pf_rows.proofs.program.widths_of.Goals as goal
 
 -- one tap's bytes more

@@ -1,7 +1,7 @@
 use Rattle.std.proofs.Common.{◌≡◌, map, take}
 use Rattle.std.specs.Prelude.{slice_index_or}
-use Rattle.pf_isa.specs.Runs.{pixel_bytes}
-use Rattle.pf_rows.specs.BlockRows.{no_decl}
+use Rattle.pf_machine.specs.Meaning.Runs.{pixel_bytes}
+use Rattle.pf_values.specs.Meaning.Kernels.{no_decl}
 use Rattle.pf_rows.proofs.program.widths_of.Given as goal
 
 abbrev pub invariant-loop-tap : goal.invariant-loop-tap

@@ -1,10 +1,10 @@
 use Rattle.std.proofs.Common.{◌≡◌, ℕ, ◌<◌, All, ap, subst, sym, ◌∙◌, arith}
 use Rattle.std.specs.Prelude.{pos}
-use Rattle.pf_ints.specs.Images.{IsPicture}
-use Rattle.pf_ints.specs.Lanes.{IsIn}
-use Rattle.pf_isa.specs.RowEnds.{image_values}
-use Rattle.pf_terms.specs.Kernels.{Out}
-use Rattle.pf_run.specs.Pixels.{IsReach, out_number}
+use Rattle.pf_ints.specs.Meaning.Images.{IsPicture}
+use Rattle.pf_ints.specs.Meaning.Lanes.{IsIn}
+use Rattle.pf_machine.specs.Meaning.RowEnds.{image_values}
+use Rattle.pf_values.specs.Meaning.Kernels.{Out}
+use Rattle.pf_run.specs.Steps.Pixels.{IsReach, out_number}
 use Rattle.pf_run.proofs.EvalRows.{image_more, positive_rows, picture_is, output_is}
 use Rattle.pf_run.proofs.eval.eval_kept.Goals as goal
 

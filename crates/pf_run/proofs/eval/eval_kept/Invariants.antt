@@ -1,9 +1,9 @@
 use Rattle.std.proofs.Common.{◌≡◌, ℕ, ◌<◌, All}
 use Rattle.std.specs.Prelude.{pos, ◌≤ℤ◌}
-use Rattle.pf_ints.specs.Lanes.{IsIn}
-use Rattle.pf_isa.specs.RowEnds.{image_values}
-use Rattle.pf_terms.specs.Kernels.{out_value}
-use Rattle.pf_run.specs.Pixels.{out_number}
+use Rattle.pf_ints.specs.Meaning.Lanes.{IsIn}
+use Rattle.pf_machine.specs.Meaning.RowEnds.{image_values}
+use Rattle.pf_values.specs.Meaning.Kernels.{out_value}
+use Rattle.pf_run.specs.Steps.Pixels.{out_number}
 use Rattle.pf_run.proofs.eval.eval_kept.Given as goal
 
 abbrev pub invariant-rows : goal.invariant-rows

@@ -1,5 +1,5 @@
 use Rattle.std.proofs.Common.{◌≡◌, map, take}
-use Rattle.pf_terms.specs.Kernels.{tap_value}
+use Rattle.pf_values.specs.Meaning.Kernels.{tap_value}
 use Rattle.pf_run.proofs.eval.fill_taps.Given as goal
 
 abbrev pub invariant-taps : goal.invariant-taps

@@ -1,10 +1,10 @@
 use Rattle.std.proofs.Common.{◌≡◌, true, All, sym, ap, subst, ◌∙◌}
 use Rattle.std.proofs.lemmas.List.{length-map}
-use Rattle.pf_terms.specs.KernelNames.{IsNearTap}
-use Rattle.pf_terms.specs.Kernels.{tap_values}
-use Rattle.pf_terms.specs.Terms.{is_env_of}
-use Rattle.pf_kernel.specs.Kernels.{image_name, names_of}
-use Rattle.pf_run.specs.Pixels.{AreTaps, LiesInside}
+use Rattle.pf_terms.specs.Meaning.KernelNames.{IsNearTap}
+use Rattle.pf_values.specs.Meaning.Kernels.{tap_values}
+use Rattle.pf_values.specs.Meaning.Terms.{is_env_of}
+use Rattle.pf_kernel.specs.Meaning.Kernels.{image_name, names_of}
+use Rattle.pf_run.specs.Steps.Pixels.{AreTapNumbers, LiesInside}
 use Rattle.pf_run.proofs.EvalLaws.{lies_inside, taps_are, served}
 use Rattle.pf_run.proofs.eval.pixel.Goals as goal
 
@@ -30,4 +30,4 @@ value-requires-clause-entries c =
     let taps =
     taps_are s c.args.images.now c.requires.keeps c.args.reach c.requires.reach near c.args.x c.args.y c.requires.column c.requires.row c.fill_taps.new.env.taps (c.in_ok-fill_taps.ensures ∙ ap (λ ts. tap_values ts c.args.images.now c.args.x c.args.y) same) in
     subst (λ t. is_env_of c.fill_defs.new.env t ≡ true) (sym c.out.ensures)
-    (served (names_of s) c.fill_defs.new.env (subst (AreTaps (names_of s).images s.taps) (sym c.fill_defs.ensures.taps) taps) c.in_ok-fill_defs.ensures.each s.out c.names.ensures.kept.out.named)
+    (served (names_of s) c.fill_defs.new.env (subst (AreTapNumbers (names_of s).images s.taps) (sym c.fill_defs.ensures.taps) taps) c.in_ok-fill_defs.ensures.each s.out c.names.ensures.kept.out.named)

@@ -1,7 +1,7 @@
 use Rattle.std.proofs.Common.{All, subst, sym}
 use Rattle.std.specs.Prelude.{pos}
 use Rattle.std.proofs.lemmas.List.Elements.{All-push}
-use Rattle.pf_ints.specs.Lanes.{IsIn}
+use Rattle.pf_ints.specs.Meaning.Lanes.{IsIn}
 use Rattle.pf_run.proofs.EvalRows.{row_more, positive_more}
 use Rattle.pf_run.proofs.eval.push_row.Goals as goal
 

@@ -1,6 +1,6 @@
 use Rattle.std.proofs.Common.{◌≡◌, ◌<◌, ℕ, All, take, get_or, sym, ap, subst, ◌∙◌, arith}
 use Rattle.std.proofs.lemmas.List.{take_all}
-use Rattle.pf_isa.specs.Bytes.{packed}
+use Rattle.pf_machine.specs.Meaning.Bytes.{packed}
 use Rattle.pf_run.proofs.PixelLaws.{packed_one, bytes_are_small}
 use Rattle.pf_run.proofs.output.narrow_pixels.Goals as goal
 

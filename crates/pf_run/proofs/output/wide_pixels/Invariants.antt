@@ -1,5 +1,5 @@
 use Rattle.std.proofs.Common.{◌≡◌, ◌*◌, ◌<◌, take, All}
-use Rattle.pf_isa.specs.Bytes.{packed}
+use Rattle.pf_machine.specs.Meaning.Bytes.{packed}
 use Rattle.pf_run.proofs.output.wide_pixels.Given as goal
 
 abbrev pub invariant-pairs : goal.invariant-pairs

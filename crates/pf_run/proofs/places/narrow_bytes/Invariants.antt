@@ -1,5 +1,5 @@
 use Rattle.std.proofs.Common.{◌≡◌, take}
-use Rattle.pf_isa.specs.Bytes.{packed}
+use Rattle.pf_machine.specs.Meaning.Bytes.{packed}
 use Rattle.pf_run.proofs.places.narrow_bytes.Given as goal
 
 abbrev pub invariant-pixels : goal.invariant-pixels

@@ -1,8 +1,8 @@
 use Rattle.std.proofs.Common.{◌≡◌, refl, sym, ap, subst, ◌∙◌, length}
 use Rattle.std.specs.Prelude.{pos, ◌≤ℤ◌, unsigned_abs}
-use Rattle.pf_terms.specs.Kernels.{out_width, out_height}
-use Rattle.pf_isa.specs.Runs.{columns, row_budget}
-use Rattle.pf_run.specs.Pixels.{IsReach}
+use Rattle.pf_values.specs.Meaning.Kernels.{out_width, out_height}
+use Rattle.pf_machine.specs.Meaning.Runs.{columns, row_budget}
+use Rattle.pf_run.specs.Steps.Pixels.{IsReach}
 use Rattle.pf_run.proofs.ReadyLaws.{ready, plan_is}
 use Rattle.pf_run.proofs.plan.plan_of.Goals as goal
 

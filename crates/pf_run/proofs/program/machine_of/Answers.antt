@@ -1,5 +1,5 @@
 use Rattle.std.proofs.Common.{ap, ◌∙◌}
-use Rattle.pf_run.specs.Placement.{blank_memory, places_of}
+use Rattle.pf_run.specs.Meaning.Placement.{blank_memory, places_of}
 use Rattle.pf_run.proofs.ProgramLaws.{is_memory}
 use Rattle.pf_run.proofs.program.machine_of.Goals as goal
 

@@ -1,9 +1,9 @@
 use Rattle.std.proofs.Common.{◌≡◌, length, Some, sym, ap, subst, ◌∙◌, IfOk, get_or}
 use Rattle.std.specs.Prelude.{slice_get}
 use Rattle.std.proofs.lemmas.Option.{get_or_from_slice_get, slice_get-get_or}
-use Rattle.pf_isa.specs.declared.memory.Region.{Region}
-use Rattle.pf_isa.specs.Memory.{nowhere}
-use Rattle.pf_isa.specs.Runs.{pixels_in_memory}
+use Rattle.pf_machine.specs.declared.memory.Region.{Region}
+use Rattle.pf_machine.specs.Meaning.Memory.{nowhere}
+use Rattle.pf_machine.specs.Meaning.Runs.{pixels_in_memory}
 use Rattle.pf_run.proofs.program.output_image.Goals as goal
 
 pub image_in_memory-requires-clause-count : goal.image_in_memory-requires-clause-count

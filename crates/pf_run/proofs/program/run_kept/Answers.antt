@@ -1,12 +1,12 @@
 use Rattle.std.proofs.Common.{◌+◌, length, Ok, Err, refl, sym, ap, subst, ◌∙◌}
-use Rattle.pf_run.specs.Answers.{IsReady, run_end}
-use Rattle.pf_run.specs.Rows.{IsPlanOf, RowsAnswer}
+use Rattle.pf_run.specs.Meaning.Answers.{MayRun, run_end}
+use Rattle.pf_run.specs.Steps.Rows.{IsPlanOf, RowsAnswer}
 use Rattle.pf_run.proofs.ProgramLaws.{is_ready, failed_ran, has_output, ran}
 use Rattle.pf_run.proofs.program.run_kept.Goals as goal
 
 pub run_rows-requires-clause-ready : goal.run_rows-requires-clause-ready
 run_rows-requires-clause-ready g c =
-    subst (λ q. IsReady q c.args.images.now) (sym c.in_ok-machine.ensures.text) (is_ready g.I.Isa.table c.args.program c.args.images.now c.head.ensures.kept.head c.requires.keeps)
+    subst (λ q. MayRun q c.args.images.now) (sym c.in_ok-machine.ensures.text) (is_ready g.I.Isa.table c.args.program c.args.images.now c.head.ensures.kept.head c.requires.keeps)
 
 pub returns-in-Err : goal.returns-in-Err
 returns-in-Err g c =

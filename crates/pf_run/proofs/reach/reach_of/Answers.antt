@@ -1,8 +1,8 @@
 use Rattle.std.proofs.Common.{◌≡◌, rules, to_z, of_z, to_z-of_z, ap, ◌∙◌}
 use Rattle.std.specs.Prelude.{unsigned_abs}
 use Rattle.std.specs.Int.{w16, w64}
-use Rattle.pf_terms.specs.declared.reach.Axis.TheVariants.{Columns, Rows}
-use Rattle.pf_terms.specs.Reach.{extent}
+use Rattle.pf_values.specs.declared.reach.Axis.TheVariants.{Columns, Rows}
+use Rattle.pf_values.specs.Meaning.Reach.{extent}
 use Rattle.pf_run.proofs.ReadyLaws.{reach_is}
 use Rattle.pf_run.proofs.reach.reach_of.Goals as goal
 

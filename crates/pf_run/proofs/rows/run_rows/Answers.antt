@@ -1,7 +1,7 @@
 use Rattle.std.proofs.Common.{◌<◌, Ok, Err, refl, sym, ◌∙◌, subst}
-use Rattle.pf_isa.specs.Runs.{rows}
-use Rattle.pf_run.specs.Answers.{run_end}
-use Rattle.pf_run.specs.Rows.{RowsAnswer}
+use Rattle.pf_machine.specs.Meaning.Runs.{rows}
+use Rattle.pf_run.specs.Meaning.Answers.{run_end}
+use Rattle.pf_run.specs.Steps.Rows.{RowsAnswer}
 use Rattle.pf_run.proofs.RowLaws.{begun, next_row, row_failed, answers_here}
 use Rattle.pf_run.proofs.rows.run_rows.Goals as goal
 

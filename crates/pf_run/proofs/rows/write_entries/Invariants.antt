@@ -1,5 +1,5 @@
 use Rattle.std.proofs.Common.{◌≡◌, map, take}
-use Rattle.pf_isa.specs.Runs.{tap_address}
+use Rattle.pf_machine.specs.Meaning.Runs.{tap_address}
 use Rattle.pf_run.proofs.rows.write_entries.Given as goal
 
 abbrev pub invariant-taps : goal.invariant-taps

@@ -1,5 +1,5 @@
 use Rattle.std.proofs.Common.{take, All}
-use Rattle.pf_run.specs.Sets.{IsInRange}
+use Rattle.pf_run.specs.Meaning.Sets.{IsInRange}
 use Rattle.pf_run.proofs.set.judge_pixels.Given as goal
 
 abbrev pub invariant-loop-place : goal.invariant-loop-place

@@ -1,5 +1,5 @@
 use Rattle.std.proofs.Common.{subst}
-use Rattle.pf_run.specs.Answers.{Ran}
+use Rattle.pf_run.specs.Meaning.Answers.{Ran}
 use Rattle.pf_run.proofs.TextLengths.{short_code}
 use Rattle.pf_run.proofs.text.run_text.Goals as goal
 

@@ -1,5 +1,5 @@
 use Rattle.std.proofs.Common.{◌≡◌, ℕ, ◌<◌, get_or, true}
-use Rattle.pf_ints.specs.Words.{is_digit}
+use Rattle.pf_text.specs.Meaning.Words.{is_digit}
 use Rattle.pf_terms.proofs.lexer.digit_length.Given as goal
 
 abbrev pub invariant-loop-n : goal.invariant-loop-n

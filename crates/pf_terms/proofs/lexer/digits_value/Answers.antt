@@ -1,6 +1,6 @@
 use Rattle.std.proofs.Common.{arith, ◌≡◌, ap, ◌∙◌, sym}
 use Rattle.std.proofs.lemmas.List.{drop_all}
-use Rattle.pf_terms.specs.Tokens.{digits_behind}
+use Rattle.pf_terms.specs.Meaning.Tokens.{digits_behind}
 use Rattle.pf_terms.proofs.Lexing.{number_value}
 use Rattle.pf_terms.proofs.lexer.digits_value.Goals as goal
 

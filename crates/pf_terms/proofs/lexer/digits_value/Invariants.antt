@@ -1,5 +1,5 @@
 use Rattle.std.proofs.Common.{◌≡◌, ◌+◌, ◌*◌, ◌^◌, ◌≤◌, drop}
-use Rattle.pf_terms.specs.Tokens.{digits_behind}
+use Rattle.pf_terms.specs.Meaning.Tokens.{digits_behind}
 use Rattle.pf_terms.proofs.lexer.digits_value.Given as goal
 
 abbrev pub invariant-loop-digit : goal.invariant-loop-digit

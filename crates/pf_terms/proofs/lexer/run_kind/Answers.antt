@@ -1,6 +1,6 @@
 use Rattle.std.proofs.Common.{◌≡◌, refl, false}
 use Rattle.std.specs.Prelude.{codes}
-use Rattle.pf_ints.specs.Words.{is_name}
+use Rattle.pf_text.specs.Meaning.Words.{is_name}
 use Rattle.pf_terms.proofs.Lexing.{other_run, not_word}
 use Rattle.pf_terms.proofs.lexer.run_kind.Goals as goal
 

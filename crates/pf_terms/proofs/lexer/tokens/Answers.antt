@@ -1,5 +1,5 @@
 use Rattle.std.proofs.Common.{arith, subst, sym, ap, ◌∙◌, [], ◌∷◌, ◌++◌, append-nil, append_assoc, ◌+◌}
-use Rattle.pf_terms.specs.Tokens.{IsLexed}
+use Rattle.pf_terms.specs.Meaning.Tokens.{IsLexed}
 use Rattle.pf_terms.specs.declared.token.Token.{Token}
 use Rattle.pf_terms.proofs.Lexing.{lexed_blank, lexed_token, lexed_end, front_end}
 use Rattle.pf_terms.proofs.lexer.tokens.Goals as goal

@@ -1,6 +1,6 @@
 use Rattle.std.proofs.Common.{List, ◌++◌, ◌-◌, ◌≤◌, drop, length}
 use Rattle.pf_terms.specs.declared.token.Token.{Token}
-use Rattle.pf_terms.specs.Tokens.{IsLexed}
+use Rattle.pf_terms.specs.Meaning.Tokens.{IsLexed}
 use Rattle.pf_terms.proofs.lexer.tokens.Given as goal
 
 abbrev pub invariant-loop-at : goal.invariant-loop-at

@@ -1,6 +1,6 @@
 use Rattle.std.proofs.Common.{◌≡◌, ℕ, ◌<◌, get_or, false}
 use Rattle.pf_ints.specs.declared.lane.Bits.TheVariants.{Eight}
-use Rattle.pf_terms.specs.TermTexts.{type_word}
+use Rattle.pf_terms.specs.Meaning.TermTexts.{type_word}
 use Rattle.pf_terms.proofs.lexer.type_of_word.Given as goal
 
 abbrev pub invariant-loop-ty : goal.invariant-loop-ty

@@ -1,7 +1,7 @@
 use Rattle.std.proofs.Common.{ap, ◌∙◌, Bool}
 use Rattle.std.specs.List.{position}
 use Rattle.std.specs.Str.{bytes_eq}
-use Rattle.pf_terms.specs.declared.names.ImageName.{ImageName}
+use Rattle.pf_values.specs.declared.names.ImageName.{ImageName}
 use Rattle.pf_terms.proofs.Lookups.{place_told}
 use Rattle.pf_terms.proofs.lookup.image_number.Goals as goal
 

@@ -1,9 +1,11 @@
 use Rattle.std.proofs.Common.{arith, ◌≡◌, ◌∷◌, ◌++◌, sym, ap, ◌∙◌, map, drop, ◌+◌, true, append_assoc, ◌<◌, length}
 use Rattle.std.proofs.lemmas.List.{drop_more}
-use Rattle.pf_terms.specs.Terms.{is_well_formed, all_true}
-use Rattle.pf_terms.specs.TermTexts.{term_text, op_word, spelling_of}
-use Rattle.pf_terms.specs.Pieces.{onward}
-use Rattle.pf_terms.proofs.NodeParts.{node_formed, formed_each, named_each, text_told}
+use Rattle.pf_values.specs.Meaning.Terms.{is_well_formed, all_true}
+use Rattle.pf_terms.specs.Meaning.TermTexts.{term_text}
+use Rattle.pf_values.specs.Meaning.Spellings.{op_word, spelling_of}
+use Rattle.pf_terms.specs.Steps.Pieces.{onward}
+use Rattle.pf_values.proofs.NodeParts.{node_formed, formed_each, named_each}
+use Rattle.pf_terms.proofs.NodeTexts.{text_told}
 use Rattle.pf_terms.proofs.Printing.{written_more}
 use Rattle.pf_terms.proofs.print.+write_term.Goals as goal
 

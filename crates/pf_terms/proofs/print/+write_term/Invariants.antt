@@ -1,7 +1,9 @@
 use Rattle.std.proofs.Common.{◌≡◌, ◌++◌, drop, map, true, All}
-use Rattle.pf_terms.specs.Terms.{is_well_formed}
-use Rattle.pf_terms.specs.TermTexts.{term_text, is_named, op_word, spelling_of}
-use Rattle.pf_terms.specs.Pieces.{onward}
+use Rattle.pf_values.specs.Meaning.Terms.{is_well_formed}
+use Rattle.pf_terms.specs.Meaning.TermTexts.{term_text}
+use Rattle.pf_values.specs.Meaning.Spellings.{op_word, spelling_of}
+use Rattle.pf_values.specs.Meaning.NamedTerms.{is_named}
+use Rattle.pf_terms.specs.Steps.Pieces.{onward}
 use Rattle.pf_terms.proofs.print.+write_term.Given as goal
 
 abbrev pub invariant-loop-n : goal.invariant-loop-n

@@ -1,9 +1,9 @@
 use Rattle.std.proofs.Common.{rules, ◌≡◌}
 use Rattle.std.proofs.lemmas.Int.{to_z-of_z}
 use Rattle.std.specs.Prelude.{unsigned_abs}
-use Rattle.pf_terms.specs.Meanings.{written_type}
-use Rattle.pf_terms.specs.Operators.{row_of}
-use Rattle.pf_terms.specs.Terms.{result_type, first_width}
+use Rattle.pf_terms.specs.Meaning.Meanings.{written_type}
+use Rattle.pf_values.specs.Meaning.Operators.{row_of}
+use Rattle.pf_values.specs.Meaning.Terms.{result_type, first_width}
 use Rattle.pf_terms.proofs.Built.{types_told, amount_told, first_wide, some_operands}
 use Rattle.pf_terms.proofs.resolve.node_type.Goals as goal
 

@@ -1,6 +1,6 @@
 use Rattle.std.proofs.Common.{◌≡◌, string_bytes, sym, rules, ◌∙◌}
 use Rattle.std.specs.Prelude.{codes}
-use Rattle.pf_ints.specs.Targets.{target_word}
+use Rattle.pf_ints.specs.Meaning.Targets.{target_word}
 use Rattle.pf_top.proofs.SixWords.{six_items, six_texts, second_text}
 use Rattle.pf_top.proofs.command.selection_of.Goals as goal
 

@@ -2,9 +2,9 @@ use Rattle.std.proofs.Common.{◌≡◌, ◌∙◌, ◌<◌, Ok, Err, List, leng
 use Rattle.std.proofs.lemmas.List.{length-map}
 use Rattle.std.proofs.lemmas.Result.{err_from_is_err_and}
 use Rattle.std.proofs.lemmas.Slice.Zip.{AllZip-long}
-use Rattle.pf_terms.specs.declared.kernel.ImageDecl.{ImageDecl}
-use Rattle.pf_top.specs.KernelFiles.{kernels}
-use Rattle.pf_top.specs.RunSteps.{the_run}
+use Rattle.pf_values.specs.declared.kernel.ImageDecl.{ImageDecl}
+use Rattle.pf_top.specs.Meaning.KernelFiles.{kernels}
+use Rattle.pf_top.specs.Steps.RunSteps.{the_run}
 use Rattle.pf_top.proofs.KernelFiles.{pixel_decls}
 use Rattle.pf_top.proofs.Tellable.{kernel_among}
 use Rattle.pf_top.proofs.Running.{stopped_count, stopped_images, stopped_output, ended}

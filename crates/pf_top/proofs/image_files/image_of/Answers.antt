@@ -1,9 +1,9 @@
 use Rattle.std.proofs.Common.{◌≤◌, length, rules}
 use Rattle.pf_images.specs.declared.fault.ImageFault.TheVariants.{At, Memory}
-use Rattle.pf_images.specs.Faults.{IsFault}
-use Rattle.pf_images.specs.Pgm.{IsPgm}
+use Rattle.pf_images.specs.Meaning.Faults.{IsFault}
+use Rattle.pf_images.specs.Meaning.Pgm.{IsPgm}
 use Rattle.pf_text.proofs.Answering.{refused_whole}
-use Rattle.pf_top.specs.ImageFiles.{image_limit}
+use Rattle.pf_top.specs.Meaning.ImageFiles.{image_limit}
 use Rattle.pf_top.proofs.image_files.image_of.Goals as goal
 
 pub returns-in-Err-At-clause-found : goal.returns-in-Err-At-clause-found

@@ -1,6 +1,6 @@
 use Rattle.std.proofs.Common.{◌≡◌, ◌++◌, drop, map}
-use Rattle.pf_top.specs.Statuses.{line_of}
-use Rattle.pf_top.specs.Steps.{piece_text}
+use Rattle.pf_top.specs.Meaning.Statuses.{line_of}
+use Rattle.pf_top.specs.Steps.SelectSteps.{piece_text}
 use Rattle.pf_top.proofs.report.line_of.Given as goal
 
 abbrev pub invariant-pieces : goal.invariant-pieces

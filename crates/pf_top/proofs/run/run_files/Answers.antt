@@ -2,10 +2,10 @@ use Rattle.std.proofs.Common.{◌≡◌, ◌∙◌, ◌<◌, Ok, Err, List, leng
 use Rattle.std.proofs.lemmas.List.{length-map}
 use Rattle.std.proofs.lemmas.Result.{err_from_is_err_and}
 use Rattle.std.proofs.lemmas.Slice.Zip.{AllZip-long}
-use Rattle.pf_terms.specs.declared.kernel.ImageDecl.{ImageDecl}
-use Rattle.pf_top.specs.RunSteps.{the_run}
-use Rattle.pf_neon.specs.Neon.{table}
-use Rattle.pf_top.specs.TextFiles.{programs}
+use Rattle.pf_values.specs.declared.kernel.ImageDecl.{ImageDecl}
+use Rattle.pf_top.specs.Steps.RunSteps.{the_run}
+use Rattle.pf_neon.specs.Meaning.Neon.{table}
+use Rattle.pf_top.specs.Meaning.TextFiles.{programs}
 use Rattle.pf_top.proofs.Tellable.{image_among}
 use Rattle.pf_top.proofs.Running.{stopped_images, stopped_output, ended}
 use Rattle.pf_top.proofs.run.run_files.Goals as goal

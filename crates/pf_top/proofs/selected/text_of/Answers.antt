@@ -2,8 +2,8 @@ use Rattle.pf_top.proofs.HeadLaws.{head_taps}
 use Rattle.pf_top.proofs.HeadlineLaws.{IsMade, selected_from}
 use Rattle.pf_top.proofs.selected.text_of.Goals as goal
 
-pub least_program-requires : goal.least_program-requires
-least_program-requires c = rw c.in_ok-head.ensures (head_taps c.args.kernel.now _ _ c.names-names.ensures.kept c.requires)
+pub min_program-requires : goal.min_program-requires
+min_program-requires c = rw c.in_ok-head.ensures (head_taps c.args.kernel.now _ _ c.names-names.ensures.kept c.requires)
 
 pub returns : goal.returns
 returns c =

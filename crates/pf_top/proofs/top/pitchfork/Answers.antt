@@ -1,11 +1,11 @@
 use Rattle.std.proofs.Common.{◌≡◌, subst, sym}
-use Rattle.pf_top.specs.Steps.{the_words}
-use Rattle.pf_top.specs.RunSteps.{the_run}
-use Rattle.pf_top.specs.Completeness.{IsRunnable, IsSelectable}
-use Rattle.pf_top.specs.KernelFiles.{kernels}
-use Rattle.pf_top.specs.KernelStatuses.{kernel_due}
-use Rattle.pf_top.specs.RunStatuses.{text_due}
-use Rattle.pf_top.specs.TextFiles.{programs}
+use Rattle.pf_top.specs.Steps.SelectSteps.{the_words}
+use Rattle.pf_top.specs.Steps.RunSteps.{the_run}
+use Rattle.pf_top.specs.Meaning.Completeness.{IsRunnable, IsSelectable}
+use Rattle.pf_top.specs.Meaning.KernelFiles.{kernels}
+use Rattle.pf_top.specs.Meaning.KernelStatuses.{report_of_kernel}
+use Rattle.pf_top.specs.Meaning.RunStatuses.{report_of_text}
+use Rattle.pf_top.specs.Meaning.TextFiles.{programs}
 use Rattle.pf_top.proofs.Completing.{complete}
 use Rattle.pf_top.proofs.CompletingSelection.{same_select, selection_completes}
 use Rattle.pf_top.proofs.Fits.{kernels_fit, programs_fit}
@@ -34,12 +34,12 @@ returns-in-Some-run_of-2-clause-evals g c = λ r is.
 pub returns-in-Some-run_of-clause-completes : goal.returns-in-Some-run_of-clause-completes
 returns-in-Some-run_of-clause-completes g c = λ r held is told can calm quiet.
     let same : the_run c.in-Some-run_of.words ≡ r = same_run _ _ _ _ c.in-Some-run_of.ensures (rw c.as_slice-2.ensures.value is) in
-    complete programs programs_fit text_due (the_run c.in-Some-run_of.words) held _ _ _ _ _ c.run-verdict.result told (subst (λ t. IsRunnable programs t held) (sym same) can) calm quiet c.run-verdict.ensures c.tell_run_verdict.ensures
+    complete programs programs_fit report_of_text (the_run c.in-Some-run_of.words) held _ _ _ _ _ c.run-verdict.result told (subst (λ t. IsRunnable programs t held) (sym same) can) calm quiet c.run-verdict.ensures c.tell_run_verdict.ensures
 
 pub returns-in-Some-run_of-2-clause-completes_eval : goal.returns-in-Some-run_of-2-clause-completes_eval
 returns-in-Some-run_of-2-clause-completes_eval g c = λ r held is told can calm quiet.
     let same : the_run c.in-Some-run_of-2.words ≡ r = same_run _ _ _ _ c.in-Some-run_of-2.ensures (rw c.as_slice-3.ensures.value is) in
-    complete kernels kernels_fit kernel_due (the_run c.in-Some-run_of-2.words) held _ _ _ _ _ c.eval-verdict.result told (subst (λ t. IsRunnable kernels t held) (sym same) can) calm quiet c.eval-verdict.ensures c.tell_run_verdict-in-Some-run_of-2.ensures
+    complete kernels kernels_fit report_of_kernel (the_run c.in-Some-run_of-2.words) held _ _ _ _ _ c.eval-verdict.result told (subst (λ t. IsRunnable kernels t held) (sym same) can) calm quiet c.eval-verdict.ensures c.tell_run_verdict-in-Some-run_of-2.ensures
 
 pub returns-in-Some-clause-completes_select : goal.returns-in-Some-clause-completes_select
 returns-in-Some-clause-completes_select g c = λ s held is told can calm quiet.

@@ -1,5 +1,5 @@
 use Rattle.std.proofs.Common.{◌∙◌, ap, arith}
-use Rattle.pf_forms.specs.Axioms.{axiom_name}
+use Rattle.pf_forms.specs.Meaning.Axioms.{axiom_name}
 use Rattle.pf_forms.proofs.AxiomPlaces.{place_of}
 use Rattle.pf_forms.proofs.axioms.Axiom.from_name.Goals as goal
 

@@ -1,6 +1,6 @@
 use Rattle.std.proofs.Common.{◌≡◌, ℕ, ◌<◌, get_or}
 use Rattle.pf_forms.specs.declared.axioms.Axiom.TheVariants.{AddComm}
-use Rattle.pf_forms.specs.Axioms.{axiom_name}
+use Rattle.pf_forms.specs.Meaning.Axioms.{axiom_name}
 use Rattle.pf_forms.proofs.axioms.Axiom.from_name.Given as goal
 
 abbrev pub invariant-loop-axiom : goal.invariant-loop-axiom

@@ -1,7 +1,7 @@
 use Rattle.std.proofs.Common.{◌≡◌, ◌≢◌, rules}
 use Rattle.pf_isa.specs.declared.so_far.Stage.TheVariants.{Lifted}
-use Rattle.pf_isa.specs.HeadWords.{words_in}
-use Rattle.pf_isa.specs.TextFaults.{texts}
+use Rattle.pf_isa.specs.Steps.HeadWords.{words_in}
+use Rattle.pf_isa.specs.Meaning.TextFaults.{texts}
 use Rattle.pf_isa.proofs.HeadLineLaws.{words_line_goes, lifted_stage}
 use Rattle.pf_isa.proofs.so_far.HeadSoFar.next.Goals as goal
 

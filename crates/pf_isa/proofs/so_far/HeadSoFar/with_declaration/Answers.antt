@@ -1,4 +1,4 @@
-use Rattle.pf_isa.specs.TextFaults.{texts}
+use Rattle.pf_isa.specs.Meaning.TextFaults.{texts}
 use Rattle.pf_isa.proofs.HeadStepLaws.{image_goes, no_image_goes}
 use Rattle.pf_isa.proofs.so_far.HeadSoFar.with_declaration.Goals as goal
 

@@ -1,7 +1,7 @@
 use Rattle.std.proofs.Common.{◌≡◌, ◌+◌, take, rules}
 use Rattle.std.proofs.lemmas.List.{take_rest}
-use Rattle.pf_isa.specs.HeadWords.{words_in}
-use Rattle.pf_isa.specs.TextFaults.{texts}
+use Rattle.pf_isa.specs.Steps.HeadWords.{words_in}
+use Rattle.pf_isa.specs.Meaning.TextFaults.{texts}
 use Rattle.pf_isa.proofs.HeadLineLaws.{no_sign, lifted_line_goes, no_lifted_line}
 use Rattle.pf_isa.proofs.so_far.HeadSoFar.with_lifted_line.Goals as goal
 

@@ -1,6 +1,6 @@
 use Rattle.std.proofs.Common.{◌≡◌, rules, map}
-use Rattle.pf_isa.specs.Heads.{image_name}
-use Rattle.pf_isa.specs.TextFaults.{texts}
+use Rattle.pf_machine.specs.Meaning.Heads.{image_name}
+use Rattle.pf_isa.specs.Meaning.TextFaults.{texts}
 use Rattle.pf_isa.proofs.NameLaws.{images_distinct}
 use Rattle.pf_isa.proofs.HeadStepLaws.{the_tap, the_no_tap, tap_goes, no_tap_goes}
 use Rattle.pf_isa.proofs.so_far.HeadSoFar.with_tap_or_out.Goals as goal

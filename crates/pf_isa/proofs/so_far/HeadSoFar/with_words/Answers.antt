@@ -1,9 +1,9 @@
 use Rattle.std.proofs.Common.{◌≡◌, rules, sym, subst}
 use Rattle.std.specs.Prelude.{IfOk}
 use Rattle.pf_isa.specs.declared.so_far.Stage.TheVariants.{Declarations}
-use Rattle.pf_isa.specs.HeadWords.{IsTheOne}
-use Rattle.pf_isa.specs.HeadSteps.{WordsGoOn}
-use Rattle.pf_isa.specs.TextFaults.{texts}
+use Rattle.pf_isa.specs.Steps.HeadWords.{IsTheOne}
+use Rattle.pf_isa.specs.Steps.HeadSteps.{WordsGoOn}
+use Rattle.pf_isa.specs.Meaning.TextFaults.{texts}
 use Rattle.pf_isa.proofs.so_far.HeadSoFar.with_words.Goals as goal
 
 pub returns-in-Declarations : goal.returns-in-Declarations

@@ -1,0 +1,5 @@
+pub mod Words
+pub mod Pgm
+pub mod Faults
+pub mod Counts
+pub mod Outside

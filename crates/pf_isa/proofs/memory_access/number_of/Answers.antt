@@ -1,6 +1,0 @@
-use Rattle.std.proofs.Common.{rules}
-use Rattle.pf_isa.proofs.MachineLaws.{number_read}
-use Rattle.pf_isa.proofs.memory_access.number_of.Goals as goal
-
-pub returns : goal.returns
-returns c = number_read c.args.held.now c.widened.result c.from_le_bytes.result c.widened.ensures c.requires (search rules) c.from_le_bytes.type_inv c.from_le_bytes.ensures

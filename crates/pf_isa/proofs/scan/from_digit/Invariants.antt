@@ -1,6 +1,0 @@
-use Rattle.std.proofs.Common.{◌≡◌, drop}
-use Rattle.pf_isa.specs.Scan.{from_digit}
-use Rattle.pf_isa.proofs.scan.from_digit.Given as goal
-
-abbrev pub invariant-loop-i : goal.invariant-loop-i
-invariant-loop-i l = from_digit (drop l.i l.text) ≡ from_digit l.text

@@ -1,0 +1,17 @@
+pub mod Texts
+pub mod TextFaults
+pub use Rattle.pf_machine.specs.Meaning.Bytes
+pub use Rattle.pf_machine.specs.Meaning.RegisterFiles
+pub use Rattle.pf_machine.specs.Meaning.Control
+pub use Rattle.pf_machine.specs.Meaning.Tables
+pub use Rattle.pf_machine.specs.Meaning.Effects
+pub use Rattle.pf_machine.specs.Meaning.Memory
+pub use Rattle.pf_machine.specs.Meaning.MachineSteps
+pub use Rattle.pf_machine.specs.Meaning.Heads
+pub use Rattle.pf_machine.specs.Meaning.Programs
+pub use Rattle.pf_machine.specs.Meaning.Blocks
+pub use Rattle.pf_machine.specs.Meaning.Runs
+pub use Rattle.pf_machine.specs.Meaning.RowEnds
+pub use Rattle.pf_machine.specs.Meaning.Moved
+pub use Rattle.pf_machine.specs.Meaning.Machines
+pub use Rattle.pf_machine.specs.Meaning.Roles

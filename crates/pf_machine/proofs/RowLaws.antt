@@ -1,0 +1,267 @@
+-- From rows to images.
+use Rattle.std.proofs.Common.{◌≡◌, ℕ, zero, suc, ◌+◌, ◌*◌, ◌<◌, ◌≤◌, List, [], ◌∷◌, ◌++◌, length, map, take, drop, get_or, refl, sym, ap, ◌∙◌, arith, append_assoc, length-append, length-take, length-drop, append-nil, ◌^◌, All, inl, inr, ⊎_elim, true}
+use Rattle.std.specs.Prelude.{ℤ, pos, ◌≤ℤ◌, unsigned_abs, replicate}
+use Rattle.std.specs.List.{range_with_len, flat_map, AllPairs}
+use Rattle.std.proofs.lemmas.List.{take_at, take_all, length-take-le, get_or_append_left, get_or-append-add, get_or-map, length-map, length-replicate, map-append}
+use Rattle.std.proofs.Math.Nat.{mul_assoc}
+use Rattle.std.proofs.lemmas.Int.{ints}
+use Rattle.std.proofs.lemmas.Nat.{column_fits}
+use Rattle.std.proofs.lemmas.List.FromFn.{length-map-range_with_len, get_or-map-range_with_len}
+use Rattle.pf_machine.specs.Meaning.Bytes.{packed}
+use Rattle.pf_machine.specs.Meaning.Memory.{Apart}
+use Rattle.pf_machine.specs.declared.memory.Region.{Region}
+use Rattle.pf_ints.specs.Meaning.Images.{Picture}
+use Rattle.pf_values.specs.Meaning.Kernels.{Source, Keeps, Out, out_value, out_width, out_height}
+use Rattle.pf_machine.specs.declared.program.Head.{Head}
+use Rattle.pf_machine.specs.Meaning.Tables.{Table}
+use Rattle.pf_machine.specs.Meaning.Programs.{ProgramOf}
+use Rattle.pf_machine.specs.Meaning.Runs.{Places, pixel_bytes, pixels_in_memory, columns, rows, region, image_regions, memory, row_entries, row_budget, table_size, output_size, IsPlaced, rows_from, Finished, Runs, Leaves}
+use Rattle.pf_machine.specs.Meaning.RowEnds.{row_size, with_row, RowDone, RowsDone, row_values, image_values, output_picture, row_in_memory}
+use Rattle.pf_machine.proofs.ByteLaws.{packed-append, length-packed}
+
+-- the rows up to one that is written, and that one
+pub take-with_row : (output row : List ℕ) (size y : ℕ) → size * y ≤ length output → length row ≡ size → take (size * suc y) (with_row output size y row) ≡ take (size * y) output ++ row
+take-with_row output row size y inside long =
+    let front : length (take (size * y) output ++ row) ≡ size * suc y = rw (length-append, length-take-le (size * y) output inside, long) (omega arith) in
+    rw (← append_assoc) (take_at (take (size * y) output ++ row) (drop (size * y + size) output) (size * suc y) front)
+
+-- a row leaves the output its size
+pub length-with_row : (output row : List ℕ) (size y : ℕ) → size * y + size ≤ length output → length row ≡ size → length (with_row output size y row) ≡ length output
+length-with_row output row size y inside long = simp (length-append, length-take, length-drop) (omega arith)
+
+-- pixels in rows, from row a on
+pub length-rows : (f : ℕ → List ℕ) (width a n : ℕ) → ((y : ℕ) → a ≤ y → y < a + n → length (f y) ≡ width) → length (flat_map f (range_with_len a n)) ≡ width * n
+length-rows f width a zero long = omega arith
+length-rows f width a (suc n) long =
+    let here : length (f a) ≡ width = long a (omega arith) (omega arith) in
+    let rest : length (flat_map f (range_with_len (a + 1) n)) ≡ width * n = length-rows f width (a + 1) n (λ y low high. long y (omega arith) (omega arith)) in
+    rw (length-append, here, rest) (omega arith)
+
+pub get_or-rows : (f : ℕ → List ℕ) (width a n x i d : ℕ) → ((y : ℕ) → a ≤ y → y < a + n → length (f y) ≡ width) → x < width → i < n → get_or (flat_map f (range_with_len a n)) (width * i + x) d ≡ get_or (f (a + i)) x d
+get_or-rows f width a zero x i d long column row = absurd (omega arith)
+get_or-rows f width a (suc n) x zero d long column row =
+    let here : length (f a) ≡ width = long a (omega arith) (omega arith) in
+    let place : width * 0 + x ≡ x = omega arith in
+    let first : a + 0 ≡ a = omega arith in
+    rw (place, first) (get_or_append_left (f a) (flat_map f (range_with_len (a + 1) n)) d x (omega arith))
+get_or-rows f width a (suc n) x (suc i) d long column row =
+    let here : length (f a) ≡ width = long a (omega arith) (omega arith) in
+    let place : width * suc i + x ≡ length (f a) + (width * i + x) = omega arith in
+    let next : a + 1 + i ≡ a + suc i = omega arith in
+    rw place (get_or-append-add (f a) (flat_map f (range_with_len (a + 1) n)) (width * i + x) d ∙ get_or-rows f width (a + 1) n x i d (λ y low high. long y (omega arith) (omega arith)) column (omega arith) ∙ ap (λ k. get_or (f k) x d) next)
+
+-- the numbers of an image
+pub length-row_values : (value : ℕ → ℕ → ℕ) (width y : ℕ) → length (row_values value width y) ≡ width
+length-row_values value width y = length-map-range_with_len (λ x. value x y) 0 width
+
+pub length-image_values : (value : ℕ → ℕ → ℕ) (width height : ℕ) → length (image_values value width height) ≡ width * height
+length-image_values value width height = length-rows (λ y. row_values value width y) width 0 height (λ y low high. length-row_values value width y)
+
+pub get_or-image_values : (value : ℕ → ℕ → ℕ) (width height x y d : ℕ) → x < width → y < height → get_or (image_values value width height) (width * y + x) d ≡ value x y
+get_or-image_values value width height x y d column row =
+    let at : 0 + y ≡ y = omega arith in
+    get_or-rows (λ y. row_values value width y) width 0 height x y d (λ y low high. length-row_values value width y) column row
+    ∙ ap (λ k. get_or (row_values value width k) x d) at
+    ∙ get_or-map-range_with_len (λ x. value x y) 0 width x x d column (omega arith)
+
+-- all rows in memory are the image in memory
+pub packed-rows : (w : ℕ) (f : ℕ → List ℕ) (ys : List ℕ) → packed w (flat_map f ys) ≡ flat_map (λ y. packed w (f y)) ys
+packed-rows w f [] = refl
+packed-rows w f (y ∷ ys) = packed-append w (f y) (flat_map f ys) ∙ ap (λ rest. packed w (f y) ++ rest) (packed-rows w f ys)
+
+pub output_in_rows : (h : Head) (pictures : List Picture) → output_size h pictures ≡ row_size h pictures * rows h pictures
+output_in_rows h pictures = sym (mul_assoc (pixel_bytes h.out_ty) (columns h pictures) (rows h pictures))
+
+module _ {I O : Type 0} (t : Table O) (p : ProgramOf I O) (pictures : List Picture) (at : Places) (row : ℕ → List ℕ) (done : RowsDone t p pictures at row) where
+  -- so many rows from row y on end, and leave this output
+  record RowsLeft (left y : ℕ) (table scratch output whole : List ℕ) : Type 0 where
+    table_left : List ℕ
+    kept : List ℕ
+    kept_size : length kept ≡ length scratch
+    ends : rows_from t p at.table (row_budget (length p.code) (length p.head.taps) (columns p.head pictures)) (λ y. row_entries p.head pictures at y) left y (memory pictures at table scratch output) ≡ Finished (memory pictures at table_left kept whole)
+
+  rows_left : (left y : ℕ) (table scratch output : List ℕ) → y + left ≡ rows p.head pictures → length scratch ≡ p.head.scratch → length output ≡ row_size p.head pictures * rows p.head pictures
+      → RowsLeft left y table scratch output (take (row_size p.head pictures * y) output ++ flat_map row (range_with_len y left))
+  rows_left zero y table scratch output count small long =
+      let size : length output ≡ row_size p.head pictures * y = long ∙ ap (λ n. row_size p.head pictures * n) (omega arith) in
+      let whole : take (row_size p.head pictures * y) output ++ [] ≡ output = append-nil _ ∙ take_all (row_size p.head pictures * y) output (omega arith) in
+      record {
+        table_left = table;
+        kept = scratch;
+        kept_size = refl;
+        ends = ap (λ o. Finished (memory pictures at table scratch o)) (sym whole);
+      }
+  rows_left (suc left) y table scratch output count small long =
+      let size = row_size p.head pictures in
+      let inside : y < rows p.head pictures = omega arith in
+      let here : RowDone t p pictures at y (row y) scratch output = done.each y inside scratch output small (long ∙ sym (output_in_rows p.head pictures)) in
+      let width : length (row y) ≡ size = done.size y inside in
+      let fits : size * y + size ≤ length output = rw long (column_fits size y size (rows p.head pictures) inside (omega arith)) in
+      let kept_small : length here.kept ≡ p.head.scratch = here.kept_size ∙ small in
+      let kept_long : length (with_row output size y (row y)) ≡ size * rows p.head pictures = length-with_row output (row y) size y fits width ∙ long in
+      let rest = rows_left left (suc y) (packed 8 (row_entries p.head pictures at y)) here.kept (with_row output size y (row y)) (omega arith) kept_small kept_long in
+      let next : y + 1 ≡ suc y = omega arith in
+      let whole : take (size * suc y) (with_row output size y (row y)) ++ flat_map row (range_with_len (suc y) left) ≡ take (size * y) output ++ (row y ++ flat_map row (range_with_len (y + 1) left)) =
+      rw (take-with_row output (row y) size y (omega arith) width, next) (append_assoc (take (size * y) output) (row y) (flat_map row (range_with_len (suc y) left))) in
+      record {
+        table_left = rest.table_left;
+        kept = rest.kept;
+        kept_size = rest.kept_size ∙ here.kept_size;
+        ends = rw (here.ends, here.regions) (rest.ends ∙ ap (λ o. Finished (memory pictures at rest.table_left rest.kept o)) whole);
+      }
+
+  -- All rows from the first on end, and leave their bytes one after another, whatever was in the scratch and the output.
+  pub rows_end : (scratch output : List ℕ) → length scratch ≡ p.head.scratch → length output ≡ output_size p.head pictures
+      → (table : List ℕ) × (kept : List ℕ) × (length kept ≡ length scratch) × (Runs t p pictures at scratch output ≡ Finished (memory pictures at table kept (flat_map row (range_with_len 0 (rows p.head pictures)))))
+  rows_end scratch output small long =
+      let size = row_size p.head pictures in
+      let all = rows_left (rows p.head pictures) 0 (replicate (table_size p.head) 0) scratch output (omega arith) small (long ∙ output_in_rows p.head pictures) in
+      let none : size * 0 ≡ 0 = omega arith in
+      (all.table_left, all.kept, all.kept_size, (rw none at all.ends))
+
+-- The image of the rows
+
+pub length-row_in_memory : (value : ℕ → ℕ → ℕ) (h : Head) (pictures : List Picture) (y : ℕ) → length (row_in_memory value h pictures y) ≡ row_size h pictures
+length-row_in_memory value h pictures y =
+    length-packed (pixel_bytes h.out_ty) (row_values value (columns h pictures) y) ∙ ap (λ n. pixel_bytes h.out_ty * n) (length-row_values value (columns h pictures) y)
+
+pub rows_in_memory : (value : ℕ → ℕ → ℕ) (h : Head) (pictures : List Picture) → flat_map (row_in_memory value h pictures) (range_with_len 0 (rows h pictures)) ≡ pixels_in_memory h.out_ty (output_picture value h pictures).pixels
+rows_in_memory value h pictures = sym (packed-rows (pixel_bytes h.out_ty) (λ y. row_values value (columns h pictures) y) (range_with_len 0 (rows h pictures)))
+
+-- where each row writes its numbers, the run leaves the picture of them
+pub picture_left : {I O : Type 0} (t : Table O) (p : ProgramOf I O) (pictures : List Picture) (at : Places) (value : ℕ → ℕ → ℕ)
+    → ((scratch output : List ℕ) → length scratch ≡ p.head.scratch → length output ≡ output_size p.head pictures → (y : ℕ) → y < rows p.head pictures → RowDone t p pictures at y (row_in_memory value p.head pictures y) scratch output)
+    → (scratch output : List ℕ) → length scratch ≡ p.head.scratch → length output ≡ output_size p.head pictures → Leaves t p pictures at scratch output (output_picture value p.head pictures)
+picture_left t p pictures at value each scratch output small long =
+    let done : RowsDone t p pictures at (row_in_memory value p.head pictures) = record {
+      size = λ y inside. length-row_in_memory value p.head pictures y;
+      each = λ y inside s o fits whole. each s o fits whole y inside;
+    } in
+    let all = rows_end t p pictures at (row_in_memory value p.head pictures) done scratch output small long in
+    record {
+      table = all.0;
+      kept = all.1;
+      kept_size = all.2;
+      ends = all.3 ∙ ap (λ o. Finished (memory pictures at all.0 all.1 o)) (rows_in_memory value p.head pictures);
+    }
+
+-- a size that is at least 1
+pub whole_size : (z : ℤ) → pos 1 ≤ℤ z → pos (unsigned_abs z) ≡ z
+whole_size z some = omega (arith, ints)
+
+-- where the numbers are the values of the kernel's output, the picture of them is the kernel's output
+pub picture_is_out : (s : Source) (h : Head) (pictures : List Picture) (value : ℕ → ℕ → ℕ) → s.taps ≡ h.taps → s.out_ty ≡ h.out_ty → Keeps s pictures
+    → ((x y : ℕ) → x < columns h pictures → y < rows h pictures → pos (value x y) ≡ out_value s pictures x y) → Out s pictures (output_picture value h pictures)
+picture_is_out s h pictures value taps ty keeps each =
+    record {
+      ty = sym ty;
+      width = ap (λ ts. pos (unsigned_abs (out_width ts pictures))) (sym taps) ∙ whole_size (out_width s.taps pictures) keeps.wide;
+      height = ap (λ ts. pos (unsigned_abs (out_height ts pictures))) (sym taps) ∙ whole_size (out_height s.taps pictures) keeps.high;
+      count = length-image_values value (columns h pictures) (rows h pictures);
+      each = λ x y column row. ap (λ n. pos n) (get_or-image_values value (columns h pictures) (rows h pictures) x y 0 column row) ∙ each x y column row;
+    }
+
+-- The places of regions, whatever bytes they hold
+
+pub record IsShaped (r s : Region) : Type 0 where
+  pub start : r.start ≡ s.start
+  pub size : length r.bytes ≡ length s.bytes
+
+abbrev pub place_of_region : Region → ℕ × ℕ
+place_of_region r = (r.start, length r.bytes)
+
+shaped : (rs ss : List Region) → map place_of_region rs ≡ map place_of_region ss → (k : ℕ) (d : Region) → k < length rs → IsShaped (get_or rs k d) (get_or ss k d)
+shaped rs ss same k d inside =
+    let long : length rs ≡ length ss = sym (length-map rs place_of_region) ∙ ap length same ∙ length-map ss place_of_region in
+    let left : get_or (map place_of_region rs) k (place_of_region d) ≡ place_of_region (get_or rs k d) = get_or-map place_of_region rs k d (place_of_region d) inside in
+    let right : get_or (map place_of_region ss) k (place_of_region d) ≡ place_of_region (get_or ss k d) = get_or-map place_of_region ss k d (place_of_region d) (omega arith) in
+    let both : place_of_region (get_or rs k d) ≡ place_of_region (get_or ss k d) = sym left ∙ ap (λ l. get_or l k (place_of_region d)) same ∙ right in
+    record { start = ap (λ (q : ℕ × ℕ). q.0) both; size = ap (λ (q : ℕ × ℕ). q.1) both }
+
+same_length : (rs ss : List Region) → map place_of_region rs ≡ map place_of_region ss → length rs ≡ length ss
+same_length rs ss same = sym (length-map rs place_of_region) ∙ ap length same ∙ length-map ss place_of_region
+
+pub apart_kept : (rs ss : List Region) → map place_of_region rs ≡ map place_of_region ss → AllPairs Apart rs → AllPairs Apart ss
+apart_kept rs ss same apart i j d before inside =
+    let long : length rs ≡ length ss = same_length rs ss same in
+    let a : IsShaped (get_or rs i d) (get_or ss i d) = shaped rs ss same i d (omega arith) in
+    let b : IsShaped (get_or rs j d) (get_or ss j d) = shaped rs ss same j d (omega arith) in
+    let first = a.start in
+    let first_size = a.size in
+    let second = b.start in
+    let second_size = b.size in
+    ⊎_elim
+    (λ (p : (get_or rs i d).start + length (get_or rs i d).bytes ≤ (get_or rs j d).start). inl (omega arith))
+    (λ (p : (get_or rs j d).start + length (get_or rs j d).bytes ≤ (get_or rs i d).start). inr (omega arith))
+    (apart i j d before (omega arith))
+
+pub low_kept : (rs ss : List Region) → map place_of_region rs ≡ map place_of_region ss → All (λ r. r.start + length r.bytes < 2 ^ 31) rs → All (λ r. r.start + length r.bytes < 2 ^ 31) ss
+low_kept rs ss same low k d inside =
+    let long : length rs ≡ length ss = same_length rs ss same in
+    let a : IsShaped (get_or rs k d) (get_or ss k d) = shaped rs ss same k d (omega arith) in
+    let start = a.start in
+    let size = a.size in
+    let here : (get_or rs k d).start + length (get_or rs k d).bytes < 2 ^ 31 = low k d (omega arith) in
+    omega arith
+
+-- other bytes of the same sizes in the table, the scratch and the output
+pub memory_places : (pictures : List Picture) (at : Places) (table scratch output table' scratch' output' : List ℕ) → length table' ≡ length table → length scratch' ≡ length scratch → length output' ≡ length output
+    → map place_of_region (memory pictures at table scratch output) ≡ map place_of_region (memory pictures at table' scratch' output')
+memory_places pictures at table scratch output table' scratch' output' tables scratches outputs =
+    let joined = λ (o : List ℕ). map-append place_of_region (image_regions at.images pictures) (region at.output o true ∷ []) in
+    let front = λ (m n : ℕ) (l : List (ℕ × ℕ)). (at.table, m) ∷ (at.scratch, n) ∷ l in
+    let middle : front (length table) (length scratch) (map place_of_region (image_regions at.images pictures) ++ (at.output, length output) ∷ [])
+    ≡ front (length table') (length scratch') (map place_of_region (image_regions at.images pictures) ++ (at.output, length output') ∷ []) =
+    rw (tables, scratches, outputs) refl in
+    ap (λ l. front (length table) (length scratch) l) (joined output) ∙ middle ∙ sym (ap (λ l. front (length table') (length scratch') l) (joined output'))
+
+pub length-row_entries : (h : Head) (pictures : List Picture) (at : Places) (y : ℕ) → length (row_entries h pictures at y) ≡ length h.taps + 3
+length-row_entries h pictures at y = simp (length-append, length-map) (omega arith)
+
+pub length-row_table : (h : Head) (pictures : List Picture) (at : Places) (y : ℕ) → length (packed 8 (row_entries h pictures at y)) ≡ table_size h
+length-row_table h pictures at y = length-packed 8 (row_entries h pictures at y) ∙ ap (λ n. 8 * n) (length-row_entries h pictures at y)
+
+-- the memory in which a run begins
+abbrev pub first_memory : Head → List Picture → Places → (scratch output : List ℕ) → List Region
+first_memory h pictures at scratch output = memory pictures at (replicate (table_size h) 0) scratch output
+
+pub placed_kept : (h : Head) (pictures : List Picture) (at : Places) (scratch output scratch' output' : List ℕ) → IsPlaced h pictures at scratch output → length scratch' ≡ h.scratch → length output' ≡ output_size h pictures → IsPlaced h pictures at scratch' output'
+placed_kept h pictures at scratch output scratch' output' placed small long =
+    let before = first_memory h pictures at scratch output in
+    let after = first_memory h pictures at scratch' output' in
+    let same : map place_of_region before ≡ map place_of_region after =
+    memory_places pictures at (replicate (table_size h) 0) scratch output (replicate (table_size h) 0) scratch' output' refl (small ∙ sym placed.scratch_size) (long ∙ sym placed.output_bytes) in
+    record {
+      image_count = placed.image_count;
+      scratch_size = small;
+      output_bytes = long;
+      apart = apart_kept before after same placed.apart;
+      low = low_kept before after same placed.low;
+      aligned = placed.aligned;
+      aligned_output = placed.aligned_output;
+      aligned_table = placed.aligned_table;
+    }
+
+-- the memory of a row, with the table of the row
+pub row_places : (h : Head) (pictures : List Picture) (at : Places) (y : ℕ) (scratch output : List ℕ)
+    → map place_of_region (first_memory h pictures at scratch output) ≡ map place_of_region (memory pictures at (packed 8 (row_entries h pictures at y)) scratch output)
+row_places h pictures at y scratch output =
+    memory_places pictures at (replicate (table_size h) 0) scratch output (packed 8 (row_entries h pictures at y)) scratch output (length-row_table h pictures at y ∙ sym (length-replicate (table_size h) 0)) refl refl
+
+pub row_apart : (h : Head) (pictures : List Picture) (at : Places) (y : ℕ) (scratch output : List ℕ) → IsPlaced h pictures at scratch output → AllPairs Apart (memory pictures at (packed 8 (row_entries h pictures at y)) scratch output)
+row_apart h pictures at y scratch output placed = apart_kept (first_memory h pictures at scratch output) (memory pictures at (packed 8 (row_entries h pictures at y)) scratch output) (row_places h pictures at y scratch output) placed.apart
+
+pub row_low : (h : Head) (pictures : List Picture) (at : Places) (y : ℕ) (scratch output : List ℕ) → IsPlaced h pictures at scratch output → All (λ r. r.start + length r.bytes < 2 ^ 31) (memory pictures at (packed 8 (row_entries h pictures at y)) scratch output)
+row_low h pictures at y scratch output placed = low_kept (first_memory h pictures at scratch output) (memory pictures at (packed 8 (row_entries h pictures at y)) scratch output) (row_places h pictures at y scratch output) placed.low
+
+-- Where each row of a program writes the values of a kernel's output, under every placement, the program's runs leave the kernel's output.
+pub leaves : {I O : Type 0} (t : Table O) (p : ProgramOf I O) (pictures : List Picture) (s : Source) (value : ℕ → ℕ → ℕ) → s.taps ≡ p.head.taps → s.out_ty ≡ p.head.out_ty → Keeps s pictures
+    → ((x y : ℕ) → x < columns p.head pictures → y < rows p.head pictures → pos (value x y) ≡ out_value s pictures x y)
+    → ((at : Places) (scratch output : List ℕ) → IsPlaced p.head pictures at scratch output → (y : ℕ) → y < rows p.head pictures → RowDone t p pictures at y (row_in_memory value p.head pictures y) scratch output)
+    → (o : Picture) × Out s pictures o × ((at : Places) (scratch output : List ℕ) → IsPlaced p.head pictures at scratch output → Leaves t p pictures at scratch output o)
+leaves t p pictures s value taps ty keeps values each = (
+  output_picture value p.head pictures,
+  picture_is_out s p.head pictures value taps ty keeps values,
+  (λ at scratch output placed.
+      picture_left t p pictures at value (λ kept left small long y inside. each at kept left (placed_kept p.head pictures at scratch output kept left placed small long) y inside) scratch output placed.scratch_size placed.output_bytes),
+)

@@ -1,0 +1,15 @@
+pub mod Bytes
+pub mod RegisterFiles
+pub mod Control
+pub mod Tables
+pub mod Effects
+pub mod Memory
+pub mod MachineSteps
+pub mod Heads
+pub mod Programs
+pub mod Blocks
+pub mod Runs
+pub mod RowEnds
+pub mod Moved
+pub mod Machines
+pub mod Roles

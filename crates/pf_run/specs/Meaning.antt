@@ -1,0 +1,4 @@
+pub mod Sets
+pub mod Placement
+pub mod Answers
+pub mod Evaluations

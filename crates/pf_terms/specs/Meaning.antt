@@ -1,0 +1,13 @@
+pub mod TermTexts
+pub mod Tokens
+pub mod Grammar
+pub mod SyntaxTrees
+pub mod KernelNames
+pub mod Meanings
+pub use Rattle.pf_values.specs.Meaning.Operators
+pub use Rattle.pf_values.specs.Meaning.Terms
+pub use Rattle.pf_values.specs.Meaning.Kernels
+pub use Rattle.pf_values.specs.Meaning.Reach
+pub use Rattle.pf_values.specs.Meaning.NamedTerms
+pub use Rattle.pf_values.specs.Meaning.Spellings
+pub use Rattle.pf_values.specs.Meaning.Limits

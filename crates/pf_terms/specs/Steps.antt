@@ -1,0 +1,4 @@
+pub mod Pieces
+pub mod Parsing
+pub mod Reading
+pub mod Building

@@ -1,0 +1,4 @@
+pub mod Answers
+pub mod FirstFaults
+pub mod Words
+pub mod Lines

@@ -1,0 +1,10 @@
+pub mod Typing
+pub mod OperandLists
+pub mod NodeParts
+pub mod Bounds
+pub mod Floors
+pub mod Ranges
+pub mod NodeRanges
+pub mod TermRanges
+pub mod Evaluating
+pub mod Reaching

@@ -1,0 +1,11 @@
+use Rattle.std.proofs.Common.{◌≡◌, drop, ◌+◌, ◌-◌, ◌^◌, ◌<◌, min, map}
+use Rattle.std.specs.Prelude.{sum}
+use Rattle.pf_values.specs.Meaning.Terms.{weight_of}
+use Rattle.pf_values.proofs.weights.+weight.Given as goal
+
+abbrev pub invariant-loop-arg : goal.invariant-loop-arg
+invariant-loop-arg l =
+    record {
+      fits : l.sum < 2 ^ 64;
+      whole : min (l.sum + sum (map weight_of (drop l.arg-index l.arg-items))) (2 ^ 64 - 1) ≡ min (weight_of l.term) (2 ^ 64 - 1);
+    }
