@@ -15,7 +15,7 @@ use Rattle.pf_machine.specs.Meaning.Heads.{IsHead}
 use Rattle.pf_machine.specs.Meaning.Runs.{pixel_bytes}
 use Rattle.pf_neon.specs.declared.op.Instruction.{Instruction}
 use Rattle.pf_neon.specs.Meaning.Neon.{table}
-use Rattle.pf_rows.specs.Meaning.BlockRows.{IsRowBlock, IsBlockItem, StoresEach, slots_in, tap_widths}
+use Rattle.pf_rows.specs.Meaning.BlockRows.{IsRowBlock, IsBlockItem, StoresEach, tap_widths}
 use Rattle.pf_values.specs.Meaning.Kernels.{no_decl}
 use Rattle.pf_tests.specs.Steps.RowBlocks.{copy_block, least_block}
 
@@ -84,11 +84,9 @@ tap_width_is h n t d tap image =
 width_count : (h : Head) → length (tap_widths h) ≡ length h.taps
 width_count h = length-map h.taps (λ t. pixel_bytes (get_or h.images t.image no_decl).ty)
 
-pub copy_is_row_block : (h : Head) → IsHead h → length h.taps ≡ 1 → h.scratch ≡ 192 → pixel_bytes h.out_ty ≡ 2 → get_or (tap_widths h) 0 0 ≡ 2 → IsRowBlock table h (slots_in table h) copy_block
+pub copy_is_row_block : (h : Head) → IsHead h → length h.taps ≡ 1 → h.scratch ≡ 192 → pixel_bytes h.out_ty ≡ 2 → get_or (tap_widths h) 0 0 ≡ 2 → IsRowBlock table h 0 copy_block
 copy_is_row_block h head one scratch out wide =
     let count : length (tap_widths h) ≡ 1 = width_count h ∙ one in
-    let slots : slots_in table h ≡ 0 = rw (one, scratch) refl in
-    rw slots (
     record {
       head = head;
       scratch = rw (one, scratch) refl;
@@ -96,14 +94,11 @@ copy_is_row_block h head one scratch out wide =
       steps = rw out (copy_steps (tap_widths h) (omega arith) (omega arith));
       stores = rw out copy_stores;
     }
-    )
 
 pub least_is_row_block : (h : Head) → IsHead h → length h.taps ≡ 17 → h.scratch ≡ 864 → pixel_bytes h.out_ty ≡ 1 → get_or (tap_widths h) 0 0 ≡ 1 → get_or (tap_widths h) 15 0 ≡ 1 → get_or (tap_widths h) 16 0 ≡ 2
-    → IsRowBlock table h (slots_in table h) least_block
+    → IsRowBlock table h 2 least_block
 least_is_row_block h head many scratch out first second third =
     let count : length (tap_widths h) ≡ 17 = width_count h ∙ many in
-    let slots : slots_in table h ≡ 2 = rw (many, scratch) refl in
-    rw slots (
     record {
       head = head;
       scratch = rw (many, scratch) refl;
@@ -111,4 +106,3 @@ least_is_row_block h head many scratch out first second third =
       steps = rw out (least_steps (tap_widths h) (omega arith) (omega arith) (omega arith) (omega arith));
       stores = rw out least_stores;
     }
-    )

@@ -40,7 +40,7 @@ fn words_of(alloc: Global, words: &str) -> Result<Vec<String>, Fail> {
 /// A store that holds the files.
 pub fn store_of(alloc: Global, files: Held<'_>, script: Script) -> Result<ScriptedFiles, Fail> {
     let mut store = ScriptedFiles::new(alloc, script);
-    for (name, bytes) in files {
+    for &(name, bytes) in files {
         hold(alloc, &mut store.held, name, bytes)?;
     }
     Ok(store)

@@ -111,14 +111,12 @@ ldr x5, [x4, #0]
 add x5, x5, x3
 ldrb w6, [x5]
 add x7, x2, #128
-add x7, x7, #0
 add x7, x7, x3
 strb w6, [x7]
 add x3, x3, #1
 cmp x3, x1
 b.lo c00
 add x7, x2, #128
-add x7, x7, #0
 str x7, [x2, #0]
 mov x3, #0
 c01:
@@ -126,17 +124,14 @@ ldr x5, [x4, #8]
 add x5, x5, x3
 ldrb w6, [x5]
 add x7, x2, #160
-add x7, x7, #0
 add x7, x7, x3
 strb w6, [x7]
 add x3, x3, #1
 cmp x3, x1
 b.lo c01
 add x7, x2, #160
-add x7, x7, #0
 str x7, [x2, #8]
 add x7, x2, #192
-add x7, x7, #0
 str x7, [x2, #16]
 add x0, x2, #0
 mov x3, #0
@@ -145,7 +140,6 @@ back:
 mov x3, #0
 loop:
 add x5, x2, #192
-add x5, x5, #0
 add x5, x5, x3
 ldrb w6, [x5]
 ldr x7, [x4, #16]
