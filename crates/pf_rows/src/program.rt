@@ -1,4 +1,4 @@
-ghost use Rattle.std.specs.Prelude.{◌≡◌, ◌+◌, ◌*◌, ◌/◌, ◌^◌, ◌<◌, ◌≤◌, ◌++◌, [], ◌∷◌, length, map, take, All, IfOk, OnOk, codes, slice_index_or};
+ghost use Rattle.std.specs.Prelude.{◌≡◌, ◌+◌, ◌*◌, ◌/◌, ◌^◌, ◌<◌, ◌≤◌, ◌++◌, [], ◌∷◌, length, map, take, All, IfOk, OnOk, codes, slice_index_or, ℕ};
 ghost use Rattle.pf_ints.specs.Meaning.Images.{IsPixelType};
 ghost use Rattle.pf_machine.specs.Meaning.Heads.{IsHead};
 ghost use Rattle.pf_machine.specs.Meaning.Moved.{Moved, Work};
@@ -135,10 +135,9 @@ fn lines<I: Isa>(
 fn row_text<I: Isa>(
     alloc: Global,
     block: Block<I::Op>,
-    slots: u32,
     head: Head,
 ) -> Result<Program<I>, Memory>
-    requires { IsRowBlock I.table head slots block }
+    requires { (slots : ℕ) × IsRowBlock I.table head slots block }
     ensures value { IfOk result (λ p. p ≡ row_text I I.table head block) }
     ensures known { IfOk result (λ _. All (λ i. IsOne I.is_op i) block) }
 {
@@ -152,21 +151,20 @@ fn row_text<I: Isa>(
 ///
 /// The block runs in place at every whole block of pixels, and at the row's last ones where some
 /// are left. A row of fewer pixels than a vector has bytes is copied into the scratch, and its
-/// pixels back from there. The head's scratch has room for as many slots as `slots` says, which
-/// the block may use. It fails for want of memory alone.
+/// pixels back from there. The head's scratch has room for a number of slots, which the block may
+/// use. It fails for want of memory alone.
 pub fn row_program<I: Isa>(
     alloc: Global,
     block: Block<I::Op>,
-    slots: u32,
     head: Head,
 ) -> Result<Program<I>, Memory>
-    requires { IsRowBlock I.table head slots block }
+    requires { (slots : ℕ) × IsRowBlock I.table head slots block }
     ensures head { IfOk result (λ p. p.head ≡ head) }
     ensures moved { IfOk result (λ p. Moved I.table (length p.head.taps) p.code p.labels) }
     ensures work { IfOk result (λ p. Work I.table p.code ≡ block_cost I.table block) }
-    ensures rows { IfOk result (λ p. RunsBlock I.table slots block p) }
-    ensures lanes { IfOk result (λ p. LeavesLanes I.table slots block p) }
+    ensures rows { IfOk result (λ p. (slots : ℕ) → IsRowBlock I.table head slots block → RunsBlock I.table slots block p) }
+    ensures lanes { IfOk result (λ p. (slots : ℕ) → IsRowBlock I.table head slots block → LeavesLanes I.table slots block p) }
 {
-    let program = row_text(alloc, block, slots, head)?;
+    let program = row_text(alloc, block, head)?;
     Ok(program)
 }

@@ -84,25 +84,25 @@ tap_width_is h n t d tap image =
 width_count : (h : Head) → length (tap_widths h) ≡ length h.taps
 width_count h = length-map h.taps (λ t. pixel_bytes (get_or h.images t.image no_decl).ty)
 
-pub copy_is_row_block : (h : Head) → IsHead h → length h.taps ≡ 1 → h.scratch ≡ 192 → pixel_bytes h.out_ty ≡ 2 → get_or (tap_widths h) 0 0 ≡ 2 → IsRowBlock table h 0 copy_block
+pub copy_is_row_block : (h : Head) → IsHead h → length h.taps ≡ 1 → h.scratch ≡ 192 → pixel_bytes h.out_ty ≡ 2 → get_or (tap_widths h) 0 0 ≡ 2 → (slots : ℕ) × IsRowBlock table h slots copy_block
 copy_is_row_block h head one scratch out wide =
     let count : length (tap_widths h) ≡ 1 = width_count h ∙ one in
-    record {
+    (0, record {
       head = head;
       scratch = rw (one, scratch) refl;
       clean = rw out (clean 0 2 copy_block copy_fixed copy_within);
       steps = rw out (copy_steps (tap_widths h) (omega arith) (omega arith));
       stores = rw out copy_stores;
-    }
+    })
 
 pub least_is_row_block : (h : Head) → IsHead h → length h.taps ≡ 17 → h.scratch ≡ 864 → pixel_bytes h.out_ty ≡ 1 → get_or (tap_widths h) 0 0 ≡ 1 → get_or (tap_widths h) 15 0 ≡ 1 → get_or (tap_widths h) 16 0 ≡ 2
-    → IsRowBlock table h 2 least_block
+    → (slots : ℕ) × IsRowBlock table h slots least_block
 least_is_row_block h head many scratch out first second third =
     let count : length (tap_widths h) ≡ 17 = width_count h ∙ many in
-    record {
+    (2, record {
       head = head;
       scratch = rw (many, scratch) refl;
       clean = rw out (clean 2 1 least_block least_fixed least_within);
       steps = rw out (least_steps (tap_widths h) (omega arith) (omega arith) (omega arith) (omega arith));
       stores = rw out least_stores;
-    }
+    })

@@ -120,7 +120,7 @@ fn copy_program<R: Abort + AllocGlobal>(rt: &R) -> Result<Program<Neon>, Fail> {
     assert_eq!(rt; head.out_ty.bytes(), 2);
     assert!(rt; has_width(&head, 0, 2));
     let block = copy_block(alloc)?;
-    Ok(row_program(alloc, block, 0, head)?)
+    Ok(row_program(alloc, block, head)?)
 }
 
 #[test]
@@ -201,7 +201,7 @@ fn least_program<R: Abort + AllocGlobal>(rt: &R) -> Result<Program<Neon>, Fail> 
     assert_eq!(rt; head.out_ty.bytes(), 1);
     assert!(rt; has_width(&head, 0, 1) && has_width(&head, 15, 1) && has_width(&head, 16, 2));
     let block = least_block(alloc)?;
-    Ok(row_program(alloc, block, 2, head)?)
+    Ok(row_program(alloc, block, head)?)
 }
 
 /// What the block makes of these images in column x of a row of so many pixels: of the last tap it

@@ -44,6 +44,6 @@ pub fn min_program(
     ensures right { IfOk result (λ p. LeavesMin p first second) }
 {
     let block = min_block(alloc, first, second)?;
-    let program = row_program(alloc, block, 0, head)?;
+    let program = row_program(alloc, block, head)?;
     Ok(program)
 }
