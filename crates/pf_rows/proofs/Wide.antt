@@ -61,12 +61,12 @@ module _ {O : Type 0} (t : Table O) (pictures : List Picture) (at : Places) (ent
 
   module _ (x : ℕ) (within : x + t.vector ≤ n) (before : List ℕ) where
     wide_entry : (kept output : List (List ℕ)) (rs : List Region) → Wide x before kept output rs → (k : ℕ) → k ≤ length widths
-        → (held : List ℕ) × (loaded rs (Rattle.pf_machine.specs.Meaning.MachineSteps.wrapped t.target (at.table + 8 * k)) (Rattle.pf_machine.specs.Meaning.MachineSteps.pointer_bytes t.target) ≡ Some held) × (Rattle.pf_machine.specs.Meaning.Bytes.number held ≡ get_or entries k 0)
+        → (held : List ℕ) × (loaded rs (Rattle.pf_machine.specs.Meaning.MachineSteps.register_wrapped t.target (at.table + 8 * k)) (Rattle.pf_machine.specs.Meaning.MachineSteps.pointer_bytes t.target) ≡ Some held) × (Rattle.pf_machine.specs.Meaning.Bytes.number held ≡ get_or entries k 0)
     wide_entry kept output rs w k inside =
         let size = placed.size in
         let low = entry_low k inside in
         let given = entry-given t.vector pictures at entries widths width slots n scratch_size output_size row image place placed t.target k w.scratch w.held (omega arith) (omega arith) w.scratch_long w.held_long in
-        (given.0, ap (λ r. loaded r (Rattle.pf_machine.specs.Meaning.MachineSteps.wrapped t.target (at.table + 8 * k)) (Rattle.pf_machine.specs.Meaning.MachineSteps.pointer_bytes t.target)) w.is ∙ given.1, given.2)
+        (given.0, ap (λ r. loaded r (Rattle.pf_machine.specs.Meaning.MachineSteps.register_wrapped t.target (at.table + 8 * k)) (Rattle.pf_machine.specs.Meaning.MachineSteps.pointer_bytes t.target)) w.is ∙ given.1, given.2)
 
     wide_load : (kept output : List (List ℕ)) (rs : List Region) → Wide x before kept output rs → (k j : ℕ) → k < length widths → j < get_or widths k 0
         → loaded rs (get_or entries k 0 + x * get_or widths k 0 + j * t.vector) t.vector ≡ Some (take t.vector (drop (t.vector * j) (get_or (wide_taps x) k [])))
