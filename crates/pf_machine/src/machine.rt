@@ -59,7 +59,7 @@ impl<I: Isa> Machine<I> {
         ensures { IfOk result (λ m. m ≡ record { text = program; state = started I.table 0 regions }) }
     {
         let _head = program.head();
-        let places = destinations(
+        let (places, file, zeros) = prepared(
             alloc,
             program.code().as_slice(),
             program.labels().as_slice(),
@@ -68,10 +68,9 @@ impl<I: Isa> Machine<I> {
             at: 0,
             general: [0; 8],
             flag: false,
-            file: clear_file(alloc, I::VECTORS, I::VECTOR)?,
+            file,
             regions: regions.into_vec(),
         };
-        let zeros = Vec::from_elem(alloc, 0, I::VECTOR as usize)?;
         Ok(Machine {
             program,
             places,
@@ -193,11 +192,38 @@ fn destinations<I: Isa>(
     ensures { IfOk result (λ places. places.items ≡ map (destination_of labels.now (length code.now)) code.now) }
 {
     let places = places_of(alloc, labels)?;
-    let mut destinations = Vec::new(alloc);
+    destinations_at(alloc, code, &places)
+}
+
+fn destinations_at<I: Isa>(
+    alloc: Global,
+    code: &[Line<I>],
+    places: &Places<'_>,
+) -> Result<Vec<u64>, Memory>
+    ensures { (labels : List Label) → Finds places.now labels → IfOk result (λ ends. ends.items ≡ map (destination_of labels (length code.now)) code.now) }
+{
+    let mut ends = Vec::new(alloc);
     for line in code {
-        destinations.push(destination(&places, code.len() as u64, line))?;
+        ends.push(destination(places, code.len() as u64, line))?;
     }
-    Ok(destinations)
+    Ok(ends)
+}
+
+/// What a machine of the code needs beside it and its memory: where each line may jump to, the file
+/// with all registers clear, and a vector of zeros.
+fn prepared<I: Isa>(
+    alloc: Global,
+    code: &[Line<I>],
+    labels: &[Label],
+) -> Result<(Vec<u64>, RegFile, Vec<u8>), Memory>
+    ensures places { IfOk result (λ p. p.0.items ≡ map (destination_of labels.now (length code.now)) code.now) }
+    ensures file { IfOk result (λ p. p.1 ≡ record { vectors = replicate I.VECTORS (replicate I.VECTOR 0); k = 0; q = replicate I.VECTOR false }) }
+    ensures zeros { IfOk result (λ p. p.2.items ≡ replicate I.VECTOR 0) }
+{
+    let zeros = Vec::from_elem(alloc, 0, I::VECTOR as usize)?;
+    let places = destinations(alloc, code, labels)?;
+    let file = clear_file(alloc, I::VECTORS, I::VECTOR)?;
+    Ok((places, file, zeros))
 }
 
 fn zero_vectors(alloc: Global, count: u32, size: u32) -> Result<Sequence<ByteList>, Memory>
