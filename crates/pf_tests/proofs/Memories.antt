@@ -10,14 +10,16 @@ use Rattle.pf_machine.specs.Meaning.Memory.{Apart}
 pub no_memory : IsMemory []
 no_memory = record { apart = λ i j d below inside. absurd (omega arith); low = All-nil (λ r. r.start + length r.bytes < 2 ^ 31) }
 
-pub more_memory : (r : Region) (rs : List Region) (end : ℕ) → r.start + length r.bytes ≡ end → end < 2 ^ 31 → All (λ s. end ≤ s.start) rs → IsMemory rs → IsMemory (r ∷ rs)
+pub more_memory : (r : Region) (rs : List Region) (end : ℕ) → r.start + length r.bytes ≡ end → end < 2 ^ 31
+    → All (λ s. end ≤ s.start) rs → IsMemory rs → IsMemory (r ∷ rs)
 more_memory r rs end is low behind rest =
     record {
       apart = AllPairs-cons Apart r rs (All-weaker (λ s. end ≤ s.start) (Apart r) (λ s after. inl (omega arith)) rs behind) rest.apart;
       low = All-cons (λ s. s.start + length s.bytes < 2 ^ 31) r rs (omega arith) rest.low;
     }
 
-pub first_table : (regions : List Region) (r : Region) (table size : ℕ) → slice_get regions 0 ≡ Some r → is_table table size r ≡ true → HasTable regions table size
+pub first_table : (regions : List Region) (r : Region) (table size : ℕ) → slice_get regions 0 ≡ Some r
+    → is_table table size r ≡ true → HasTable regions table size
 first_table [] r table size there is = absurd (cc)
 first_table (first ∷ rest) r table size there is =
     let same : first ≡ r = cc in

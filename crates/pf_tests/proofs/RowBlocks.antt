@@ -45,7 +45,8 @@ least_fixed taps (a ∷ b ∷ c ∷ d ∷ more) k q (_ ∷ []) long two = absurd
 least_fixed taps (a ∷ b ∷ c ∷ d ∷ more) k q (s ∷ t ∷ []) long two = refl
 least_fixed taps (a ∷ b ∷ c ∷ d ∷ more) k q (_ ∷ _ ∷ _ ∷ _) long two = absurd (omega arith)
 
-clean : (slots parts : ℕ) (block : List (Item Instruction)) → IsFixed slots parts block → All (IsWithin table 32 slots) block → IsClean table 32 slots parts block
+clean : (slots parts : ℕ) (block : List (Item Instruction)) → IsFixed slots parts block
+    → All (IsWithin table 32 slots) block → IsClean table 32 slots parts block
 clean slots parts block fixed within = record {
   within = within;
   same = λ taps f g kept other f_is g_is kept_long other_long.
@@ -59,11 +60,14 @@ least_within : All (IsWithin table 32 2) least_block
 least_within = All-from_recursion (IsWithin table 32 2) least_block (search rules)
 
 copy_steps : (widths : List ℕ) → 1 ≤ length widths → 1 < get_or widths 0 0 → All (IsBlockItem widths 2) copy_block
-copy_steps widths some wide = All-from_recursion (IsBlockItem widths 2) copy_block ((omega arith, omega arith), (omega arith, ((omega arith, omega arith), (omega arith, tt))))
+copy_steps widths some wide =
+    All-from_recursion (IsBlockItem widths 2) copy_block ((omega arith, omega arith), (omega arith, ((omega arith, omega arith), (omega arith, tt))))
 
-least_steps : (widths : List ℕ) → 17 ≤ length widths → 0 < get_or widths 0 0 → 0 < get_or widths 15 0 → 0 < get_or widths 16 0 → All (IsBlockItem widths 1) least_block
+least_steps : (widths : List ℕ) → 17 ≤ length widths → 0 < get_or widths 0 0 → 0 < get_or widths 15 0 → 0 < get_or widths 16 0
+    → All (IsBlockItem widths 1) least_block
 least_steps widths many first second third =
-    All-from_recursion (IsBlockItem widths 1) least_block ((omega arith, omega arith), (tt, ((omega arith, omega arith), (tt, (tt, (tt, (tt, ((omega arith, omega arith), (tt, (omega arith, tt))))))))))
+    All-from_recursion (IsBlockItem widths 1) least_block
+    ((omega arith, omega arith), (tt, ((omega arith, omega arith), (tt, (tt, (tt, (tt, ((omega arith, omega arith), (tt, (omega arith, tt))))))))))
 
 copy_stores : StoresEach 2 copy_block
 copy_stores zero inside = refl
@@ -75,7 +79,8 @@ least_stores zero inside = refl
 least_stores (suc part) inside = absurd (omega arith)
 
 -- the bytes of a tap's pixels
-pub tap_width_is : (h : Head) (n : ℕ) (t : Tap) (d : ImageDecl) → slice_get h.taps n ≡ Some t → slice_get h.images t.image ≡ Some d → get_or (tap_widths h) n 0 ≡ pixel_bytes d.ty
+pub tap_width_is : (h : Head) (n : ℕ) (t : Tap) (d : ImageDecl) → slice_get h.taps n ≡ Some t → slice_get h.images t.image ≡ Some d
+    → get_or (tap_widths h) n 0 ≡ pixel_bytes d.ty
 tap_width_is h n t d tap image =
     get_or-map (λ u. pixel_bytes (get_or h.images u.image no_decl).ty) h.taps n no_tap 0 (slice_get_within h.taps n t tap)
     ∙ ap (λ u. pixel_bytes (get_or h.images u.image no_decl).ty) (get_or_from_slice_get h.taps n t no_tap tap)
@@ -84,25 +89,31 @@ tap_width_is h n t d tap image =
 width_count : (h : Head) → length (tap_widths h) ≡ length h.taps
 width_count h = length-map h.taps (λ t. pixel_bytes (get_or h.images t.image no_decl).ty)
 
-pub copy_is_row_block : (h : Head) → IsHead h → length h.taps ≡ 1 → h.scratch ≡ 192 → pixel_bytes h.out_ty ≡ 2 → get_or (tap_widths h) 0 0 ≡ 2 → (slots : ℕ) × IsRowBlock table h slots copy_block
+pub copy_is_row_block : (h : Head) → IsHead h → length h.taps ≡ 1 → h.scratch ≡ 192 → pixel_bytes h.out_ty ≡ 2 → get_or (tap_widths h) 0 0 ≡ 2
+    → (slots : ℕ) × IsRowBlock table h slots copy_block
 copy_is_row_block h head one scratch out wide =
-    let count : length (tap_widths h) ≡ 1 = width_count h ∙ one in
-    (0, record {
-      head = head;
-      scratch = rw (one, scratch) refl;
-      clean = rw out (clean 0 2 copy_block copy_fixed copy_within);
-      steps = rw out (copy_steps (tap_widths h) (omega arith) (omega arith));
-      stores = rw out copy_stores;
-    })
+    let count : length (tap_widths h) ≡ 1 = width_count h ∙ one in (
+      0,
+      record {
+        head = head;
+        scratch = rw (one, scratch) refl;
+        clean = rw out (clean 0 2 copy_block copy_fixed copy_within);
+        steps = rw out (copy_steps (tap_widths h) (omega arith) (omega arith));
+        stores = rw out copy_stores;
+      },
+    )
 
-pub least_is_row_block : (h : Head) → IsHead h → length h.taps ≡ 17 → h.scratch ≡ 864 → pixel_bytes h.out_ty ≡ 1 → get_or (tap_widths h) 0 0 ≡ 1 → get_or (tap_widths h) 15 0 ≡ 1 → get_or (tap_widths h) 16 0 ≡ 2
+pub least_is_row_block : (h : Head) → IsHead h → length h.taps ≡ 17 → h.scratch ≡ 864 → pixel_bytes h.out_ty ≡ 1
+    → get_or (tap_widths h) 0 0 ≡ 1 → get_or (tap_widths h) 15 0 ≡ 1 → get_or (tap_widths h) 16 0 ≡ 2
     → (slots : ℕ) × IsRowBlock table h slots least_block
 least_is_row_block h head many scratch out first second third =
-    let count : length (tap_widths h) ≡ 17 = width_count h ∙ many in
-    (2, record {
-      head = head;
-      scratch = rw (many, scratch) refl;
-      clean = rw out (clean 2 1 least_block least_fixed least_within);
-      steps = rw out (least_steps (tap_widths h) (omega arith) (omega arith) (omega arith) (omega arith));
-      stores = rw out least_stores;
-    })
+    let count : length (tap_widths h) ≡ 17 = width_count h ∙ many in (
+      2,
+      record {
+        head = head;
+        scratch = rw (many, scratch) refl;
+        clean = rw out (clean 2 1 least_block least_fixed least_within);
+        steps = rw out (least_steps (tap_widths h) (omega arith) (omega arith) (omega arith) (omega arith));
+        stores = rw out least_stores;
+      },
+    )

@@ -49,9 +49,7 @@ pub fn read_fault(alloc: Global, fault: &ReadFault) -> Result<String, Fail> {
 /// What is told of a text that is no kernel: the same behind the line, but a limit without it.
 pub fn kernel_fault(alloc: Global, fault: &KernelFault) -> Result<String, Fail> {
     let (line, told) = match fault {
-        KernelFault::Syntax { line, column } => {
-            (*line, format!(in alloc; "syntax {column}")?)
-        }
+        KernelFault::Syntax { line, column } => { (*line, format!(in alloc; "syntax {column}")?) }
         KernelFault::Name { line, name: word } => (*line, name(alloc, word)?),
         KernelFault::Types { line, want, got } => (*line, types(alloc, *want, *got)?),
         KernelFault::Limit { what, count } => return limit(alloc, *what, *count),

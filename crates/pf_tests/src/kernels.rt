@@ -253,7 +253,11 @@ fn first_faults_are_told(rt: HostRuntime) -> Result<(), Fail> {
     // A CR is a part of a line's end before LF alone.
     try_text(&rt, b"kernel k\rimage a u8", "1 syntax 9")?;
     try_text(&rt, b"kernel k # c\r\n\r\nimage a u8\r\n$", "4 syntax 1")?;
-    try_text(&rt, b"kernel k\nimage a u8\r\nout u8 = 1u8\r", "3 syntax 13")
+    try_text(
+        &rt,
+        b"kernel k\nimage a u8\r\nout u8 = 1u8\r",
+        "3 syntax 13",
+    )
 }
 
 /// A part, so many times another one, and a third.
@@ -309,16 +313,35 @@ fn try_limit<R: Abort + AllocGlobal>(
 
 #[test]
 fn limits_of_lists(rt: HostRuntime) -> Result<(), Fail> {
-    let images = b"image b u8\nimage c u8\nimage d u8\nimage e u8\nimage f u8\nimage g u8\nimage h u8\n";
-    try_limit(&rt, images, b"out u8 = h[0,0]", b"image i u8", "limit images 9")?;
+    let images =
+        b"image b u8\nimage c u8\nimage d u8\nimage e u8\nimage f u8\nimage g u8\nimage h u8\n";
+    try_limit(
+        &rt,
+        images,
+        b"out u8 = h[0,0]",
+        b"image i u8",
+        "limit images 9",
+    )?;
     let mut taps = Vec::from_slice(rt.alloc(), b"out u8 = 1u8")?;
     push_64(&mut taps, b" + a[", b",", b"]")?;
     // One that stands already isn't counted again.
-    try_limit(&rt, taps.as_slice(), b" + a[0,0]", b" + a[8,0]", "limit taps 65")?;
+    try_limit(
+        &rt,
+        taps.as_slice(),
+        b" + a[0,0]",
+        b" + a[8,0]",
+        "limit taps 65",
+    )?;
     let mut definitions = Vec::new(rt.alloc());
     push_64(&mut definitions, b"def d", b"", b" u8 = 1u8\n")?;
     let (last, more) = (b"out u8 = d77", b"def e u8 = 1u8");
-    try_limit(&rt, definitions.as_slice(), last, more, "limit definitions 65")
+    try_limit(
+        &rt,
+        definitions.as_slice(),
+        last,
+        more,
+        "limit definitions 65",
+    )
 }
 
 #[test]
@@ -327,13 +350,25 @@ fn limits_of_sizes(rt: HostRuntime) -> Result<(), Fail> {
     let shifts = repeated(alloc, b"out u8 = 1u8", b" >> 1", 127, b"")?;
     try_limit(&rt, shifts.as_slice(), b"", b" >> 1", "limit depth 129")?;
     // Two terms of 255 nodes each.
-    let first = repeated(alloc, b"def d u8 = 1u8", b" + 1u8", 127, b"\ndef e u8 = 1u8")?;
+    let first = repeated(
+        alloc,
+        b"def d u8 = 1u8",
+        b" + 1u8",
+        127,
+        b"\ndef e u8 = 1u8",
+    )?;
     let both = repeated(alloc, first.as_slice(), b" + 1u8", 127, b"\n")?;
     let (last, more) = (b"out u8 = d >> 1", b"out u8 = d + e");
     try_limit(&rt, both.as_slice(), last, more, "limit nodes 513")?;
     let brackets = repeated(alloc, b"out u8 = ", b"(", 1_024, b"")?;
     let closed = repeated(alloc, b"1u8", b")", 1_024, b"")?;
-    try_limit(&rt, brackets.as_slice(), closed.as_slice(), b"(", "3 syntax 1034")?;
+    try_limit(
+        &rt,
+        brackets.as_slice(),
+        closed.as_slice(),
+        b"(",
+        "3 syntax 1034",
+    )?;
     let comment = repeated(alloc, b"out u8 = a[0,0]\n#", b"$", 65_499, b"")?;
     try_limit(&rt, comment.as_slice(), b"", b"$", "limit bytes 65537")
 }

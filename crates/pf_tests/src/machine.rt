@@ -120,6 +120,13 @@ const TRIALS: &[Trial] = &[
         output: &PIXELS,
     },
     Trial {
+        code: b"ldr x7, [x0, #0]\nldr q0, [x7, #0]\nldr x4, [x0, #8]\nstr q0, [x4, #0]\nret\n",
+        pixels: 16,
+        steps: 5,
+        end: End::Returned,
+        output: &PIXELS,
+    },
+    Trial {
         code: COPY,
         pixels: 16,
         steps: 4,
@@ -229,7 +236,7 @@ const TRIALS: &[Trial] = &[
         output: &[],
     },
     Trial {
-        code: b"mov x5, #0\nsub x5, x5, #1\nldr q0, [x5, #16]\nret\n",
+        code: b"mov x7, #0\nsub x7, x7, #1\nldr q0, [x7, #16]\nret\n",
         pixels: 16,
         steps: 9,
         end: End::Outside(3, 15, 16),
@@ -254,7 +261,8 @@ const TRIALS: &[Trial] = &[
     },
     // 2^64 - 1 is not below 1, and 1 is below it.
     Trial {
-        code: b"ldr x4, [x0, #8]\nmov x3, #0\nsub x3, x3, #1\nmov x6, #1\ncmp x3, x6\nb.lo low\nstrb w6, [x4]\nlow:\nadd x4, x4, #1\ncmp x6, x3\nb.lo end\nstrb w6, [x4]\nend:\nret\n",
+        code: b"ldr x4, [x0, #8]\nmov x3, #0\nsub x3, x3, #1\nmov x6, #1\ncmp x3, x6\nb.lo low\n\
+            strb w6, [x4]\nlow:\nadd x4, x4, #1\ncmp x6, x3\nb.lo end\nstrb w6, [x4]\nend:\nret\n",
         pixels: 16,
         steps: 11,
         end: End::Returned,
@@ -262,7 +270,8 @@ const TRIALS: &[Trial] = &[
     },
     // The low half and the low byte of 66064.
     Trial {
-        code: b"ldr x4, [x0, #8]\nmov x6, #65535\nadd x6, x6, #529\nstrh w6, [x4]\nldrh w3, [x4]\nadd x4, x4, #2\nstrb w6, [x4]\nadd x3, x3, x3\nadd x4, x4, #2\nstrh w3, [x4]\nret\n",
+        code: b"ldr x4, [x0, #8]\nmov x6, #65535\nadd x6, x6, #529\nstrh w6, [x4]\n\
+            ldrh w3, [x4]\nadd x4, x4, #2\nstrb w6, [x4]\nadd x3, x3, x3\nadd x4, x4, #2\nstrh w3, [x4]\nret\n",
         pixels: 16,
         steps: 11,
         end: End::Returned,

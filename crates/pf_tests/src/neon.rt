@@ -63,8 +63,14 @@ const VECTOR_LINES: &[(&[u8], &[u8])] = &[
     (b"ldr q0, [x7, #0]", b"ldr q0,[x7,#0]"),
     (b"str q9, [x0, #32]", b" str q9,  [x0, #32]"),
     (b"mov v3.16b, v10.16b", b" mov\tv3.16b,v10.16b"),
-    (b"umin v0.16b, v1.16b, v2.16b", b"umin v0.16b,  v1.16b, v2.16b"),
-    (b"umin v28.8h, v29.8h, v30.8h", b"umin  v28.8h,\tv29.8h,  v30.8h\t"),
+    (
+        b"umin v0.16b, v1.16b, v2.16b",
+        b"umin v0.16b,  v1.16b, v2.16b",
+    ),
+    (
+        b"umin v28.8h, v29.8h, v30.8h",
+        b"umin  v28.8h,\tv29.8h,  v30.8h\t",
+    ),
     (b"umin v9.4s, v9.4s, v9.4s", b"\tumin v9.4s,v9.4s,v9.4s"),
 ];
 

@@ -141,7 +141,10 @@ impl Trial {
         let mut bytes = vec![in alloc; 0; span.size]?;
         for piece in self.memory.as_slice() {
             for (i, byte) in piece.bytes.as_slice().iter().enumerate() {
-                let place = piece.address.wrapping_add(i as u64).wrapping_sub(span.start);
+                let place = piece
+                    .address
+                    .wrapping_add(i as u64)
+                    .wrapping_sub(span.start);
                 if let Some(held) = bytes.get_mut(place as usize) {
                     *held = *byte;
                 }

@@ -43,7 +43,8 @@ fn texts_are_read_up_to_blanks(rt: HostRuntime) -> Result<(), Fail> {
     let wanted = joined(rt.alloc(), HEAD, tight)?;
     try_written(&rt, wanted.as_slice(), wanted.as_slice())?;
     let spaced =
-        b"\t.target \t neon \r\n.image a u8 0  255\n .tap a 0 0\r\n.out u8\n.scratch\t192\n.lifted  out u8 =a [ 0 , 0 ]\t\n.cost 0\r\n\n// b none\r\n \ttop:\t// b none\n\tldr  x5,[x0,\t#0] // \r\nb.lo\ttop//\n\nb end\n\nend: //";
+        b"\t.target \t neon \r\n.image a u8 0  255\n .tap a 0 0\r\n.out u8\n.scratch\t192\n.lifted  out u8 =a [ 0 , 0 ]\t\n.cost 0\r\n\n// b none\r\n\
+          \x20\ttop:\t// b none\n\tldr  x5,[x0,\t#0] // \r\nb.lo\ttop//\n\nb end\n\nend: //";
     try_written(&rt, spaced, wanted.as_slice())
 }
 
@@ -73,7 +74,10 @@ ret
 /// Tries that a text is refused in this line.
 fn try_fault<R: Abort + AllocGlobal>(rt: &R, text: &[u8], line: u64, kind: TextKind) {
     let fault = read_text::<Neon>(rt.alloc(), text).err();
-    assert!(rt; fault == Some(TextFault::At { line, kind }), "{line} of {text:?}");
+    assert!(rt;
+        fault == Some(TextFault::At { line, kind }),
+        "{line} of {text:?}"
+    );
 }
 
 /// Lines behind a head, and the line and the kind of the first fault.
@@ -101,34 +105,99 @@ const HEADS: &[(&[u8], u64, TextKind)] = &[
     (b".image a u8 0", 2, TextKind::Directive),
     (b".image a i8 0 100", 2, TextKind::Directive),
     (b".image min u8 0 255", 2, TextKind::Directive),
-    (b".image a u8 0 255\n.image a u8 0 255", 3, TextKind::Directive),
-    (b".image a u8 0 255\n.tap a 0 0\n.image b u8 0 255", 4, TextKind::Directive),
-    (b".image a u8 0 1\n.image b u8 0 1\n.image c u8 0 1\n.image d u8 0 1\n.image e u8 0 1\n.image f u8 0 1\n.image g u8 0 1\n.image h u8 0 1\n.image i u8 0 1", 10, TextKind::Directive),
+    (
+        b".image a u8 0 255\n.image a u8 0 255",
+        3,
+        TextKind::Directive,
+    ),
+    (
+        b".image a u8 0 255\n.tap a 0 0\n.image b u8 0 255",
+        4,
+        TextKind::Directive,
+    ),
+    (
+        b".image a u8 0 1\n.image b u8 0 1\n.image c u8 0 1\n.image d u8 0 1\n.image e u8 0 1\n\
+        .image f u8 0 1\n.image g u8 0 1\n.image h u8 0 1\n.image i u8 0 1",
+        10,
+        TextKind::Directive,
+    ),
     // Taps.
     (b".tap a 0 0", 2, TextKind::Directive),
     (b".image a u8 0 255\n.tap b 0 0", 3, TextKind::Directive),
     (b".image a u8 0 255\n.tap a 65 0", 3, TextKind::Directive),
     (b".image a u8 0 255\n.tap a 0 -65", 3, TextKind::Directive),
     (b".image a u8 0 255\n.tap a -0 0", 3, TextKind::Directive),
-    (b".image a u8 0 255\n.tap a 0 0\n.tap a 1 0\n.tap a 0 0", 5, TextKind::Directive),
+    (
+        b".image a u8 0 255\n.tap a 0 0\n.tap a 1 0\n.tap a 0 0",
+        5,
+        TextKind::Directive,
+    ),
     // The type of the output.
     (b".out u8", 2, TextKind::Directive),
     (b".image a u8 0 255\n.out u32", 3, TextKind::Directive),
-    (b".image a u8 0 255\n.out u8\n.out u8", 4, TextKind::Directive),
+    (
+        b".image a u8 0 255\n.out u8\n.out u8",
+        4,
+        TextKind::Directive,
+    ),
     // The scratch.
-    (b".image a u8 0 255\n.out u8\n.scratch 1073741825", 4, TextKind::Directive),
-    (b".image a u8 0 255\n.out u8\n.scratch -1", 4, TextKind::Directive),
+    (
+        b".image a u8 0 255\n.out u8\n.scratch 1073741825",
+        4,
+        TextKind::Directive,
+    ),
+    (
+        b".image a u8 0 255\n.out u8\n.scratch -1",
+        4,
+        TextKind::Directive,
+    ),
     // Lifted terms.
-    (b".image a u8 0 255\n.tap a 0 0\n.out u8\n.scratch 0\n.lifted out u8 = a[1,0]", 6, TextKind::Directive),
-    (b".image a u8 0 255\n.tap a 0 0\n.out u8\n.scratch 0\n.lifted out u16 = a[0,0]", 6, TextKind::Directive),
-    (b".image a u8 0 255\n.tap a 0 0\n.out u8\n.scratch 0\n.lifted a u8 = a[0,0]", 6, TextKind::Directive),
-    (b".image a u8 0 255\n.tap a 0 0\n.out u8\n.scratch 0\n.lifted max u8 = a[0,0]", 6, TextKind::Directive),
-    (b".image a u8 0 255\n.tap a 0 0\n.out u8\n.scratch 0\n.lifted x u8 = out", 6, TextKind::Directive),
-    (b".image a u8 0 255\n.out u8\n.scratch 0\n.lifted x u8 = 1u8\n.cost 0", 6, TextKind::Directive),
+    (
+        b".image a u8 0 255\n.tap a 0 0\n.out u8\n.scratch 0\n.lifted out u8 = a[1,0]",
+        6,
+        TextKind::Directive,
+    ),
+    (
+        b".image a u8 0 255\n.tap a 0 0\n.out u8\n.scratch 0\n.lifted out u16 = a[0,0]",
+        6,
+        TextKind::Directive,
+    ),
+    (
+        b".image a u8 0 255\n.tap a 0 0\n.out u8\n.scratch 0\n.lifted a u8 = a[0,0]",
+        6,
+        TextKind::Directive,
+    ),
+    (
+        b".image a u8 0 255\n.tap a 0 0\n.out u8\n.scratch 0\n.lifted max u8 = a[0,0]",
+        6,
+        TextKind::Directive,
+    ),
+    (
+        b".image a u8 0 255\n.tap a 0 0\n.out u8\n.scratch 0\n.lifted x u8 = out",
+        6,
+        TextKind::Directive,
+    ),
+    (
+        b".image a u8 0 255\n.out u8\n.scratch 0\n.lifted x u8 = 1u8\n.cost 0",
+        6,
+        TextKind::Directive,
+    ),
     // The cost, and the lines between.
-    (b".image a u8 0 255\n.out u8\n.scratch 0\n.lifted out u8 = 1u8\n.cost 18446744073709551616", 6, TextKind::Directive),
-    (b".image a u8 0 255\n.out u8\n.scratch 0\n.lifted out u8 = 1u8\n.cost 00", 6, TextKind::Directive),
-    (b".image a u8 0 255\n.out u8\n.scratch 0\n.lifted out u8 = 1u8\nret", 6, TextKind::Directive),
+    (
+        b".image a u8 0 255\n.out u8\n.scratch 0\n.lifted out u8 = 1u8\n.cost 18446744073709551616",
+        6,
+        TextKind::Directive,
+    ),
+    (
+        b".image a u8 0 255\n.out u8\n.scratch 0\n.lifted out u8 = 1u8\n.cost 00",
+        6,
+        TextKind::Directive,
+    ),
+    (
+        b".image a u8 0 255\n.out u8\n.scratch 0\n.lifted out u8 = 1u8\nret",
+        6,
+        TextKind::Directive,
+    ),
     (b".image a u8 0 255\n\n.out u8", 3, TextKind::Directive),
     (b".image a u8 0 255 // a\n.out u8", 2, TextKind::Directive),
     (b"// a\n.image a u8 0 255", 2, TextKind::Directive),

@@ -63,7 +63,11 @@ pub fn try_call<R: Abort + AllocGlobal>(rt: &R, call: &Call<'_>) -> Result<(), F
     let mut out = ScriptedSink::new(alloc, call.script);
     let status = answer(alloc, call.words, &mut store, &mut out)?;
     assert_eq!(rt; status, call.status, "{}", call.words);
-    assert!(rt; out.written.as_slice() == call.put.as_bytes(), "{}", call.words);
+    assert!(rt;
+        out.written.as_slice() == call.put.as_bytes(),
+        "{}",
+        call.words
+    );
     assert_eq!(rt; store.calls, call.calls, "{}", call.words);
     let name = call.words.split(' ').last().ok_or("no word")?;
     let left = store.held.get(name).map(|bytes| bytes.as_slice());
@@ -83,7 +87,11 @@ const PUT_TROUBLES: &[PutTrouble] = &[
     ([Some(Answer::Memory), None], 13, "out of memory\n"),
     ([Some(Answer::Memory), Some(Answer::Memory)], 13, ""),
     ([Some(Answer::Memory), Some(Answer::Failed)], 4, ""),
-    ([Some(Answer::Memory), Some(Answer::FailedAfter(3))], 4, "out"),
+    (
+        [Some(Answer::Memory), Some(Answer::FailedAfter(3))],
+        4,
+        "out",
+    ),
 ];
 
 /// Tries a call that puts a line, and the same where the output fails or wants memory.
@@ -121,9 +129,12 @@ pub fn try_line<R: Abort + AllocGlobal>(rt: &R, call: &Call<'_>) -> Result<(), F
     )
 }
 
-/// What the store and the output answer where a file is read, and the status and the line that come
+/// What the store and the output answer at a call of the store, and the status and the line that come
 /// of it. A line that ends in a blank has the file's name behind it.
-const READ_TROUBLES: &[(Answer, Option<Answer>, u8, &str)] = &[
+type Trouble = (Answer, Option<Answer>, u8, &'static str);
+
+/// Troubles where a file is read.
+const READ_TROUBLES: &[Trouble] = &[
     (Answer::Missing, None, 3, "no file: "),
     (Answer::Failed, None, 3, "read failed: "),
     (Answer::Failed, Some(Answer::Failed), 4, ""),
@@ -134,17 +145,20 @@ const READ_TROUBLES: &[(Answer, Option<Answer>, u8, &str)] = &[
     (Answer::Memory, Some(Answer::FailedAfter(6)), 4, "out of"),
 ];
 
-/// The same where the last file is written, and how many of the bytes it then holds. A failed write
+/// Troubles where the last file is written, and how many of the bytes it then holds. A failed write
 /// is told by its status alone where its line can't be put.
-const WRITE_TROUBLES: &[(Answer, Option<Answer>, u8, &str, Option<usize>)] = &[
-    (Answer::Failed, None, 4, "write failed: ", None),
-    (Answer::FailedAfter(0), None, 4, "write failed: ", Some(0)),
-    (Answer::FailedAfter(7), None, 4, "write failed: ", Some(7)),
-    (Answer::Failed, Some(Answer::Failed), 4, "", None),
-    (Answer::Failed, Some(Answer::FailedAfter(5)), 4, "write", None),
-    (Answer::Failed, Some(Answer::Memory), 4, "", None),
-    (Answer::Memory, None, 13, "out of memory\n", None),
-    (Answer::Memory, Some(Answer::Failed), 4, "", None),
+const WRITE_TROUBLES: &[(Trouble, Option<usize>)] = &[
+    ((Answer::Failed, None, 4, "write failed: "), None),
+    ((Answer::FailedAfter(0), None, 4, "write failed: "), Some(0)),
+    ((Answer::FailedAfter(7), None, 4, "write failed: "), Some(7)),
+    ((Answer::Failed, Some(Answer::Failed), 4, ""), None),
+    (
+        (Answer::Failed, Some(Answer::FailedAfter(5)), 4, "write"),
+        None,
+    ),
+    ((Answer::Failed, Some(Answer::Memory), 4, ""), None),
+    ((Answer::Memory, None, 13, "out of memory\n"), None),
+    ((Answer::Memory, Some(Answer::Failed), 4, ""), None),
 ];
 
 /// The line, with the name behind it where it ends in a blank.
@@ -156,6 +170,34 @@ fn line_of(alloc: Global, line: &str, name: &str) -> Result<String, Fail> {
     }
 }
 
+/// Tries a trouble at the call of this number, which is the last one and is of the file of this name.
+fn try_trouble<R: Abort + AllocGlobal>(
+    rt: &R,
+    call: &Call<'_>,
+    calls: u64,
+    name: &str,
+    trouble: Trouble,
+    out: Option<&[u8]>,
+) -> Result<(), Fail> {
+    let (answer, put, status, line) = trouble;
+    let line = line_of(rt.alloc(), line, name)?;
+    let script = Script {
+        file: Some((calls, answer)),
+        puts: [put, None],
+    };
+    try_call(
+        rt,
+        &Call {
+            script,
+            status,
+            put: line.as_str(),
+            out,
+            calls,
+            ..*call
+        },
+    )
+}
+
 /// Tries each trouble at the call of this number, which reads the file of this name.
 fn try_read<R: Abort + AllocGlobal>(
     rt: &R,
@@ -163,23 +205,8 @@ fn try_read<R: Abort + AllocGlobal>(
     number: u64,
     name: &str,
 ) -> Result<(), Fail> {
-    for &(answer, put, status, line) in READ_TROUBLES {
-        let line = line_of(rt.alloc(), line, name)?;
-        let script = Script {
-            file: Some((number, answer)),
-            puts: [put, None],
-        };
-        try_call(
-            rt,
-            &Call {
-                script,
-                status,
-                put: line.as_str(),
-                out: None,
-                calls: number,
-                ..*call
-            },
-        )?;
+    for &trouble in READ_TROUBLES {
+        try_trouble(rt, call, number, name, trouble, None)?;
     }
     Ok(())
 }
@@ -191,26 +218,12 @@ fn try_write<R: Abort + AllocGlobal>(
     name: &str,
     bytes: &[u8],
 ) -> Result<(), Fail> {
-    for &(answer, put, status, line, held) in WRITE_TROUBLES {
-        let line = line_of(rt.alloc(), line, name)?;
-        let script = Script {
-            file: Some((call.calls, answer)),
-            puts: [put, None],
-        };
+    for &(trouble, held) in WRITE_TROUBLES {
         let out = match held {
             Some(most) => bytes.get(..most),
             None => None,
         };
-        try_call(
-            rt,
-            &Call {
-                script,
-                status,
-                put: line.as_str(),
-                out,
-                ..*call
-            },
-        )?;
+        try_trouble(rt, call, call.calls, name, trouble, out)?;
     }
     Ok(())
 }

@@ -13,11 +13,15 @@ fn files_hold_what_was_written(rt: HostRuntime) -> Result<(), Fail> {
     }
     files.write(alloc, "a", long.as_slice())?;
     assert!(rt; files.read(alloc, "a", 20_000)? == long);
-    assert!(rt; files.read(alloc, "a", 9_999)?.as_slice() == &long.as_slice()[..9_999]);
+    let front = long.as_slice().get(..9_999).ok_or("a long text")?;
+    assert!(rt; files.read(alloc, "a", 9_999)?.as_slice() == front);
     assert_eq!(rt; files.read(alloc, "a", 0)?.len(), 0);
     // A shorter text leaves nothing of the one before.
     files.write(alloc, "a", b"twelve bytes")?;
-    assert_eq!(rt; files.read(alloc, "a", 99)?.as_slice(), b"twelve bytes".as_slice());
+    assert_eq!(rt;
+        files.read(alloc, "a", 99)?.as_slice(),
+        b"twelve bytes".as_slice()
+    );
     assert!(rt; files.read(alloc, "b", 99).err() == Some(FilesFault::Missing));
     assert!(rt; files.write(alloc, "b/c", b"").err() == Some(FilesFault::Failed));
     Ok(())

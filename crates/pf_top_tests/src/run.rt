@@ -22,14 +22,38 @@ ret
 /// Texts of one line of code, and images for them.
 const FILES: &[(&str, &[u8])] = &[
     ("copy.s", COPY),
+    (
+        "base.s",
+        b".target neon\n.image a u8 0 255\n.tap a 0 0\n.out u8\n.scratch 192\n.lifted out u8 = a[0,0]\n.cost 0\n\
+        ldr x7, [x0, #0]\nldr q0, [x7, #0]\nldr x4, [x0, #8]\nstr q0, [x4, #0]\nret\n",
+    ),
     ("none.s", b""),
     ("avx2.s", b".target avx2\n"),
-    ("bogus.s", b".target neon\n.image a u8 0 255\n.tap a 0 0\n.out u8\n.scratch 192\n.lifted out u8 = a[0,0]\n.cost 0\nret\nbogus\n"),
-    ("round.s", b".target neon\n.image a u8 0 255\n.tap a 0 0\n.out u8\n.scratch 192\n.lifted out u8 = a[0,0]\n.cost 0\ntop:\nb top\n"),
-    ("wide.s", b".target neon\n.image a u16 0 65535\n.tap a 0 0\n.out u16\n.scratch 192\n.lifted out u16 = a[0,0]\n.cost 0\nret\n"),
-    ("small.s", b".target neon\n.image a u8 0 100\n.tap a 0 0\n.out u8\n.scratch 192\n.lifted out u8 = a[0,0]\n.cost 0\nret\n"),
-    ("sides.s", b".target neon\n.image a u8 0 255\n.tap a -1 0\n.tap a 1 0\n.out u8\n.scratch 192\n.lifted out u8 = min(a[-1,0], a[1,0])\n.cost 0\nret\n"),
-    ("two.s", b".target neon\n.image a u8 0 255\n.image b u8 0 255\n.tap a 0 0\n.tap b 0 0\n.out u8\n.scratch 224\n.lifted out u8 = min(a[0,0], b[0,0])\n.cost 0\nret\n"),
+    (
+        "bogus.s",
+        b".target neon\n.image a u8 0 255\n.tap a 0 0\n.out u8\n.scratch 192\n.lifted out u8 = a[0,0]\n.cost 0\nret\nbogus\n",
+    ),
+    (
+        "round.s",
+        b".target neon\n.image a u8 0 255\n.tap a 0 0\n.out u8\n.scratch 192\n.lifted out u8 = a[0,0]\n.cost 0\ntop:\nb top\n",
+    ),
+    (
+        "wide.s",
+        b".target neon\n.image a u16 0 65535\n.tap a 0 0\n.out u16\n.scratch 192\n.lifted out u16 = a[0,0]\n.cost 0\nret\n",
+    ),
+    (
+        "small.s",
+        b".target neon\n.image a u8 0 100\n.tap a 0 0\n.out u8\n.scratch 192\n.lifted out u8 = a[0,0]\n.cost 0\nret\n",
+    ),
+    (
+        "sides.s",
+        b".target neon\n.image a u8 0 255\n.tap a -1 0\n.tap a 1 0\n.out u8\n.scratch 192\n.lifted out u8 = min(a[-1,0], a[1,0])\n.cost 0\nret\n",
+    ),
+    (
+        "two.s",
+        b".target neon\n.image a u8 0 255\n.image b u8 0 255\n.tap a 0 0\n.tap b 0 0\n\
+        .out u8\n.scratch 224\n.lifted out u8 = min(a[0,0], b[0,0])\n.cost 0\nret\n",
+    ),
     ("sixteen.pgm", b"P5\n16 1\n255\nabcdefghijklmnop"),
     ("fifteen.pgm", b"P5\n15 1\n255\nabcdefghijklmno"),
     ("five.pgm", b"P5\n5 1\n255\n\x01\x02\x03e\x05"),
@@ -43,10 +67,16 @@ const FILES: &[(&str, &[u8])] = &[
 fn outputs_are_written(rt: HostRuntime) -> Result<(), Fail> {
     let copied = b"P5\n16 1\n255\nabcdefghijklmnop";
     try_well(&rt, FILES, "run copy.s sixteen.pgm o.pgm", copied)?;
+    try_well(&rt, FILES, "run base.s sixteen.pgm o.pgm", copied)?;
     // Where the code stores nothing the output is zeros.
     let zeros = b"P5\n2 1\n65535\n\0\0\0\0";
     try_well(&rt, FILES, "run wide.s pair.pgm o.pgm", zeros)?;
-    try_well(&rt, FILES, "run two.s two.pgm two.pgm o.pgm", b"P5\n2 1\n255\n\0\0")
+    try_well(
+        &rt,
+        FILES,
+        "run two.s two.pgm two.pgm o.pgm",
+        b"P5\n2 1\n255\n\0\0",
+    )
 }
 
 const USAGE: &str = "usage: pitchfork select|check|run|eval|explain|demo\n";
@@ -55,16 +85,56 @@ const TOLD: &[(&str, u8, &str, u64)] = &[
     ("run copy.s o.pgm", 2, USAGE, 0),
     ("run copy.s none.pgm o.pgm", 3, "no file: none.pgm\n", 2),
     ("run avx2.s sixteen.pgm o.pgm", 8, "not built: avx2\n", 1),
-    ("run two.s sixteen.pgm o.pgm", 9, "want 2 images, got 1\n", 1),
-    ("run wide.s short.pgm o.pgm", 9, "short.pgm: byte 20: short\n", 2),
-    ("run copy.s pair.pgm o.pgm", 9, "pair.pgm: byte 11: maxval\n", 2),
-    ("run two.s two.pgm one.pgm o.pgm", 9, "one.pgm: size 1 1\n", 3),
-    ("run small.s five.pgm o.pgm", 9, "five.pgm: pixel 3 0 is 101\n", 2),
+    (
+        "run two.s sixteen.pgm o.pgm",
+        9,
+        "want 2 images, got 1\n",
+        1,
+    ),
+    (
+        "run wide.s short.pgm o.pgm",
+        9,
+        "short.pgm: byte 20: short\n",
+        2,
+    ),
+    (
+        "run copy.s pair.pgm o.pgm",
+        9,
+        "pair.pgm: byte 11: maxval\n",
+        2,
+    ),
+    (
+        "run two.s two.pgm one.pgm o.pgm",
+        9,
+        "one.pgm: size 1 1\n",
+        3,
+    ),
+    (
+        "run small.s five.pgm o.pgm",
+        9,
+        "five.pgm: pixel 3 0 is 101\n",
+        2,
+    ),
     ("run sides.s two.pgm o.pgm", 9, "no output pixel\n", 2),
     ("run none.s sixteen.pgm o.pgm", 10, "none.s:1: target\n", 1),
-    ("run bogus.s sixteen.pgm o.pgm", 10, "bogus.s:9: instruction\n", 1),
-    ("run copy.s fifteen.pgm o.pgm", 11, "outside: instruction 2, address 81920, length 16\n", 2),
-    ("run round.s sixteen.pgm o.pgm", 12, "spent: 12336 steps\n", 2),
+    (
+        "run bogus.s sixteen.pgm o.pgm",
+        10,
+        "bogus.s:9: instruction\n",
+        1,
+    ),
+    (
+        "run copy.s fifteen.pgm o.pgm",
+        11,
+        "outside: instruction 2, address 81920, length 16\n",
+        2,
+    ),
+    (
+        "run round.s sixteen.pgm o.pgm",
+        12,
+        "spent: 12336 steps\n",
+        2,
+    ),
 ];
 
 #[test]

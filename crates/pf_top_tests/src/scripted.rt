@@ -1,7 +1,7 @@
 //! A store of files and an output in memory that answer as they are told to. To a proof they tell
 //! nothing of what they hold, so that a call owes no more over them than over real ones.
 
-ghost use Rattle.std.specs.Prelude.{◌≡◌, ◌≢◌, Err};
+ghost use Rattle.std.specs.Prelude.{◌≡◌, ◌≢◌, Err, None};
 ghost use Rattle.pf_images.specs.Meaning.Outside.{counted_after};
 
 use pf_images::{FileMap, Files, FilesFault, Sink};
@@ -177,8 +177,6 @@ impl ScriptedSink {
 }
 
 impl Sink for ScriptedSink {
-    ghost use Rattle.std.specs.Prelude.{None};
-
     ghost written = { λ _. None };
 
     ghost faults = { λ output. output.faults };

@@ -19,18 +19,48 @@ end
 const FILES: &[(&str, &[u8])] = &[
     ("e.rules", LIFT),
     ("min.rules", LOWER),
-    ("m.kern", b"kernel m\nimage a u8\nimage b u8\nout u8 = min(a[0,0], b[0,0])\n"),
+    (
+        "m.kern",
+        b"kernel m\nimage a u8\nimage b u8\nout u8 = min(a[0,0], b[0,0])\n",
+    ),
     ("cut.kern", b"kernel m\n"),
-    ("max.kern", b"kernel m\nimage a u8\nout u8 = max(a[0,0], a[1,0])\n"),
-    ("blank.kern", b"kernel m\nimage a u8\nout u8 = min(a[0,0] a[0,0])\n"),
-    ("name.kern", b"kernel m\nimage a u8\nout u8 = min(a[0,0], b[0,0])\n"),
-    ("types.kern", b"kernel m\nimage a u8\nimage b u16\nout u8 = min(a[0,0], b[0,0])\n"),
-    ("far.kern", b"kernel m\nimage a u8\nout u8 = min(a[0,0], a[0,-65])\n"),
+    (
+        "max.kern",
+        b"kernel m\nimage a u8\nout u8 = max(a[0,0], a[1,0])\n",
+    ),
+    (
+        "blank.kern",
+        b"kernel m\nimage a u8\nout u8 = min(a[0,0] a[0,0])\n",
+    ),
+    (
+        "name.kern",
+        b"kernel m\nimage a u8\nout u8 = min(a[0,0], b[0,0])\n",
+    ),
+    (
+        "types.kern",
+        b"kernel m\nimage a u8\nimage b u16\nout u8 = min(a[0,0], b[0,0])\n",
+    ),
+    (
+        "far.kern",
+        b"kernel m\nimage a u8\nout u8 = min(a[0,0], a[0,-65])\n",
+    ),
     ("one.kern", b"kernel m\nimage a u8\nout u8 = a[0,0]\n"),
-    ("wide.kern", b"kernel m\nimage a u16\nimage b u16\nout u16 = min(a[0,0], b[0,0])\n"),
-    ("three.kern", b"kernel m\nimage a u8\nout u8 = min(a[0,0], min(a[1,0], a[2,0]))\n"),
-    ("number.kern", b"kernel m\nimage a u8\nout u8 = min(a[0,0], 3u8)\n"),
-    ("def.kern", b"kernel m\nimage a u8\ndef d u8 = a[0,0]\nout u8 = min(a[0,0], a[1,0])\n"),
+    (
+        "wide.kern",
+        b"kernel m\nimage a u16\nimage b u16\nout u16 = min(a[0,0], b[0,0])\n",
+    ),
+    (
+        "three.kern",
+        b"kernel m\nimage a u8\nout u8 = min(a[0,0], min(a[1,0], a[2,0]))\n",
+    ),
+    (
+        "number.kern",
+        b"kernel m\nimage a u8\nout u8 = min(a[0,0], 3u8)\n",
+    ),
+    (
+        "def.kern",
+        b"kernel m\nimage a u8\ndef d u8 = a[0,0]\nout u8 = min(a[0,0], a[1,0])\n",
+    ),
 ];
 
 const USAGE: &str = "usage: pitchfork select|check|run|eval|explain|demo\n";
@@ -38,21 +68,96 @@ const USAGE: &str = "usage: pitchfork select|check|run|eval|explain|demo\n";
 const TOLD: &[(&str, u8, &str, u64)] = &[
     ("select neon", 2, USAGE, 0),
     ("select sse m.kern e.rules min.rules m.s", 2, USAGE, 0),
-    ("select hvx m.kern e.rules min.rules m.s", 8, "not built: hvx\n", 0),
-    ("select neon x.kern e.rules min.rules m.s", 3, "no file: x.kern\n", 1),
-    ("select neon cut.kern e.rules min.rules m.s", 5, "cut.kern:2: syntax at column 1\n", 1),
-    ("select neon blank.kern e.rules min.rules m.s", 5, "blank.kern:3: syntax at column 21\n", 1),
-    ("select neon name.kern e.rules min.rules m.s", 5, "name.kern:3: name b\n", 1),
-    ("select neon types.kern e.rules min.rules m.s", 5, "types.kern:4: types: want u8, got u16\n", 1),
-    ("select neon far.kern e.rules min.rules m.s", 5, "far.kern: limit offset is -65\n", 1),
-    ("select neon max.kern e.rules min.rules m.s", 8, "not built: max.kern\n", 1),
-    ("select neon one.kern e.rules min.rules m.s", 8, "not built: one.kern\n", 1),
-    ("select neon wide.kern e.rules min.rules m.s", 8, "not built: wide.kern\n", 1),
-    ("select neon three.kern e.rules min.rules m.s", 8, "not built: three.kern\n", 1),
-    ("select neon number.kern e.rules min.rules m.s", 8, "not built: number.kern\n", 1),
-    ("select neon def.kern e.rules min.rules m.s", 8, "not built: def.kern\n", 1),
-    ("select neon m.kern min.rules min.rules m.s", 8, "not built: min.rules\n", 2),
-    ("select neon m.kern e.rules e.rules m.s", 8, "not built: e.rules\n", 3),
+    (
+        "select hvx m.kern e.rules min.rules m.s",
+        8,
+        "not built: hvx\n",
+        0,
+    ),
+    (
+        "select neon x.kern e.rules min.rules m.s",
+        3,
+        "no file: x.kern\n",
+        1,
+    ),
+    (
+        "select neon cut.kern e.rules min.rules m.s",
+        5,
+        "cut.kern:2: syntax at column 1\n",
+        1,
+    ),
+    (
+        "select neon blank.kern e.rules min.rules m.s",
+        5,
+        "blank.kern:3: syntax at column 21\n",
+        1,
+    ),
+    (
+        "select neon name.kern e.rules min.rules m.s",
+        5,
+        "name.kern:3: name b\n",
+        1,
+    ),
+    (
+        "select neon types.kern e.rules min.rules m.s",
+        5,
+        "types.kern:4: types: want u8, got u16\n",
+        1,
+    ),
+    (
+        "select neon far.kern e.rules min.rules m.s",
+        5,
+        "far.kern: limit offset is -65\n",
+        1,
+    ),
+    (
+        "select neon max.kern e.rules min.rules m.s",
+        8,
+        "not built: max.kern\n",
+        1,
+    ),
+    (
+        "select neon one.kern e.rules min.rules m.s",
+        8,
+        "not built: one.kern\n",
+        1,
+    ),
+    (
+        "select neon wide.kern e.rules min.rules m.s",
+        8,
+        "not built: wide.kern\n",
+        1,
+    ),
+    (
+        "select neon three.kern e.rules min.rules m.s",
+        8,
+        "not built: three.kern\n",
+        1,
+    ),
+    (
+        "select neon number.kern e.rules min.rules m.s",
+        8,
+        "not built: number.kern\n",
+        1,
+    ),
+    (
+        "select neon def.kern e.rules min.rules m.s",
+        8,
+        "not built: def.kern\n",
+        1,
+    ),
+    (
+        "select neon m.kern min.rules min.rules m.s",
+        8,
+        "not built: min.rules\n",
+        2,
+    ),
+    (
+        "select neon m.kern e.rules e.rules m.s",
+        8,
+        "not built: e.rules\n",
+        3,
+    ),
 ];
 
 #[test]
@@ -153,5 +258,10 @@ ret
 
 #[test]
 fn texts_are_selected(rt: HostRuntime) -> Result<(), Fail> {
-    try_well(&rt, FILES, "select neon m.kern e.rules min.rules m.s", SELECTED)
+    try_well(
+        &rt,
+        FILES,
+        "select neon m.kern e.rules min.rules m.s",
+        SELECTED,
+    )
 }

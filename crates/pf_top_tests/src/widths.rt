@@ -41,8 +41,18 @@ fn lesser(
     let [(left, left_x, left_y), (right, right_x, right_y)] = taps;
     for y in 0..height {
         for x in 0..width {
-            let one = pixel(is_wide, left, x.wrapping_add(left_x), y.wrapping_add(left_y));
-            let other = pixel(is_wide, right, x.wrapping_add(right_x), y.wrapping_add(right_y));
+            let one = pixel(
+                is_wide,
+                left,
+                x.wrapping_add(left_x),
+                y.wrapping_add(left_y),
+            );
+            let other = pixel(
+                is_wide,
+                right,
+                x.wrapping_add(right_x),
+                y.wrapping_add(right_y),
+            );
             let [high, low] = one.min(other).to_be_bytes();
             if is_wide {
                 file.push(high)?;
@@ -54,12 +64,7 @@ fn lesser(
 }
 
 /// The PGM file of the image of this seed.
-fn image(
-    alloc: Global,
-    is_wide: bool,
-    seed: u32,
-    size: (u32, u32),
-) -> Result<Vec<u8>, Fail> {
+fn image(alloc: Global, is_wide: bool, seed: u32, size: (u32, u32)) -> Result<Vec<u8>, Fail> {
     lesser(alloc, is_wide, [(seed, 0, 0), (seed, 0, 0)], size)
 }
 
@@ -93,7 +98,10 @@ fn try_widths<R: Abort + AllocGlobal>(
         assert_eq!(rt; answer(alloc, words, store, &mut out)?, 0);
         let wanted = lesser(alloc, is_wide, taps, (width, 2))?;
         let written = store.held.get("o.pgm").ok_or("no output")?;
-        assert!(rt; written.as_slice() == wanted.as_slice(), "{words} at {width}");
+        assert!(rt;
+            written.as_slice() == wanted.as_slice(),
+            "{words} at {width}"
+        );
     }
     Ok(())
 }
@@ -158,11 +166,11 @@ fn kernels_of_u8_run_at_every_width(rt: HostRuntime) -> Result<(), Fail> {
 }
 
 /// Texts of u16: the columns and the rows of their first tap, and both taps' places.
-const SHIFTS: &[(i32, i32, [Place; 2])] = &[
-    (-1, 0, [(A, 0, 0), (B, 1, 0)]),
-    (1, 0, [(A, 1, 0), (B, 0, 0)]),
-    (0, -1, [(A, 0, 0), (B, 0, 1)]),
-    (64, 0, [(A, 64, 0), (B, 0, 0)]),
+const SHIFTS: &[(i32, i32, Place, Place)] = &[
+    (-1, 0, (A, 0, 0), (B, 1, 0)),
+    (1, 0, (A, 1, 0), (B, 0, 0)),
+    (0, -1, (A, 0, 0), (B, 0, 1)),
+    (64, 0, (A, 64, 0), (B, 0, 0)),
 ];
 
 /// The code of such a text.
@@ -272,12 +280,22 @@ ret
 #[test]
 fn texts_of_u16_run_at_every_width(rt: HostRuntime) -> Result<(), Fail> {
     let alloc = rt.alloc();
-    for &(dx, dy, taps) in SHIFTS {
+    for &(dx, dy, left, right) in SHIFTS {
         let images = ".target neon\n.image a u16 0 65535\n.image b u16 0 65535\n";
-        let shifted = format!(in alloc; "{images}.tap a {dx} {dy}\n.tap b 0 0\n.out u16\n.scratch 224\n")?;
-        let text = format!(in alloc; "{shifted}.lifted out u16 = min(a[{dx},{dy}], b[0,0])\n.cost 2\n{CODE}")?;
+        let shifted = format!(in alloc;
+            "{images}.tap a {dx} {dy}\n.tap b 0 0\n.out u16\n.scratch 224\n"
+        )?;
+        let text = format!(in alloc;
+            "{shifted}.lifted out u16 = min(a[{dx},{dy}], b[0,0])\n.cost 2\n{CODE}"
+        )?;
         let mut store = store_of(alloc, &[("m.s", text.as_bytes())], NO_TROUBLE)?;
-        try_widths(&rt, &mut store, "run m.s a.pgm b.pgm o.pgm", true, taps)?;
+        try_widths(
+            &rt,
+            &mut store,
+            "run m.s a.pgm b.pgm o.pgm",
+            true,
+            [left, right],
+        )?;
     }
     Ok(())
 }
