@@ -132,11 +132,7 @@ fn lines<I: Isa>(
 }
 
 /// The program that runs the block over each row of the output, as its code and its labels.
-fn row_text<I: Isa>(
-    alloc: Global,
-    block: Block<I::Op>,
-    head: Head,
-) -> Result<Program<I>, Memory>
+fn row_text<I: Isa>(alloc: Global, block: Block<I::Op>, head: Head) -> Result<Program<I>, Memory>
     requires { (slots : ℕ) × IsRowBlock I.table head slots block }
     ensures value { IfOk result (λ p. p ≡ row_text I I.table head block) }
     ensures known { IfOk result (λ _. All (λ i. IsOne I.is_op i) block) }
