@@ -27,7 +27,7 @@ fn are_behind(end: u64, regions: &[Region]) -> bool
 }
 
 /// Whether the regions stand one behind another, as a machine's memory.
-#[tactic(auto, using(crate::proofs::Memories::no_memory, crate::proofs::Memories::more_memory))]
+#[tactic(auto, using(crate::proofs::Memories::no_memory))]
 pub fn is_memory(regions: &[Region]) -> bool
     ensures { IsTrue result → IsMemory regions.now }
 {
