@@ -1,5 +1,6 @@
 -- Regions that stand one behind another are a memory, and a table in front is the table of a row.
-use Rattle.std.proofs.Common.{◌≡◌, refl, sym, ap, subst, ◌∙◌, ℕ, ◌+◌, ◌-◌, ◌^◌, ◌<◌, ◌≤◌, Bool, true, ◌==◌, ltb, eq-eqb, List, [], ◌∷◌, length, take, drop, None, All, inl, arith}
+use Rattle.std.proofs.Common.{◌≡◌, refl, sym, ap, subst, ◌∙◌, ℕ, ◌+◌, ◌-◌, ◌^◌, ◌<◌, ◌≤◌}
+use Rattle.std.proofs.Common.{Bool, true, ◌==◌, ltb, eq-eqb, List, [], ◌∷◌, length, take, drop, None, All, inl, arith}
 use Rattle.std.specs.Prelude.{slice_get, slice_index_or, position, Some}
 use Rattle.std.proofs.lemmas.List.{take_rest}
 use Rattle.std.proofs.lemmas.Bool.{and_from, cond-true, lt-ltb}
@@ -26,7 +27,8 @@ front_memory [] r end some is ends low behind others = absurd (omega (arith, som
 front_memory (first ∷ rest) r end some is ends low behind others =
     let whole : take (length (first ∷ rest) - 1) (drop 1 (first ∷ rest)) ≡ rest = take_rest (first ∷ rest) 1 in
     let same : r ≡ first = is in
-    more_memory first rest end (ap (λ x. x.start + length x.bytes) (sym same) ∙ ends) low (subst (All (λ s. end ≤ s.start)) whole behind) (subst IsMemory whole others)
+    let end_is : first.start + length first.bytes ≡ end = ap (λ x. x.start + length x.bytes) (sym same) ∙ ends in
+    more_memory first rest end end_is low (subst (All (λ s. end ≤ s.start)) whole behind) (subst IsMemory whole others)
 
 first_found : (p : Region → Bool) (r : Region) (rs : List Region) → p r ≡ true → position p (r ∷ rs) ≡ Some 0
 first_found p r rs passes =
@@ -38,6 +40,7 @@ pub first_table : (regions : List Region) (r : Region) (table size : ℕ) → sl
 first_table [] r table size there start long = absurd (cc)
 first_table (first ∷ rest) r table size there start long =
     let same : first ≡ r = cc in
-    let front : is_table table size first ≡ true =
-    and_from (first.start == table) (length first.bytes == size) (eq-eqb first.start table (ap (λ x. x.start) same ∙ start)) (eq-eqb (length first.bytes) size (ap (λ x. length x.bytes) same ∙ long)) in
+    let start_is : (first.start == table) ≡ true = eq-eqb first.start table (ap (λ x. x.start) same ∙ start) in
+    let size_is : (length first.bytes == size) ≡ true = eq-eqb (length first.bytes) size (ap (λ x. length x.bytes) same ∙ long) in
+    let front : is_table table size first ≡ true = and_from (first.start == table) (length first.bytes == size) start_is size_is in
     rw (first_found (is_table table size) first rest front) refl
