@@ -4,7 +4,7 @@ use Rattle.pf_ints.specs.Meaning.Ranges.{Includes, range, furthest}
 use Rattle.pf_forms.specs.Meaning.Shapes.{Shape, Num}
 use Rattle.pf_axioms.specs.declared.fault.StepFault.{StepFault}
 use Rattle.pf_axioms.specs.declared.fault.StepFault.TheVariants.{NoMatch}
-use Rattle.pf_axioms.specs.Meaning.Rows.{is_number}
+use Rattle.pf_axioms.specs.Meaning.Folds.{is_number}
 
 -- f is the number, and that one is within the limits
 pub record IsWithinForms (f : Shape) (n : ℤ) : Type 0 where
