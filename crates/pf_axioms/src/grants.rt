@@ -1,7 +1,7 @@
 ghost use Rattle.std.specs.Prelude.{◌≡◌, ◌≤◌, length};
 ghost use Rattle.pf_templates.specs.Meaning.Letters.{letters};
 ghost use Rattle.pf_templates.specs.Meaning.Building.{AreForms};
-ghost use Rattle.pf_axioms.specs.Meaning.Needs.{suits, covers, wanted, keeps_ends, between, from, to, is_above, is_below};
+ghost use Rattle.pf_axioms.specs.Meaning.Needs.{suits, covers, wanted, keeps_ends, from_to, is_above, is_below};
 ghost use Rattle.pf_axioms.specs.Meaning.AxiomSteps.{verdict};
 ghost use Rattle.pf_axioms.specs.Steps.Grants.{Allows};
 
@@ -61,47 +61,23 @@ fn wanted(needs: Needs, given: &Given, other: Interval) -> Ends
     ensures { result ≡ wanted needs (letters given.now) other }
 {
     match needs {
-        Needs::InT => between(given.t.least(), given.t.greatest()),
-        Needs::FromLeast => from(given.t.least()),
-        Needs::ToGreatest => to(given.t.greatest()),
-        Needs::BelowPower => between(0, given.numeral(Numeral::BelowTwoToA)),
-        Needs::AbovePower => between(-given.numeral(Numeral::TwoToA), -1),
-        Needs::Positive => from(0),
-        Needs::Negative => to(0),
-        Needs::UnderY => to(other.lo()),
-        Needs::OverY => from(other.hi()),
-        _ => Ends {
-            low: None,
-            high: None,
-        },
+        Needs::InT => from_to(Some(given.t.least()), Some(given.t.greatest())),
+        Needs::FromLeast => from_to(Some(given.t.least()), None),
+        Needs::ToGreatest => from_to(None, Some(given.t.greatest())),
+        Needs::BelowPower => from_to(Some(0), Some(given.numeral(Numeral::BelowTwoToA))),
+        Needs::AbovePower => from_to(Some(-given.numeral(Numeral::TwoToA)), Some(-1)),
+        Needs::Positive => from_to(Some(0), None),
+        Needs::Negative => from_to(None, Some(0)),
+        Needs::UnderY => from_to(None, Some(other.lo())),
+        Needs::OverY => from_to(Some(other.hi()), None),
+        _ => from_to(None, None),
     }
 }
 
-fn between(low: i128, high: i128) -> Ends
-    ensures { result ≡ between low high }
+fn from_to(low: Option<i128>, high: Option<i128>) -> Ends
+    ensures { result ≡ from_to low high }
 {
-    Ends {
-        low: Some(low),
-        high: Some(high),
-    }
-}
-
-fn from(low: i128) -> Ends
-    ensures { result ≡ from low }
-{
-    Ends {
-        low: Some(low),
-        high: None,
-    }
-}
-
-fn to(high: i128) -> Ends
-    ensures { result ≡ to high }
-{
-    Ends {
-        low: None,
-        high: Some(high),
-    }
+    Ends { low, high }
 }
 
 /// Whether the interval keeps the ends.

@@ -38,27 +38,21 @@ reads_y _ = false
 abbrev pub other : Needs → Letters → Shape
 other needs l = if reads_y needs then l.y else l.x
 
-abbrev pub between : ℤ → ℤ → Ends
-between low high = record { low = Some low; high = Some high }
+abbrev pub from_to : Option ℤ → Option ℤ → Ends
+from_to low high = record { low = low; high = high }
 
-abbrev pub from : ℤ → Ends
-from low = record { low = Some low; high = None }
-
-abbrev pub to : ℤ → Ends
-to high = record { low = None; high = Some high }
-
--- what the interval of x has to keep, where s is the other form's
+-- the ends that the interval of x has to keep, where s is the other form's
 abbrev pub wanted : Needs → Letters → Range → Ends
-wanted InT l s = between (least l.t) (greatest l.t)
-wanted FromLeast l s = from (least l.t)
-wanted ToGreatest l s = to (greatest l.t)
-wanted BelowPower l s = between (pos 0) (pos (2 ^ l.a) -ℤ pos 1)
-wanted AbovePower l s = between (neg_ℤ (pos (2 ^ l.a))) (negsuc 0)
-wanted Positive l s = from (pos 0)
-wanted Negative l s = to (pos 0)
-wanted UnderY l s = to s.lo
-wanted OverY l s = from s.hi
-wanted _ l s = record { low = None; high = None }
+wanted InT l s = from_to (Some (least l.t)) (Some (greatest l.t))
+wanted FromLeast l s = from_to (Some (least l.t)) None
+wanted ToGreatest l s = from_to None (Some (greatest l.t))
+wanted BelowPower l s = from_to (Some (pos 0)) (Some (pos (2 ^ l.a) -ℤ pos 1))
+wanted AbovePower l s = from_to (Some (neg_ℤ (pos (2 ^ l.a)))) (Some (negsuc 0))
+wanted Positive l s = from_to (Some (pos 0)) None
+wanted Negative l s = from_to None (Some (pos 0))
+wanted UnderY l s = from_to None (Some s.lo)
+wanted OverY l s = from_to (Some s.hi) None
+wanted _ l s = from_to None None
 
 abbrev pub is_above : Option ℤ → ℤ → Bool
 is_above None n = true

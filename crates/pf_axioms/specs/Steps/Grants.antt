@@ -14,5 +14,5 @@ Allows (Err (NotGranted got)) v = v ≡ Denied got
 Allows (Err _) v = ⊥
 
 -- a law as it stands in the code
-abbrev pub law_of : Law → AxiomRow
+abbrev pub law_of : CodeLaw → AxiomRow
 law_of r = Law (tree r.0) (tree r.1) r.2
