@@ -1,6 +1,6 @@
 -- Which function of the code has an axiom's law.
 use Rattle.pf_forms.specs.declared.axioms.Axiom.{Axiom}
-use Rattle.pf_forms.specs.declared.axioms.Axiom.TheVariants.{AddComm, AddAssoc, AddBack, AddZero, SubAdd, Cancel, MulComm, MulAssoc, MulBack, MulOne, Distribute, Fold, DropWrap, WrapWrap, WrapAdd, WrapMul, MulZero, Factor, PowNum, NumPow, PowAdd, DivOne, DivDiv, DivScale, DivOut, DivIn, DivInner, NegDiv, DivZero, DivNeg, DropSat, SatClamp, SatSat, SatHigh, SatLow, MinComm, MaxComm, MinLeft, MaxLeft, MinAdd, MaxAdd, MinDiv, MaxDiv, SelMax, SelMin, SelSame, MaxMinAbs, AbsPos, AbsNeg}
+use Rattle.pf_forms.specs.declared.axioms.Axiom.TheVariants.{AddComm, AddAssoc, AddBack, AddZero, SubAdd, Cancel, MulComm, MulAssoc, MulBack, MulOne, Distribute, Fold, MulZero, Factor, PowNum, NumPow, PowAdd, DivOne, DivDiv, DivScale, DivOut, DivIn, DivInner, NegDiv, DivZero, DivNeg, MinComm, MaxComm, MinLeft, MaxLeft, MinAdd, MaxAdd, MinDiv, MaxDiv, SelMax, SelMin, SelSame, MaxMinAbs, AbsPos, AbsNeg}
 
 pub data Group : Type 0 where
   Sums : Group
