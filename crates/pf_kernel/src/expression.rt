@@ -34,7 +34,7 @@ const MOST_COUNT: u64 = 0x7fff_ffff_ffff_ffff;
 const NO_TYPE: LaneType = LaneType::U8;
 
 /// What a term is judged by beside its names.
-#[derive(Clone, Copy, Debug)]
+#[derive(Clone, Copy)]
 pub struct Measure {
     /// The type that its line declares.
     pub ty: LaneType,

@@ -17,7 +17,7 @@ use sqlite_items::Items;
 use std::alloc::{AllocError, AllocFailed, Global};
 
 /// Why a node has no type.
-#[derive(Clone, Copy, Debug)]
+#[derive(Clone, Copy)]
 pub enum NodeFault {
     Types { want: LaneType, got: LaneType },
     Amount { amount: u64 },
