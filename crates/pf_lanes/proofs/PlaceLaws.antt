@@ -1,0 +1,82 @@
+-- The lanes that are taken are there.
+use Rattle.std.proofs.Common.{◌≡◌, ℕ, ◌+◌, ◌*◌, ◌/◌, ◌%◌, ◌<◌, ◌≤◌, ◌&&◌, ◌==◌, Bool, true, false, length, List, arith}
+use Rattle.std.proofs.Math.Nat.{div-add-mod, mul-le-mul_left, one-le-pow}
+use Rattle.std.proofs.lemmas.Nat.{div_below, mod_below}
+use Rattle.std.specs.Prelude.{nat_le}
+use borrow.Author.Tests.{leb-true, eqb-true}
+use Rattle.pf_ints.specs.declared.lane.LaneType.{LaneType}
+use Rattle.pf_ints.specs.declared.lane.Bits.{Bits}
+use Rattle.pf_ints.specs.declared.lane.Bits.TheVariants.{Eight, Sixteen, ThirtyTwo}
+use Rattle.pf_lanes.specs.declared.operands.Place.{Place}
+use Rattle.pf_lanes.specs.declared.operands.Place.TheVariants.{Same, From, Even, Odd, First, Lower, Upper}
+use Rattle.pf_lanes.specs.declared.operands.Operand.{Operand}
+use Rattle.pf_lanes.specs.Meaning.Lanes.{byte_count, bytes_of}
+use Rattle.pf_lanes.specs.Meaning.Places.{place_of, turn, lanes_for, is_whole}
+use Rattle.pf_lanes.specs.Meaning.Operands.{has_room}
+
+both : (x y : Bool) → (x && y) ≡ true → (x ≡ true) × (y ≡ true)
+both true y h = (refl_true, h) where
+  refl_true : true ≡ true
+  refl_true = λ i. true
+both false y h = absurd (cc)
+
+-- whole runs: a place lies in one of so many runs
+pub record InRuns (run n i : ℕ) : Type 0 where
+  pub some : 1 ≤ run
+  pub before : run * (i / run) + run ≤ n
+  pub rest : i % run < run
+
+in_runs : (run n i : ℕ) → 1 ≤ run → n % run ≡ 0 → i < n → InRuns run n i
+in_runs run n i some whole less =
+    let split : run * (n / run) + n % run ≡ n = div-add-mod n run in
+    let runs : i < (n / run) * run = omega arith in
+    let below : i / run < n / run = div_below i run (n / run) some runs in
+    let more : run * (i / run + 1) ≤ run * (n / run) = mul-le-mul_left run below in
+    record { some = some; before = omega arith; rest = mod_below i run some }
+
+runs_of : (run n i : ℕ) → (nat_le 1 run && (n % run == 0)) ≡ true → i < n → InRuns run n i
+runs_of run n i h less =
+    let parts = both (nat_le 1 run) (n % run == 0) h in
+    in_runs run n i (leb-true 1 run parts.0) (eqb-true (n % run) 0 parts.1) less
+
+-- the lane that goes into one of n lanes is among those that n lanes take
+pub place_inside : (p : Place) (n i : ℕ) → is_whole p n ≡ true → i < n → place_of p i < lanes_for p n
+place_inside Same n i h less = less
+place_inside (From first) n i h less = omega arith
+place_inside Even n i h less = omega arith
+place_inside Odd n i h less = omega arith
+place_inside First n i h less = omega arith
+place_inside (Lower run) n i h less = let r = runs_of run n i h less in omega (arith, r.before, r.rest)
+place_inside (Upper run) n i h less = let r = runs_of run n i h less in omega (arith, r.before, r.rest)
+
+-- the operand has it
+pub record IsTaken (o : Operand) (n i : ℕ) : Type 0 where
+  pub whole : is_whole o.place n ≡ true
+  pub inside : bytes_of o.ty * place_of o.place i + bytes_of o.ty ≤ length o.bytes.now
+  pub below : place_of o.place i < length o.bytes.now
+
+some_bytes : (b : Bits) → 1 ≤ byte_count b
+some_bytes Eight = omega arith
+some_bytes Sixteen = omega arith
+some_bytes ThirtyTwo = omega arith
+
+pub is_taken : (o : Operand) (n i : ℕ) → has_room o n ≡ true → i < n → IsTaken o n i
+is_taken o n i room less =
+    let parts = both (is_whole o.place n) (nat_le (bytes_of o.ty * lanes_for o.place n) (length o.bytes.now)) room in
+    let enough : bytes_of o.ty * lanes_for o.place n ≤ length o.bytes.now = leb-true (bytes_of o.ty * lanes_for o.place n) (length o.bytes.now) parts.1 in
+    let there : place_of o.place i + 1 ≤ lanes_for o.place n = place_inside o.place n i parts.0 less in
+    let grows : bytes_of o.ty * (place_of o.place i + 1) ≤ bytes_of o.ty * lanes_for o.place n = mul-le-mul_left (bytes_of o.ty) there in
+    let some : 1 ≤ bytes_of o.ty = some_bytes o.ty.bits in
+    let least : 1 * (place_of o.place i + 1) ≤ bytes_of o.ty * (place_of o.place i + 1) = omega (arith, mul-le-mul_left (place_of o.place i + 1) some) in
+    record { whole = parts.0; inside = omega arith; below = omega arith }
+
+-- lanes that are taken in turn are among half as many
+pub turn_inside : (run n i : ℕ) → 1 ≤ run → n % (2 * run) ≡ 0 → i < n → turn run i < n / 2
+turn_inside run n i some whole less =
+    let split : (2 * run) * (n / (2 * run)) + n % (2 * run) ≡ n = div-add-mod n (2 * run) in
+    let runs : i < (2 * (n / (2 * run))) * run = omega arith in
+    let below : i / run < (n / (2 * run)) * 2 = omega (arith, div_below i run (2 * (n / (2 * run))) some runs) in
+    let half : i / run / 2 < n / (2 * run) = div_below (i / run) 2 (n / (2 * run)) (omega arith) below in
+    let more : run * (i / run / 2 + 1) ≤ run * (n / (2 * run)) = mul-le-mul_left run half in
+    let rest : i % run < run = mod_below i run some in
+    omega arith

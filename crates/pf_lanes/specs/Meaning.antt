@@ -1,0 +1,4 @@
+pub mod Lanes
+pub mod Works
+pub mod Places
+pub mod Operands
