@@ -1,5 +1,5 @@
 -- The lanes that are taken are there.
-use Rattle.std.proofs.Common.{◌≡◌, ℕ, ◌+◌, ◌*◌, ◌/◌, ◌%◌, ◌<◌, ◌≤◌, ◌&&◌, ◌==◌, Bool, true, false, length, List, arith}
+use Rattle.std.proofs.Common.{◌≡◌, ℕ, ◌+◌, ◌*◌, ◌/◌, ◌%◌, ◌<◌, ◌≤◌, ◌&&◌, ◌==◌, Bool, true, false, refl, arith}
 use Rattle.std.proofs.Math.Nat.{div-add-mod, mul-le-mul_left, one-le-pow}
 use Rattle.std.proofs.lemmas.Nat.{div_below, mod_below}
 use Rattle.std.specs.Prelude.{nat_le}
@@ -7,17 +7,15 @@ use borrow.Author.Tests.{leb-true, eqb-true}
 use Rattle.pf_ints.specs.declared.lane.LaneType.{LaneType}
 use Rattle.pf_ints.specs.declared.lane.Bits.{Bits}
 use Rattle.pf_ints.specs.declared.lane.Bits.TheVariants.{Eight, Sixteen, ThirtyTwo}
-use Rattle.pf_lanes.specs.declared.operands.Place.{Place}
-use Rattle.pf_lanes.specs.declared.operands.Place.TheVariants.{Same, From, Even, Odd, First, Lower, Upper}
-use Rattle.pf_lanes.specs.declared.operands.Operand.{Operand}
+use Rattle.pf_lanes.specs.declared.recipes.Place.{Place}
+use Rattle.pf_lanes.specs.declared.recipes.Place.TheVariants.{Same, From, Even, Odd, First, Lower, Upper}
+use Rattle.pf_lanes.specs.declared.recipes.View.{View}
 use Rattle.pf_lanes.specs.Meaning.Lanes.{byte_count, bytes_of}
 use Rattle.pf_lanes.specs.Meaning.Places.{place_of, turn, lanes_for, is_whole}
-use Rattle.pf_lanes.specs.Meaning.Operands.{has_room}
+use Rattle.pf_lanes.specs.Meaning.Recipes.{has_room}
 
 both : (x y : Bool) → (x && y) ≡ true → (x ≡ true) × (y ≡ true)
-both true y h = (refl_true, h) where
-  refl_true : true ≡ true
-  refl_true = λ i. true
+both true y h = (refl, h)
 both false y h = absurd (cc)
 
 -- whole runs: a place lies in one of so many runs
@@ -49,25 +47,26 @@ place_inside First n i h less = omega arith
 place_inside (Lower run) n i h less = let r = runs_of run n i h less in omega (arith, r.before, r.rest)
 place_inside (Upper run) n i h less = let r = runs_of run n i h less in omega (arith, r.before, r.rest)
 
--- the operand has it
-pub record IsTaken (o : Operand) (n i : ℕ) : Type 0 where
-  pub whole : is_whole o.place n ≡ true
-  pub inside : bytes_of o.ty * place_of o.place i + bytes_of o.ty ≤ length o.bytes.now
-  pub below : place_of o.place i < length o.bytes.now
+-- the vector has it
+pub record IsTaken (view : View) (size n i : ℕ) : Type 0 where
+  pub whole : is_whole view.place n ≡ true
+  pub inside : bytes_of view.ty * place_of view.place i + bytes_of view.ty ≤ size
+  pub below : place_of view.place i < size
 
 some_bytes : (b : Bits) → 1 ≤ byte_count b
 some_bytes Eight = omega arith
 some_bytes Sixteen = omega arith
 some_bytes ThirtyTwo = omega arith
 
-pub is_taken : (o : Operand) (n i : ℕ) → has_room o n ≡ true → i < n → IsTaken o n i
-is_taken o n i room less =
-    let parts = both (is_whole o.place n) (nat_le (bytes_of o.ty * lanes_for o.place n) (length o.bytes.now)) room in
-    let enough : bytes_of o.ty * lanes_for o.place n ≤ length o.bytes.now = leb-true (bytes_of o.ty * lanes_for o.place n) (length o.bytes.now) parts.1 in
-    let there : place_of o.place i + 1 ≤ lanes_for o.place n = place_inside o.place n i parts.0 less in
-    let grows : bytes_of o.ty * (place_of o.place i + 1) ≤ bytes_of o.ty * lanes_for o.place n = mul-le-mul_left (bytes_of o.ty) there in
-    let some : 1 ≤ bytes_of o.ty = some_bytes o.ty.bits in
-    let least : 1 * (place_of o.place i + 1) ≤ bytes_of o.ty * (place_of o.place i + 1) = omega (arith, mul-le-mul_left (place_of o.place i + 1) some) in
+pub is_taken : (view : View) (size n i : ℕ) → has_room view size n ≡ true → i < n → IsTaken view size n i
+is_taken view size n i room less =
+    let w = bytes_of view.ty in
+    let parts = both (is_whole view.place n) (nat_le (w * lanes_for view.place n) size) room in
+    let enough : w * lanes_for view.place n ≤ size = leb-true (w * lanes_for view.place n) size parts.1 in
+    let there : place_of view.place i + 1 ≤ lanes_for view.place n = place_inside view.place n i parts.0 less in
+    let grows : w * (place_of view.place i + 1) ≤ w * lanes_for view.place n = mul-le-mul_left w there in
+    let some : 1 ≤ w = some_bytes view.ty.bits in
+    let least : 1 * (place_of view.place i + 1) ≤ w * (place_of view.place i + 1) = omega (arith, mul-le-mul_left (place_of view.place i + 1) some) in
     record { whole = parts.0; inside = omega arith; below = omega arith }
 
 -- lanes that are taken in turn are among half as many

@@ -1,4 +1,4 @@
 pub mod Lanes
 pub mod Works
 pub mod Places
-pub mod Operands
+pub mod Recipes

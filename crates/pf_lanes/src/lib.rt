@@ -2,9 +2,9 @@
 #![tactic(auto)]
 
 mod lanes;
-mod operands;
+mod recipes;
 mod works;
 
 pub use lanes::{LaneWise, bytes_of, fill, lane};
-pub use operands::{Operand, Operands, Place, compute, spread};
+pub use recipes::{Operands, Place, Recipe, View, compute, spread};
 pub use works::{Work, value_of_one, value_of_three, value_of_two};

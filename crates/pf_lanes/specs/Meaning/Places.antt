@@ -1,7 +1,7 @@
 -- Which lane of an operand goes into a lane of the result.
 use Rattle.std.specs.Prelude.{ℕ, ◌+◌, ◌*◌, ◌/◌, ◌%◌, Bool, true, ◌&&◌, ◌==◌, nat_le}
-use Rattle.pf_lanes.specs.declared.operands.Place.{Place}
-use Rattle.pf_lanes.specs.declared.operands.Place.TheVariants.{Same, From, Even, Odd, First, Lower, Upper}
+use Rattle.pf_lanes.specs.declared.recipes.Place.{Place}
+use Rattle.pf_lanes.specs.declared.recipes.Place.TheVariants.{Same, From, Even, Odd, First, Lower, Upper}
 
 abbrev pub place_of : Place → ℕ → ℕ
 place_of Same i = i

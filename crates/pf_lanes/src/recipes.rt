@@ -1,9 +1,8 @@
 ghost use Rattle.std.specs.Prelude.{◌≡◌, ◌≤◌, ◌<◌, ◌*◌, ◌/◌, ◌%◌, ◌^◌, length, true, pos, if◌then◌else◌};
 ghost use Rattle.pf_values.specs.Meaning.Small.{IsSmall};
 ghost use Rattle.pf_lanes.specs.Meaning.Lanes.{bytes_of, made, word};
-ghost use Rattle.pf_lanes.specs.Meaning.Works.{value};
 ghost use Rattle.pf_lanes.specs.Meaning.Places.{place_of, is_first, turn, is_whole};
-ghost use Rattle.pf_lanes.specs.Meaning.Operands.{taken, taken_all, has_room, have_room};
+ghost use Rattle.pf_lanes.specs.Meaning.Recipes.{taken, has_room, have_room, lane_value, computed};
 
 use crate::lanes::{LaneWise, fill, lane};
 use crate::works::{Work, value_of_one, value_of_three, value_of_two};
@@ -26,22 +25,32 @@ pub enum Place {
     Upper(u8),
 }
 
-/// A vector as its bytes, with the type of its lanes.
+/// Lanes of a vector: of which type, and which of them.
 #[derive(Clone, Copy)]
-pub struct Operand<'a> {
-    pub bytes: &'a [u8],
+pub struct View {
     pub ty: LaneType,
     pub place: Place,
 }
 
-/// The operands of a work.
+/// What an instruction takes from its vectors for each lane of the result.
 #[derive(Clone, Copy)]
-pub enum Operands<'a> {
-    One(Operand<'a>),
-    Two(Operand<'a>, Operand<'a>),
-    Three(Operand<'a>, Operand<'a>, Operand<'a>),
-    /// One operand, which is the first and the second vector in turn, for so many lanes each.
-    InTurn(u8, Operand<'a>, Operand<'a>),
+pub enum Operands {
+    /// One lane of the first vector.
+    One(View),
+    /// One of the first and one of the second.
+    Two(View, View),
+    /// One of each of three.
+    Three(View, View, View),
+    /// One of the first or of the second: for so many lanes each, in turn.
+    InTurn(u8, View, View),
+}
+
+/// How an instruction makes lanes: what it takes, what becomes of it, and the type of the result.
+#[derive(Clone, Copy)]
+pub struct Recipe {
+    pub operands: Operands,
+    pub work: Work,
+    pub to: LaneType,
 }
 
 fn place_of(place: Place, i: usize, _count: usize) -> usize
@@ -66,95 +75,105 @@ fn place_of(place: Place, i: usize, _count: usize) -> usize
     }
 }
 
-// The operand's lane that goes into lane `i` of `count`.
-fn taken(operand: &Operand, i: usize, count: usize) -> i128
+// The lane of a vector that goes into lane `i` of `count`.
+fn taken(view: View, vector: &[u8], i: usize, count: usize) -> i128
     requires inside { i < count }
-    requires room { has_room operand.now count ≡ true }
-    ensures value { result ≡ taken operand.now i }
+    requires room { has_room view (length vector.now) count ≡ true }
+    ensures value { result ≡ taken view vector.now i }
     ensures small { IsSmall result }
 {
-    lane(operand.bytes, operand.ty, place_of(operand.place, i, count))
+    lane(vector, view.ty, place_of(view.place, i, count))
 }
 
-fn taken_in_turn(run: u8, first: &Operand, second: &Operand, i: usize, count: usize) -> i128
+fn taken_in_turn(
+    run: u8,
+    views: (View, View),
+    first: &[u8],
+    second: &[u8],
+    i: usize,
+    count: usize,
+) -> i128
     requires inside { i < count }
     requires some { 1 ≤ run }
     requires whole { count % (2 * run) ≡ 0 }
-    requires first { has_room first.now (count / 2) ≡ true }
-    requires second { has_room second.now (count / 2) ≡ true }
-    ensures value { result ≡ (if is_first run i then taken first.now (turn run i) else taken second.now (turn run i)) }
+    requires first { has_room views.0 (length first.now) (count / 2) ≡ true }
+    requires second { has_room views.1 (length second.now) (count / 2) ≡ true }
+    ensures value { result ≡ (if is_first run i then taken views.0 first.now (turn run i) else taken views.1 second.now (turn run i)) }
     ensures small { IsSmall result }
 {
     let run = usize::from(run);
     let place = i / run / 2 * run + i % run;
     if i / run % 2 == 0 {
-        taken(first, place, count / 2)
+        taken(views.0, first, place, count / 2)
     } else {
-        taken(second, place, count / 2)
+        taken(views.1, second, place, count / 2)
     }
 }
 
-/// Lanes of operands, with what becomes of them.
+/// A recipe with its amount and its vectors.
 #[derive(Drop)]
 struct Source<'a> {
-    work: Work,
-    to: LaneType,
+    recipe: Recipe,
     amount: u8,
-    operands: &'a Operands<'a>,
+    first: &'a [u8],
+    second: &'a [u8],
+    third: &'a [u8],
     count: usize,
     ghost small: { amount < 64 },
-    ghost room: { have_room operands.now count ≡ true },
+    ghost room: { have_room recipe.operands (length first.now) (length second.now) (length third.now) count ≡ true },
 }
 
 impl LaneWise for Source<'_> {
-    ghost at = { λ s i. value s.work s.to s.amount (taken_all s.operands.now i) };
+    ghost at = { λ s i. lane_value s.recipe s.amount s.first.now s.second.now s.third.now i };
 
     ghost many = { λ s. s.count };
 
     fn lane_at(&self, i: usize) -> i128 {
-        let (work, to, amount) = (self.work, self.to, self.amount);
-        match self.operands {
-            Operands::One(a) => value_of_one(work, to, amount, taken(a, i, self.count)),
+        let (work, to, k, n) = (self.recipe.work, self.recipe.to, self.amount, self.count);
+        match self.recipe.operands {
+            Operands::One(a) => value_of_one(work, to, k, taken(a, self.first, i, n)),
             Operands::Two(a, b) => {
-                let x = taken(a, i, self.count);
-                value_of_two(work, to, amount, x, taken(b, i, self.count))
+                let x = taken(a, self.first, i, n);
+                value_of_two(work, to, k, x, taken(b, self.second, i, n))
             }
             Operands::Three(a, b, c) => {
-                let x = taken(a, i, self.count);
-                let y = taken(b, i, self.count);
-                value_of_three(work, to, amount, x, y, taken(c, i, self.count))
+                let x = taken(a, self.first, i, n);
+                let y = taken(b, self.second, i, n);
+                value_of_three(work, to, k, x, y, taken(c, self.third, i, n))
             }
             Operands::InTurn(run, a, b) => {
-                let x = taken_in_turn(*run, a, b, i, self.count);
-                value_of_one(work, to, amount, x)
+                let x = taken_in_turn(run, (a, b), self.first, self.second, i, n);
+                value_of_one(work, to, k, x)
             }
         }
     }
 }
 
-/// Writes `count` lanes of the type `to` over all of `out`: what becomes of the operands' lanes,
-/// by an amount below 64. The operands have to have the lanes that this takes.
+/// Writes `count` lanes over all of `out`, by the recipe, an amount below 64 and three vectors, of
+/// which it takes what it needs. They have to have the lanes that this takes.
 pub fn compute(
-    work: Work,
-    to: LaneType,
+    recipe: Recipe,
     amount: u8,
-    operands: &Operands,
+    first: &[u8],
+    second: &[u8],
+    third: &[u8],
     count: usize,
     out: &mut [u8],
 )
     requires small { amount < 64 }
-    requires room { have_room operands.now count ≡ true }
-    requires whole { length out.old ≡ bytes_of to * count }
-    ensures { out.new ≡ made to count (λ i. value work to amount (taken_all operands.now i)) }
+    requires room { have_room recipe.operands (length first.now) (length second.now) (length third.now) count ≡ true }
+    requires whole { length out.old ≡ bytes_of recipe.to * count }
+    ensures { out.new ≡ computed recipe amount count first.now second.now third.now }
 {
     let source = Source {
-        work,
-        to,
+        recipe,
         amount,
-        operands,
+        first,
+        second,
+        third,
         count,
     };
-    fill(&source, to, count, out);
+    fill(&source, recipe.to, count, out);
 }
 
 /// One number, for each lane.
