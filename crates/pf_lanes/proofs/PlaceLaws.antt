@@ -1,5 +1,5 @@
 -- The lanes that are taken are there.
-use Rattle.std.proofs.Common.{◌≡◌, ℕ, ◌+◌, ◌*◌, ◌/◌, ◌%◌, ◌<◌, ◌≤◌, ◌&&◌, ◌==◌, Bool, true, false, refl, arith}
+use Rattle.std.proofs.Common.{◌≡◌, ℕ, suc, ◌+◌, ◌*◌, ◌/◌, ◌%◌, ◌<◌, ◌≤◌, ◌&&◌, ◌==◌, Bool, true, false, refl, arith}
 use Rattle.std.proofs.Math.Nat.{div-add-mod, mul-le-mul_left, one-le-pow}
 use Rattle.std.proofs.lemmas.Nat.{div_below, mod_below}
 use Rattle.std.specs.Prelude.{nat_le}
@@ -10,9 +10,11 @@ use Rattle.pf_ints.specs.declared.lane.Bits.TheVariants.{Eight, Sixteen, ThirtyT
 use Rattle.pf_lanes.specs.declared.recipes.Place.{Place}
 use Rattle.pf_lanes.specs.declared.recipes.Place.TheVariants.{Same, From, Even, Odd, First, Lower, Upper}
 use Rattle.pf_lanes.specs.declared.recipes.View.{View}
+use Rattle.pf_lanes.specs.declared.recipes.Operands.{Operands}
+use Rattle.pf_lanes.specs.declared.recipes.Operands.TheVariants.{Three, InTurn}
 use Rattle.pf_lanes.specs.Meaning.Lanes.{byte_count, bytes_of}
 use Rattle.pf_lanes.specs.Meaning.Places.{place_of, turn, lanes_for, is_whole}
-use Rattle.pf_lanes.specs.Meaning.Recipes.{has_room}
+use Rattle.pf_lanes.specs.Meaning.Recipes.{has_room, have_room}
 
 both : (x y : Bool) → (x && y) ≡ true → (x ≡ true) × (y ≡ true)
 both true y h = (refl, h)
@@ -29,7 +31,7 @@ in_runs run n i some whole less =
     let split : run * (n / run) + n % run ≡ n = div-add-mod n run in
     let runs : i < (n / run) * run = omega arith in
     let below : i / run < n / run = div_below i run (n / run) some runs in
-    let more : run * (i / run + 1) ≤ run * (n / run) = mul-le-mul_left run below in
+    let more : run * suc (i / run) ≤ run * (n / run) = mul-le-mul_left run below in
     record { some = some; before = omega arith; rest = mod_below i run some }
 
 runs_of : (run n i : ℕ) → (nat_le 1 run && (n % run == 0)) ≡ true → i < n → InRuns run n i
@@ -63,10 +65,10 @@ is_taken view size n i room less =
     let w = bytes_of view.ty in
     let parts = both (is_whole view.place n) (nat_le (w * lanes_for view.place n) size) room in
     let enough : w * lanes_for view.place n ≤ size = leb-true (w * lanes_for view.place n) size parts.1 in
-    let there : place_of view.place i + 1 ≤ lanes_for view.place n = place_inside view.place n i parts.0 less in
-    let grows : w * (place_of view.place i + 1) ≤ w * lanes_for view.place n = mul-le-mul_left w there in
+    let there : suc (place_of view.place i) ≤ lanes_for view.place n = place_inside view.place n i parts.0 less in
+    let grows : w * suc (place_of view.place i) ≤ w * lanes_for view.place n = mul-le-mul_left w there in
     let some : 1 ≤ w = some_bytes view.ty.bits in
-    let least : 1 * (place_of view.place i + 1) ≤ w * (place_of view.place i + 1) = omega (arith, mul-le-mul_left (place_of view.place i + 1) some) in
+    let least : suc (place_of view.place i) * 1 ≤ suc (place_of view.place i) * w = mul-le-mul_left (suc (place_of view.place i)) some in
     record { whole = parts.0; inside = omega arith; below = omega arith }
 
 -- lanes that are taken in turn are among half as many
@@ -76,6 +78,17 @@ turn_inside run n i some whole less =
     let runs : i < (2 * (n / (2 * run))) * run = omega arith in
     let below : i / run < (n / (2 * run)) * 2 = omega (arith, div_below i run (2 * (n / (2 * run))) some runs) in
     let half : i / run / 2 < n / (2 * run) = div_below (i / run) 2 (n / (2 * run)) (omega arith) below in
-    let more : run * (i / run / 2 + 1) ≤ run * (n / (2 * run)) = mul-le-mul_left run half in
+    let more : run * suc (i / run / 2) ≤ run * (n / (2 * run)) = mul-le-mul_left run half in
     let rest : i % run < run = mod_below i run some in
     omega arith
+
+-- the room of the last of three operands, and of the second of two in turn
+pub room_of_third : (o : Operands) (x y z : View) (a b c n : ℕ) → o ≡ Three x y z → have_room o a b c n ≡ true → has_room z c n ≡ true
+room_of_third o x y z a b c n is room =
+    let here : have_room (Three x y z) a b c n ≡ true = rw is at room in
+    (both (has_room y b n) (has_room z c n) (both (has_room x a n) _ here).1).1
+
+pub room_in_turn : (o : Operands) (run : ℕ) (x y : View) (a b c n : ℕ) → o ≡ InTurn run x y → have_room o a b c n ≡ true → has_room y b (n / 2) ≡ true
+room_in_turn o run x y a b c n is room =
+    let here : have_room (InTurn run x y) a b c n ≡ true = rw is at room in
+    (both (has_room x a (n / 2)) (has_room y b (n / 2)) (both (nat_le 1 run && (n % (2 * run) == 0)) _ here).1).1

@@ -60,8 +60,8 @@ pub fn value_of_two(work: Work, ty: LaneType, k: u8, x: i128, y: i128) -> i128
 {
     match work {
         Work::Operator(op) => applied_to_two(op, ty, k, x, y),
-        Work::IsEqual => ones_if(x == y),
-        Work::IsGreater => ones_if(x > y),
+        Work::IsEqual => if x == y { -1 } else { 0 },
+        Work::IsGreater => if x > y { -1 } else { 0 },
         Work::MulShift => shifted(product(x, y), k),
         Work::MulRound => shifted(shifted(product(x, y), 14) + 1, 1),
         Work::MulAdd | Work::WhereNegative | Work::WherePositive | Work::BitSelect => 0,
@@ -84,10 +84,6 @@ pub fn value_of_three(work: Work, ty: LaneType, k: u8, x: i128, y: i128, z: i128
         Work::BitSelect => bit_select(low_byte(x), low_byte(y), low_byte(z)),
         _ => value_of_two(work, ty, k, x, y),
     }
-}
-
-fn ones_if(holds: bool) -> i128 {
-    if holds { -1 } else { 0 }
 }
 
 fn low_byte(n: i128) -> u8

@@ -14,3 +14,6 @@ loop-i-preserved g c =
       full = length_put (bytes_of c.args.ty) c.loop-i.i c.residue.result c.loop-i.out c.put.new.out room c.put.ensures ∙ c.loop-i.invariant.full;
       done = one_more c.args.ty (g.S.LaneWise.at c.args.source.now) c.loop-i.i c.residue.result c.loop-i.out c.put.new.out c.loop-i.invariant.done room (value ∙ ap (residue c.args.ty) there) c.put.ensures;
     }
+
+pub returns : goal.returns
+returns g c = all_made c.args.ty (g.S.LaneWise.at c.args.source.now) c.args.count c.loop-i.i c.loop-i.out c.loop-i.invariant.full (omega arith) c.loop-i.invariant.done
