@@ -11,7 +11,7 @@ use Rattle.pf_ints.specs.Meaning.Lanes.{wrapped, modulus, bit_count}
 use Rattle.pf_ints.specs.Meaning.Whole.{floor_div}
 use Rattle.pf_ints.proofs.Floor.{floor_mod_below, floor_split}
 use Rattle.pf_ints.proofs.LaneLaws.{wrapped_alike}
-use Rattle.pf_machine.specs.Meaning.Bytes.{number, bytes}
+use Rattle.pf_machine.specs.Meaning.Bytes.{AreBytes, number, bytes}
 use Rattle.pf_machine.proofs.ByteLaws.{length-bytes, bytes_below, number-bytes}
 use Rattle.pf_lanes.specs.Meaning.Lanes.{byte_count, bytes_of, lane, residue, made_from, made}
 
@@ -74,3 +74,7 @@ lane-made t n f i less =
     let start : 0 + i ≡ i = omega arith in
     let front : take (bytes_of t) (bytes (bytes_of t) (residue t (f i)) ++ made_from t (n - i - 1) f (i + 1)) ≡ bytes (bytes_of t) (residue t (f i)) = take_at (bytes (bytes_of t) (residue t (f i))) (made_from t (n - i - 1) f (i + 1)) (bytes_of t) (length-bytes (bytes_of t) (residue t (f i))) in
     rw (there, one, start, front, number-bytes (bytes_of t) (residue t (f i)) (residue_fits t (f i))) (wrapped_residue t (f i))
+
+-- what is made are bytes
+pub made_are : (t : LaneType) (n : ℕ) (f : ℕ → ℤ) → AreBytes (bytes_of t * n) (made t n f)
+made_are t n f = record { size = length-made t n f; small = bytes-made t n f }
