@@ -1,0 +1,5 @@
+pub mod LaneLaws
+mod FillLaws
+mod ResidueLaws
+pub mod PlaceLaws
+mod WorkLaws
