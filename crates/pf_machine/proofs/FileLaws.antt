@@ -36,7 +36,8 @@ part_are a c bs fits small = record {
 }
 
 -- bytes with others from a place on
-pub overwritten_are : (count n : ℕ) (bs new : List ℕ) → AreBytes count bs → n + length new ≤ length bs → All (λ b. b < 256) new → AreBytes count (overwritten bs n new)
+pub overwritten_are : (count n : ℕ) (bs new : List ℕ) → AreBytes count bs → n + length new ≤ length bs → All (λ b. b < 256) new
+    → AreBytes count (overwritten bs n new)
 overwritten_are count n bs new are fits small = record {
   size = length-overwritten bs n new fits ∙ are.size;
   small = All-append (λ b. b < 256) (take n bs) (new ++ drop (n + length new) bs) (All-take (λ b. b < 256) n bs are.small)
@@ -63,7 +64,8 @@ module _ {O : Type 0} (t : Table O) (many : ℕ) (f : RegFile) (is : IsFile t ma
   }
 
 -- the file with all registers clear
-pub clear_file : {O : Type 0} (t : Table O) → IsFile t t.vectors (record { vectors = replicate t.vectors (replicate t.vector 0); k = 0; q = replicate t.vector false })
+pub clear_file : {O : Type 0} (t : Table O)
+    → IsFile t t.vectors (record { vectors = replicate t.vectors (replicate t.vector 0); k = 0; q = replicate t.vector false })
 clear_file t = record {
   count = length-replicate t.vectors (replicate t.vector 0);
   vectors = All-replicate (λ v. AreBytes t.vector v) t.vectors (replicate t.vector 0) (zeros_are t.vector);

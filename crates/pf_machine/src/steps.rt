@@ -24,7 +24,7 @@ pub enum Trap {
 }
 
 /// The state of a machine.
-#[derive(Debug, Drop)]
+#[derive(Drop)]
 pub struct Core {
     /// How many instructions stand before the next one.
     pub at: u64,

@@ -32,7 +32,8 @@ use Rattle.pf_rows.proofs.Parts.{laid}
 use Rattle.pf_rows.proofs.Placed.{row_placed, image_of_tap, place_of_tap, pixel_is, some_columns}
 
 -- the code has more instructions than the block
-code_long : (I O : Type 0) (t : Table O) (widths : List ℕ) (width : ℕ) (block : List (Item O)) → length (block_lines {I = I} t widths width block) + 20 ≤ length (row_code {I = I} t widths width block)
+code_long : (I O : Type 0) (t : Table O) (widths : List ℕ) (width : ℕ) (block : List (Item O))
+    → length (block_lines {I = I} t widths width block) + 20 ≤ length (row_code {I = I} t widths width block)
 code_long I O t widths width block =
     let back : List (Line I O) = back_lines t.vector (length widths) width in
     let narrow : List (Line I O) = narrow_lines t.vector widths in
@@ -52,7 +53,8 @@ rest_is : (a : ℕ) (left : List ℕ) → drop a left ≡ part a (length left - 
 rest_is a left = sym (take_all (length left - a) (drop a left) (omega (arith, length-drop a left)))
 
 -- a row that is written, with the rest as before
-row_written : (start count : ℕ) (before left : List ℕ) → start + count ≤ length before → length left ≡ length before → Agree 0 start before left → Agree (start + count) (length before) before left
+row_written : (start count : ℕ) (before left : List ℕ) → start + count ≤ length before → length left ≡ length before → Agree 0 start before left
+    → Agree (start + count) (length before) before left
     → left ≡ take start before ++ (part start count left ++ drop (start + count) before)
 row_written start count before left inside long front back =
     let first : take start left ≡ take start before = front.each 0 start (omega arith) (omega arith) in
@@ -103,7 +105,8 @@ module _ (I O : Type 0) (t : Table O) (is_op : O → Type 0) (laws : IsTable t i
   }
 
   -- what a block gives doesn't depend on what registers and slots hold
-  same_value : (blocks : List (List ℕ)) (f file : RegFile) (kept other : List (List ℕ)) → AreTaps t.vector widths blocks → IsFile t t.vectors f → IsFile t t.vectors file
+  same_value : (blocks : List (List ℕ)) (f file : RegFile) (kept other : List (List ℕ)) → AreTaps t.vector widths blocks → IsFile t t.vectors f
+      → IsFile t t.vectors file
       → AreSlots t.vector slots kept → AreSlots t.vector slots other
       → concat (BVal t width block blocks f kept) ≡ concat (BVal t width block blocks file other)
   same_value blocks f file kept other taps_are one two three four = let clean = fit.clean in ap concat (clean.same blocks f file kept other taps_are one two three four)
@@ -111,7 +114,8 @@ module _ (I O : Type 0) (t : Table O) (is_op : O → Type 0) (laws : IsTable t i
   abbrev Given : ℕ → ℕ → List ℕ → Type 0
   Given x q held = IsGiven t slots block h pictures y x q held
 
-  gives_wide : (x : ℕ) → x + t.vector ≤ n → (f : RegFile) (kept : List (List ℕ)) → IsFile t t.vectors f → AreSlots t.vector slots kept → (q : ℕ) → x ≤ q → q < x + t.vector
+  gives_wide : (x : ℕ) → x + t.vector ≤ n → (f : RegFile) (kept : List (List ℕ)) → IsFile t t.vectors f → AreSlots t.vector slots kept → (q : ℕ) → x ≤ q
+      → q < x + t.vector
       → Given x q (part (width * (q - x)) width (given_by t is_op laws code (row_labels I t widths width block) pictures at entries widths width slots n h.scratch (output_size h pictures) line image place place_is block (laid I O t widths width block few) ones fit.clean.within fit.steps fit.stores x f kept))
   gives_wide x within f kept is_file kept_are q from to =
       let blocks = wide_taps t pictures at entries widths width slots n h.scratch (output_size h pictures) line image place place_is x in
@@ -133,7 +137,8 @@ module _ (I O : Type 0) (t : Table O) (is_op : O → Type 0) (laws : IsTable t i
       }
 
   module _ (narrow : n < t.vector) where
-    gives_narrow : (blocks : List (List ℕ)) → Finds t.vector n pictures widths image place 0 blocks → (f : RegFile) (kept : List (List ℕ)) → IsFile t t.vectors f → AreSlots t.vector slots kept → (q : ℕ) → q < n
+    gives_narrow : (blocks : List (List ℕ)) → Finds t.vector n pictures widths image place 0 blocks → (f : RegFile) (kept : List (List ℕ))
+        → IsFile t t.vectors f → AreSlots t.vector slots kept → (q : ℕ) → q < n
         → AreBytes width (part (width * q) width (given_from t is_op laws code (row_labels I t widths width block) pictures at entries widths width slots n h.scratch (output_size h pictures) line image place place_is block (laid I O t widths width block few) ones fit.clean.within fit.steps fit.stores narrow (some_columns h fit.head s images taps pictures keeps) blocks f kept))
         → Given 0 q (bytes width (number (part (width * q) width (given_from t is_op laws code (row_labels I t widths width block) pictures at entries widths width slots n h.scratch (output_size h pictures) line image place place_is block (laid I O t widths width block few) ones fit.clean.within fit.steps fit.stores narrow (some_columns h fit.head s images taps pictures keeps) blocks f kept))))
     gives_narrow blocks finds f kept is_file kept_are q known pixel_are =

@@ -128,7 +128,8 @@ module _ {I O : Type 0} (t : Table O) (code : List (Line I O)) (labels : List La
         let none' : place k + w * x + 0 ≡ place k + w * x = omega arith in
         ap (λ l. loaded (memo (copied_to x) output) l w) (sym none) ∙ given ∙ ap Some (ap (λ m. part m w (image_bytes pictures (image k))) none' ∙ sym (take-drop-part (image_bytes pictures (image k)) (place k) (w * n) (w * x) w (omega arith)))
 
-    pixel_store : (x : ℕ) → x < n → stored (memo (copied_to x) output) (at.scratch + at_buffer k + x * w) (bytes w (number (pixel_held x))) ≡ Some (memo (copied_to (suc x)) output)
+    pixel_store : (x : ℕ) → x < n
+        → stored (memo (copied_to x) output) (at.scratch + at_buffer k + x * w) (bytes w (number (pixel_held x))) ≡ Some (memo (copied_to (suc x)) output)
     pixel_store x inside =
         let wide = wide_tap in
         let long = held_long x inside in

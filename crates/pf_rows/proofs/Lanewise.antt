@@ -29,7 +29,8 @@ use Rattle.pf_rows.proofs.RowPlaces.{span}
 use Rattle.pf_rows.proofs.BlockRowLaws.{block_row}
 
 -- bytes are told by their parts
-same_parts : (width count : ℕ) (held other : List ℕ) → length held ≡ width * count → length other ≡ width * count → ((q : ℕ) → q < count → part (width * q) width held ≡ part (width * q) width other) → held ≡ other
+same_parts : (width count : ℕ) (held other : List ℕ) → length held ≡ width * count → length other ≡ width * count
+    → ((q : ℕ) → q < count → part (width * q) width held ≡ part (width * q) width other) → held ≡ other
 same_parts width count held other long same each =
     let cells = cells_of 0 width count other in
     let cell_count = length-cells_of 0 width count other in
@@ -68,7 +69,8 @@ module _ {O : Type 0} (t : Table O) (h : Head) (slots : ℕ) (block : List (Item
   value_at x y = value (map (tap_pixel h.taps pictures x y) h.taps)
 
   -- the row of such a block holds the function's values
-  pub row_of_lanes : (row : List ℕ) → IsBlockRow t slots block h pictures y row → row ≡ row_in_memory (λ x y. value (map (tap_pixel h.taps pictures x y) h.taps)) h pictures y
+  pub row_of_lanes : (row : List ℕ) → IsBlockRow t slots block h pictures y row
+      → row ≡ row_in_memory (λ x y. value (map (tap_pixel h.taps pictures x y) h.taps)) h pictures y
   row_of_lanes row is =
       let n = columns h pictures in
       let width = pixel_bytes h.out_ty in

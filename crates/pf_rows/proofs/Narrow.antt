@@ -115,7 +115,8 @@ module _ {I O : Type 0} (t : Table O) (code : List (Line I O)) (labels : List La
         ap (λ r. loaded r (address k + 0 * by + j * t.vector) t.vector) w.is ∙ ap (λ a. loaded (memo w.scratch out) a t.vector) spot ∙ load
         ∙ ap Some (held ∙ sym sub ∙ ap (λ l. part (t.vector * j) t.vector l) (sym (narrow_tap before k known)))
 
-    narrow_store : (kept output : List (List ℕ)) (rs : List Region) → Narrow before out kept output rs → (j : ℕ) (new : List ℕ) → j < width → AreBytes t.vector new
+    narrow_store : (kept output : List (List ℕ)) (rs : List Region) → Narrow before out kept output rs → (j : ℕ) (new : List ℕ) → j < width
+        → AreBytes t.vector new
         → (next : List Region) × (stored rs (address (length widths) + 0 * width + j * t.vector) new ≡ Some next) × Narrow before out kept (set output j new) next
     narrow_store kept output rs w j new inside new_are =
         let size = new_are.size in
@@ -151,7 +152,8 @@ module _ {I O : Type 0} (t : Table O) (code : List (Line I O)) (labels : List La
         let given = slot-given t.vector pictures at entries widths width slots n scratch_size output_size row image place placed k kept w.scratch out inside w.in_slots w.scratch_are out_long in
         (ap (λ r. loaded r (at.scratch + slot_at t.vector (length widths) k) t.vector) w.is ∙ given.0, given.1)
 
-    narrow_keep : (kept output : List (List ℕ)) (rs : List Region) → Narrow before out kept output rs → (k : ℕ) (new : List ℕ) → k < slots → AreBytes t.vector new
+    narrow_keep : (kept output : List (List ℕ)) (rs : List Region) → Narrow before out kept output rs → (k : ℕ) (new : List ℕ) → k < slots
+        → AreBytes t.vector new
         → (next : List Region) × (stored rs (at.scratch + slot_at t.vector (length widths) k) new ≡ Some next) × Narrow before out (set kept k new) output next
     narrow_keep kept output rs w k new inside new_are =
         let size = new_are.size in

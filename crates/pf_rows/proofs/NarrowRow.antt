@@ -114,7 +114,8 @@ module _ {I O : Type 0} (t : Table O) (is_op : O → Type 0) (laws : IsTable t i
         ∙ loaded-scratch pictures at (packed 8 entries) scratch (back_to x) (placed.apart scratch (back_to x) scratch_long (back_long x (omega arith))) (buffer + width * x) width (omega arith) (omega arith)
         ∙ ap Some (sym (take-drop-part scratch buffer (width * n) (width * x) width (omega arith)))
 
-    back_store : (x : ℕ) → x < n → stored (memo scratch (back_to x)) (get_or entries (length widths) 0 + x * width) (bytes width (number (back_held x))) ≡ Some (memo scratch (back_to (suc x)))
+    back_store : (x : ℕ) → x < n
+        → stored (memo scratch (back_to x)) (get_or entries (length widths) 0 + x * width) (bytes width (number (back_held x))) ≡ Some (memo scratch (back_to (suc x)))
     back_store x inside =
         let wide = placed.wide_out in
         let room : width * x + width * 1 ≤ width * n = span width x 1 n (omega arith) in
@@ -178,7 +179,8 @@ module _ {I O : Type 0} (t : Table O) (is_op : O → Type 0) (laws : IsTable t i
     back : Agree (row + width * n) output_size out left
     pixels : (q : ℕ) → q < n → part (row + width * q) width left ≡ bytes width (number (part (width * q) width (part buffer (width * n) scratch)))
 
-  came_back : (scratch out : List ℕ) (f : RegFile) → length scratch ≡ scratch_size → length out ≡ output_size → (p v e : ℕ) (flag : Bool) → CameBack scratch out f p v e flag
+  came_back : (scratch out : List ℕ) (f : RegFile) → length scratch ≡ scratch_size → length out ≡ output_size → (p v e : ℕ) (flag : Bool)
+      → CameBack scratch out f p v e flag
   came_back scratch out f scratch_long out_long p v e flag =
       let a = back_at I t widths width block in
       let wide = placed.wide_out in
@@ -245,7 +247,8 @@ module _ {I O : Type 0} (t : Table O) (is_op : O → Type 0) (laws : IsTable t i
     comes : Comes t code labels many (now 7 (at.scratch ∷ n ∷ at.scratch ∷ 0 ∷ at.table ∷ p ∷ v ∷ e ∷ []) flag f (memo before out)) (now (next_at I t widths width block) (at.scratch ∷ n ∷ at.scratch ∷ 0 ∷ at.table ∷ pointer ∷ v ∷ e ∷ []) flag file (memo kept out))
     gives_it : part buffer (t.vector * width) kept ≡ given_from (narrow_taps_of before) f (slots_of before)
 
-  block_ran : (f : RegFile) (before out : List ℕ) → IsFile t t.vectors f → AreBytes scratch_size before → length out ≡ output_size → IsFilled before → (p v e : ℕ) (flag : Bool) → BlockRan f before out p v e flag
+  block_ran : (f : RegFile) (before out : List ℕ) → IsFile t t.vectors f → AreBytes scratch_size before → length out ≡ output_size → IsFilled before
+      → (p v e : ℕ) (flag : Bool) → BlockRan f before out p v e flag
   block_ran f before out is_file before_are out_long filled p v e flag =
       let some = placed.some in
       let none : List ℕ = [] in

@@ -101,7 +101,8 @@ module _ (h : Head) (is_head : IsHead h) (s : Source) (images : s.images ≡ h.i
         length-packed (pixel_bytes p.ty) p.pixels ∙ ap (λ m. pixel_bytes p.ty * m) image.count ∙ ap (λ b. b * (width_of pictures * height_of pictures)) (sym width_is)
 
     -- pixel x of the row, among the pixels of the image
-    place_is : (y x : ℕ) → place_of_tap y k + get_or (tap_widths h) k 0 * x ≡ get_or (tap_widths h) k 0 * (width_of pictures * tap_row h.taps y tap + (tap_column h.taps 0 tap + x))
+    place_is : (y x : ℕ)
+        → place_of_tap y k + get_or (tap_widths h) k 0 * x ≡ get_or (tap_widths h) k 0 * (width_of pictures * tap_row h.taps y tap + (tap_column h.taps 0 tap + x))
     place_is y x =
         let image = image_is tap.image tap_image in
         let w = get_or (tap_widths h) k 0 in

@@ -91,7 +91,8 @@ module _ {I O : Type 0} (t : Table O) (code : List (Line I O)) (labels : List La
       overwritten_are scratch_size (8 * k) (written k scratch) (bytes pb (at.scratch + buffer k)) mid (omega arith) (bytes_below pb (at.scratch + buffer k))
 
   -- one more tap
-  filled_more : (k : ℕ) (scratch : List ℕ) → k < length widths → AreBytes scratch_size scratch → Filled k k scratch → Filled (k + 1) (k + 1) (filled_of k scratch)
+  filled_more : (k : ℕ) (scratch : List ℕ) → k < length widths → AreBytes scratch_size scratch → Filled k k scratch
+      → Filled (k + 1) (k + 1) (filled_of k scratch)
   filled_more k scratch known are before =
       let new = take (get_or widths k 0 * n) (row_of_tap k) in
       let pointer = bytes pb (at.scratch + buffer k) in
@@ -143,8 +144,10 @@ module _ {I O : Type 0} (t : Table O) (code : List (Line I O)) (labels : List La
     filled : Filled (length widths) (length widths) left
     comes : Comes t code labels count (now a (regs x p v e) flag f (memo scratch output)) (now (a + length (tap_copies {I = I} {O = O} t.vector (length widths) k rest)) (regs x' p' v' e') flag' f (memo left output))
 
-  all_copied : (rest : List ℕ) (k a x p v e : ℕ) (flag : Bool) (f : RegFile) (scratch output : List ℕ) → k + length rest ≡ length widths → ((j : ℕ) → j < length rest → get_or rest j 0 ≡ get_or widths (k + j) 0)
-      → AreBytes scratch_size scratch → length output ≡ output_size → Stands code a (tap_copies t.vector (length widths) k rest) → Copies I O labels (length code) t.vector (length widths) k a rest → Filled k k scratch → AllCopied rest k a x p v e flag f scratch output
+  all_copied : (rest : List ℕ) (k a x p v e : ℕ) (flag : Bool) (f : RegFile) (scratch output : List ℕ) → k + length rest ≡ length widths
+      → ((j : ℕ) → j < length rest → get_or rest j 0 ≡ get_or widths (k + j) 0)
+      → AreBytes scratch_size scratch → length output ≡ output_size → Stands code a (tap_copies t.vector (length widths) k rest)
+      → Copies I O labels (length code) t.vector (length widths) k a rest → Filled k k scratch → AllCopied rest k a x p v e flag f scratch output
   all_copied [] k a x p v e flag f scratch output all same are output_long there to filled =
       let end : k ≡ length widths = omega arith in
       let here : a ≡ a + 0 = omega arith in
@@ -194,7 +197,9 @@ module _ {I O : Type 0} (t : Table O) (code : List (Line I O)) (labels : List La
       }
 
   -- t becomes the scratch, and the block begins
-  over_scratch : (a tb n s x u p v e : ℕ) (flag : Bool) (f : RegFile) (rs : List Region) → Stands code a (Controls (AddImm 0 2 false 0) ∷ Controls (Imm 3 0) ∷ Controls (Jump (codes "block")) ∷ []) → register_wrapped t.target (s + 0) ≡ s → place_of labels (length code) (codes "block") ≡ 7
+  over_scratch : (a tb n s x u p v e : ℕ) (flag : Bool) (f : RegFile) (rs : List Region)
+      → Stands code a (Controls (AddImm 0 2 false 0) ∷ Controls (Imm 3 0) ∷ Controls (Jump (codes "block")) ∷ []) → register_wrapped t.target (s + 0) ≡ s
+      → place_of labels (length code) (codes "block") ≡ 7
       → Comes t code labels 3 (now a (tb ∷ n ∷ s ∷ x ∷ u ∷ p ∷ v ∷ e ∷ []) flag f rs) (now 7 (s ∷ n ∷ s ∷ 0 ∷ u ∷ p ∷ v ∷ e ∷ []) flag f rs)
   over_scratch a tb n s x u p v e flag f rs there same to_block =
       let one : Comes t code labels 1 (now a (tb ∷ n ∷ s ∷ x ∷ u ∷ p ∷ v ∷ e ∷ []) flag f rs) (now (a + 1) (s ∷ n ∷ s ∷ x ∷ u ∷ p ∷ v ∷ e ∷ []) flag f rs) = comes-one t code labels (Controls (AddImm 0 2 false 0)) _ _ there.0 (rw same refl) in
@@ -215,7 +220,9 @@ module _ {I O : Type 0} (t : Table O) (code : List (Line I O)) (labels : List La
     pub filled : Filled (length widths + 1) (length widths) left
     pub comes : Comes t code labels count (now a (regs x p v e) flag f (memo scratch output)) (now 7 (at.scratch ∷ n ∷ at.scratch ∷ 0 ∷ at.table ∷ pointer ∷ value ∷ end ∷ []) flag_left f (memo left output))
 
-  pub ready : (a x p v e : ℕ) (flag : Bool) (f : RegFile) (scratch output : List ℕ) → AreBytes scratch_size scratch → length output ≡ output_size → Stands code a (narrow_lines t.vector widths) → Copies I O labels (length code) t.vector (length widths) 0 a widths → place_of labels (length code) (codes "block") ≡ 7
+  pub ready : (a x p v e : ℕ) (flag : Bool) (f : RegFile) (scratch output : List ℕ) → AreBytes scratch_size scratch → length output ≡ output_size
+      → Stands code a (narrow_lines t.vector widths) → Copies I O labels (length code) t.vector (length widths) 0 a widths
+      → place_of labels (length code) (codes "block") ≡ 7
       → Ready a x p v e flag f scratch output
   ready a x p v e flag f scratch output are output_long there to to_block =
       let taps = length widths in

@@ -41,10 +41,12 @@ pub record RowPlace (vector : ℕ) (pictures : List Picture) (at : Places) (entr
   pub scratch_low : at.scratch + scratch_size < 2 ^ 31
   pub count : get_or entries (length widths + 2) 0 ≡ n
   pub count_low : n < 2 ^ 31
-  pub apart : (kept output : List ℕ) → length kept ≡ scratch_size → length output ≡ output_size → AllPairs Apart (memory pictures at (packed 8 entries) kept output)
+  pub apart : (kept output : List ℕ) → length kept ≡ scratch_size → length output ≡ output_size
+      → AllPairs Apart (memory pictures at (packed 8 entries) kept output)
 
 -- a number of a table by as many bytes as a machine's pointers have
-pub number-entry : (target : Target) (entries : List ℕ) (k : ℕ) → k < length entries → get_or entries k 0 < 2 ^ 32 → number (take (pointer_bytes target) (drop (8 * k) (packed 8 entries))) ≡ get_or entries k 0
+pub number-entry : (target : Target) (entries : List ℕ) (k : ℕ) → k < length entries → get_or entries k 0 < 2 ^ 32
+    → number (take (pointer_bytes target) (drop (8 * k) (packed 8 entries))) ≡ get_or entries k 0
 number-entry Neon entries k inside small = ap number (entry_at entries k inside) ∙ number-bytes 8 (get_or entries k 0) (omega arith)
 number-entry Avx2 entries k inside small = ap number (entry_at entries k inside) ∙ number-bytes 8 (get_or entries k 0) (omega arith)
 number-entry Hvx entries k inside small =
@@ -76,7 +78,8 @@ module _ (vector : ℕ) (pictures : List Picture) (at : Places) (entries widths 
   holding scratch output = memory pictures at (packed 8 entries) scratch output
 
   -- an entry of the row's table
-  pub entry-given : (target : Target) (k : ℕ) (scratch output : List ℕ) → k < length entries → get_or entries k 0 < 2 ^ 32 → length scratch ≡ scratch_size → length output ≡ output_size
+  pub entry-given : (target : Target) (k : ℕ) (scratch output : List ℕ) → k < length entries → get_or entries k 0 < 2 ^ 32 → length scratch ≡ scratch_size
+      → length output ≡ output_size
       → (held : List ℕ) × (loaded (holding scratch output) (register_wrapped target (at.table + 8 * k)) (pointer_bytes target) ≡ Some held) × (number held ≡ get_or entries k 0)
   entry-given target k scratch output inside small kept out =
       let size = placed.size in
@@ -91,7 +94,8 @@ module _ (vector : ℕ) (pictures : List Picture) (at : Places) (entries widths 
       (held, load, number-entry target entries k inside small)
 
   -- bytes of a tap
-  pub tap-given : (k x off c : ℕ) (scratch output : List ℕ) → k < length widths → 0 < c → get_or widths k 0 * x + off + c ≤ get_or widths k 0 * n → length scratch ≡ scratch_size → length output ≡ output_size
+  pub tap-given : (k x off c : ℕ) (scratch output : List ℕ) → k < length widths → 0 < c → get_or widths k 0 * x + off + c ≤ get_or widths k 0 * n
+      → length scratch ≡ scratch_size → length output ≡ output_size
       → loaded (holding scratch output) (get_or entries k 0 + x * get_or widths k 0 + off) c ≡ Some (part (place k + get_or widths k 0 * x + off) c (image_bytes pictures (image k)))
   tap-given k x off c scratch output known some within kept out =
       let w = get_or widths k 0 in
@@ -103,7 +107,8 @@ module _ (vector : ℕ) (pictures : List Picture) (at : Places) (entries widths 
       ∙ loaded-image pictures at (packed 8 entries) scratch output (placed.apart scratch output kept out) (image k) (place k + w * x + off) c placed.images (placed.known k known) some (omega arith)
 
   -- a store to the row
-  pub row-stored : (off : ℕ) (new scratch output : List ℕ) → 0 < length new → off + length new ≤ width * n → length scratch ≡ scratch_size → length output ≡ output_size
+  pub row-stored : (off : ℕ) (new scratch output : List ℕ) → 0 < length new → off + length new ≤ width * n → length scratch ≡ scratch_size
+      → length output ≡ output_size
       → stored (holding scratch output) (get_or entries (length widths) 0 + off) new ≡ Some (holding scratch (overwritten output (row + off) new))
   row-stored off new scratch output some within kept out =
       let inside = placed.inside_out in
@@ -134,7 +139,8 @@ module _ (vector : ℕ) (pictures : List Picture) (at : Places) (entries widths 
       }
 
   -- a slot is loaded
-  pub slot-given : (k : ℕ) (kept : List (List ℕ)) (scratch output : List ℕ) → k < slots → Slots kept scratch → AreBytes scratch_size scratch → length output ≡ output_size
+  pub slot-given : (k : ℕ) (kept : List (List ℕ)) (scratch output : List ℕ) → k < slots → Slots kept scratch → AreBytes scratch_size scratch
+      → length output ≡ output_size
       → (loaded (holding scratch output) (at.scratch + slot_at vector (length widths) k) vector ≡ Some (get_or kept k [])) × AreBytes vector (get_or kept k [])
   slot-given k kept scratch output inside are held out =
       let long = placed.scratch_long in
@@ -147,7 +153,8 @@ module _ (vector : ℕ) (pictures : List Picture) (at : Places) (entries widths 
       (load ∙ ap Some (there.each k (omega arith) slot.size), slot)
 
   -- a slot is stored
-  pub slot-stored : (k : ℕ) (new : List ℕ) (kept : List (List ℕ)) (scratch output : List ℕ) → k < slots → AreBytes vector new → Slots kept scratch → AreBytes scratch_size scratch → length output ≡ output_size
+  pub slot-stored : (k : ℕ) (new : List ℕ) (kept : List (List ℕ)) (scratch output : List ℕ) → k < slots → AreBytes vector new → Slots kept scratch
+      → AreBytes scratch_size scratch → length output ≡ output_size
       → (stored (holding scratch output) (at.scratch + slot_at vector (length widths) k) new ≡ Some (holding (overwritten scratch (slot_at vector (length widths) k) new) output))
       × Slots (set kept k new) (overwritten scratch (slot_at vector (length widths) k) new)
       × AreBytes scratch_size (overwritten scratch (slot_at vector (length widths) k) new)

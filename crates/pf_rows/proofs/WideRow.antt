@@ -93,7 +93,8 @@ module _ {I O : Type 0} (t : Table O) (is_op : O → Type 0) (laws : IsTable t i
       back : Agree (row + width * x + t.vector * width) output_size held left
       given : (q : ℕ) → x ≤ q → q < x + t.vector → Given x q (part (row + width * q) width left)
 
-    turned : (x p v e : ℕ) (flag : Bool) (f : RegFile) (scratch held : List ℕ) → x + t.vector ≤ n → IsFile t t.vectors f → AreBytes scratch_size scratch → length held ≡ output_size → Turned x p v e flag f scratch held
+    turned : (x p v e : ℕ) (flag : Bool) (f : RegFile) (scratch held : List ℕ) → x + t.vector ≤ n → IsFile t t.vectors f → AreBytes scratch_size scratch
+        → length held ≡ output_size → Turned x p v e flag f scratch held
     turned x p v e flag f scratch held inside is_file scratch_are held_long =
         let some = placed.some in
         let none : List ℕ = [] in
@@ -173,7 +174,8 @@ module _ {I O : Type 0} (t : Table O) (is_op : O → Type 0) (laws : IsTable t i
         }
 
     -- steps before
-    way_left : (count budget : ℕ) (state state' : State) (before : List ℕ) → Comes t code labels count state state' → RowLeft budget state' before → RowLeft (count + budget) state before
+    way_left : (count budget : ℕ) (state state' : State) (before : List ℕ) → Comes t code labels count state state' → RowLeft budget state' before
+        → RowLeft (count + budget) state before
     way_left count budget state state' before comes left = record {
       kept = left.kept;
       left = left.left;
@@ -192,7 +194,8 @@ module _ {I O : Type 0} (t : Table O) (is_op : O → Type 0) (laws : IsTable t i
     start_behind q less = cond-false (ltb q (n - t.vector)) (t.vector * (q / t.vector)) (n - t.vector) (le-ltb q (n - t.vector) less)
 
     -- pixels before a block stay
-    before_stays : (x q : ℕ) (held left : List ℕ) → q < x → Agree 0 (row + width * x) held left → part (row + width * q) width left ≡ part (row + width * q) width held
+    before_stays : (x q : ℕ) (held left : List ℕ) → q < x → Agree 0 (row + width * x) held left
+        → part (row + width * q) width left ≡ part (row + width * q) width held
     before_stays x q held left less same =
         let room : width * q + width * 1 ≤ width * x = span width q 1 x (omega arith) in
         same.each (row + width * q) width (omega arith) (omega arith)
@@ -201,16 +204,19 @@ module _ {I O : Type 0} (t : Table O) (is_op : O → Type 0) (laws : IsTable t i
     front_of : (x : ℕ) (before held left : List ℕ) → Agree 0 row before held → Agree 0 (row + width * x) held left → Agree 0 row before left
     front_of x before held left one two = agree-trans 0 row before held left one (agree-within 0 (row + width * x) 0 row held left (omega arith) (omega arith) two)
 
-    back_of : (x : ℕ) (before held left : List ℕ) → x + t.vector ≤ n → Agree (row + width * n) output_size before held → Agree (row + width * x + t.vector * width) output_size held left → Agree (row + width * n) output_size before left
+    back_of : (x : ℕ) (before held left : List ℕ) → x + t.vector ≤ n → Agree (row + width * n) output_size before held
+        → Agree (row + width * x + t.vector * width) output_size held left → Agree (row + width * n) output_size before left
     back_of x before held left inside one two =
         let room : width * x + width * t.vector ≤ width * n = span width x t.vector n inside in
         let same : width * t.vector ≡ t.vector * width = mul_comm width t.vector in
         agree-trans (row + width * n) output_size before held left one (agree-within (row + width * x + t.vector * width) output_size (row + width * n) output_size held left (omega arith) (omega arith) two)
 
     -- the last block of a row
-    last_run : (x p v e : ℕ) (flag : Bool) (f : RegFile) (scratch held before : List ℕ) → x + t.vector ≡ n → IsFile t t.vectors f → AreBytes scratch_size scratch → length held ≡ output_size
+    last_run : (x p v e : ℕ) (flag : Bool) (f : RegFile) (scratch held before : List ℕ) → x + t.vector ≡ n → IsFile t t.vectors f
+        → AreBytes scratch_size scratch → length held ≡ output_size
         → Agree 0 row before held → Agree (row + width * n) output_size before held
-        → ((q : ℕ) → q < x → Given (t.vector * (q / t.vector)) q (part (row + width * q) width held)) → RowLeft (many + 10) (now 7 (regs x p v e) flag f (m_of scratch held)) before
+        → ((q : ℕ) → q < x → Given (t.vector * (q / t.vector)) q (part (row + width * q) width held))
+        → RowLeft (many + 10) (now 7 (regs x p v e) flag f (m_of scratch held)) before
     last_run x p v e flag f scratch held before all is_file scratch_are held_long front back done =
         let some = placed.some in
         let low = placed.count_low in
@@ -240,9 +246,11 @@ module _ {I O : Type 0} (t : Table O) (is_op : O → Type 0) (laws : IsTable t i
     many_more c f = omega arith
 
     -- blocks one after another, from the block of number k on
-    blocks_left : (fuel k p v e : ℕ) (flag : Bool) (f : RegFile) (scratch held before : List ℕ) → t.vector * k + t.vector ≤ n → n - t.vector * k ≤ fuel → IsFile t t.vectors f → AreBytes scratch_size scratch → length held ≡ output_size
+    blocks_left : (fuel k p v e : ℕ) (flag : Bool) (f : RegFile) (scratch held before : List ℕ) → t.vector * k + t.vector ≤ n → n - t.vector * k ≤ fuel
+        → IsFile t t.vectors f → AreBytes scratch_size scratch → length held ≡ output_size
         → Agree 0 row before held → Agree (row + width * n) output_size before held
-        → ((q : ℕ) → q < t.vector * k → Given (t.vector * (q / t.vector)) q (part (row + width * q) width held)) → RowLeft ((many + 12) * fuel) (now 7 (regs (t.vector * k) p v e) flag f (m_of scratch held)) before
+        → ((q : ℕ) → q < t.vector * k → Given (t.vector * (q / t.vector)) q (part (row + width * q) width held))
+        → RowLeft ((many + 12) * fuel) (now 7 (regs (t.vector * k) p v e) flag f (m_of scratch held)) before
     blocks_left zero k p v e flag f scratch held before inside enough is_file scratch_are held_long front back done = let some = placed.some in absurd (omega arith)
     blocks_left (suc fuel) k p v e flag f scratch held before inside enough is_file scratch_are held_long front back done =
         let some = placed.some in

@@ -60,7 +60,8 @@ pixel_part width k held = take width (drop (width * k) held)
 
 -- each pixel that a block gives is a function of the taps' numbers at that pixel alone
 pub record IsLanewise {O : Type 0} (t : Table O) (widths : List ℕ) (names slots width : ℕ) (block : List (Item O)) (value : List ℕ → ℕ) : Type 0 where
-  pub each : (taps : List (List ℕ)) (numbers : List ℕ) (file : RegFile) (kept : List (List ℕ)) (j : ℕ) → AreTaps t.vector widths taps → IsFile t names file → AreSlots t.vector slots kept
+  pub each : (taps : List (List ℕ)) (numbers : List ℕ) (file : RegFile) (kept : List (List ℕ)) (j : ℕ) → AreTaps t.vector widths taps → IsFile t names file
+      → AreSlots t.vector slots kept
       → j < t.vector → length numbers ≡ length widths
       → ((k : ℕ) → k < length widths → pixel_part (slice_index widths k) j (slice_index_or taps k []) ≡ bytes (slice_index widths k) (slice_index numbers k))
       → pixel_part width j (concat (BVal t width block taps file kept)) ≡ bytes width (value numbers)

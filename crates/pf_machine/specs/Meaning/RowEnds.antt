@@ -28,7 +28,8 @@ pub record RowDone {I O : Type 0} (t : Table O) (p : ProgramOf I O) (pictures : 
 -- so does each row, from whatever bytes of the scratch and the output
 pub record RowsDone {I O : Type 0} (t : Table O) (p : ProgramOf I O) (pictures : List Picture) (at : Places) (row : ℕ → List ℕ) : Type 0 where
   pub bytes : (y : ℕ) → y < rows p.head pictures → AreBytes (row_size p.head pictures) (row y)
-  pub each : (y : ℕ) → y < rows p.head pictures → (scratch output : List ℕ) → AreBytes p.head.scratch scratch → AreBytes (output_size p.head pictures) output → RowDone t p pictures at y (row y) scratch output
+  pub each : (y : ℕ) → y < rows p.head pictures → (scratch output : List ℕ) → AreBytes p.head.scratch scratch → AreBytes (output_size p.head pictures) output
+      → RowDone t p pictures at y (row y) scratch output
 
 -- the numbers of a row and of all rows, each by its column and its row
 abbrev pub row_values : (ℕ → ℕ → ℕ) → ℕ → ℕ → List ℕ

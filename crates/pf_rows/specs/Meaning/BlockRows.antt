@@ -48,7 +48,8 @@ pub record IsGiven {O : Type 0} (t : Table O) (slots : ℕ) (block : List (Item 
 -- a row of the output: each pixel is the one that the last block gives that begins at it or before it
 pub record IsBlockRow {O : Type 0} (t : Table O) (slots : ℕ) (block : List (Item O)) (h : Head) (pictures : List Picture) (y : ℕ) (row : List ℕ) : Type 0 where
   pub size : length row ≡ row_size h pictures
-  pub each : (q : ℕ) → q < columns h pictures → IsGiven t slots block h pictures y (start_of t.vector (columns h pictures) q) q (pixel_part (pixel_bytes h.out_ty) q row)
+  pub each : (q : ℕ) → q < columns h pictures
+      → IsGiven t slots block h pictures y (start_of t.vector (columns h pictures) q) q (pixel_part (pixel_bytes h.out_ty) q row)
 
 -- a step of a block is one that a program over these pixels may have: its tap and its part are there
 abbrev pub IsBlockItem : (widths : List ℕ) (width : ℕ) {O : Type 0} → Item O → Type 0
@@ -82,7 +83,8 @@ KeepsHead h pictures = Keeps (record { images = h.images; taps = h.taps; defs = 
 -- under every placement and in every row, the program ends within its steps and without a trap, and has then written a row of the block's pixels and nothing else of the output
 abbrev pub RunsBlock : {I O : Type 0} → Table O → ℕ → List (Item O) → ProgramOf I O → Type 0
 RunsBlock t slots block p =
-    (pictures : List Picture) → KeepsHead p.head pictures → (at : Places) (scratch output : List ℕ) → IsPlaced p.head pictures at scratch output → (y : ℕ) → y < rows p.head pictures
+    (pictures : List Picture) → KeepsHead p.head pictures → (at : Places) (scratch output : List ℕ) → IsPlaced p.head pictures at scratch output → (y : ℕ)
+    → y < rows p.head pictures
     → (row : List ℕ) × IsBlockRow t slots block p.head pictures y row × RowDone t p pictures at y row scratch output
 
 -- where each of the block's pixels is a function of the taps' numbers there, and the function gives the values of a kernel's output, the program's runs leave the kernel's output
