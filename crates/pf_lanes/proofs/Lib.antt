@@ -3,3 +3,4 @@ mod FillLaws
 mod ResidueLaws
 pub mod PlaceLaws
 mod WorkLaws
+pub mod Columns

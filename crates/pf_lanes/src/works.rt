@@ -1,7 +1,7 @@
 ghost use Rattle.std.specs.Prelude.{◌≡◌, ◌<◌, ◌^◌, ◌∷◌, [], ◌-◌, pos, bit_and, bit_or};
 ghost use Rattle.pf_ints.specs.Meaning.Whole.{floor_mod};
-ghost use Rattle.pf_values.specs.Meaning.Small.{IsSmall};
-ghost use Rattle.pf_lanes.specs.Meaning.Works.{value};
+ghost use Rattle.pf_values.specs.Meaning.Small.{IsSmall, IsLong};
+ghost use Rattle.pf_lanes.specs.Meaning.Works.{value, rounding};
 
 use pf_ints::{LaneType, sat};
 use pf_values::{Op, applied_to_one, applied_to_two, half_step, product, shifted};
@@ -45,7 +45,7 @@ pub fn value_of_one(work: Work, ty: LaneType, k: u8, x: i128) -> i128
         Work::Negate => -x,
         Work::Not => -1 - x,
         Work::SaturateShift => sat(ty, shifted(x, k)),
-        Work::SaturateRound => sat(ty, shifted(x + half_step(k), k)),
+        Work::SaturateRound => sat(ty, shifted(x + rounding(k), k)),
         _ => 0,
     }
 }
@@ -84,6 +84,15 @@ pub fn value_of_three(work: Work, ty: LaneType, k: u8, x: i128, y: i128, z: i128
         Work::BitSelect => bit_select(low_byte(x), low_byte(y), low_byte(z)),
         _ => value_of_two(work, ty, k, x, y),
     }
+}
+
+// What is added before a shift that rounds.
+fn rounding(k: u8) -> i128
+    requires { k < 64 }
+    ensures value { result ≡ rounding k }
+    ensures bound { IsLong result }
+{
+    if k == 0 { 0 } else { half_step(k) }
 }
 
 fn low_byte(n: i128) -> u8

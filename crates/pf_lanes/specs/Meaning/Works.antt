@@ -1,5 +1,5 @@
 -- What becomes of the lanes of an instruction's operands.
-use Rattle.std.specs.Prelude.{ℕ, ℤ, pos, negsuc, ◌-◌, ◌+ℤ◌, ◌-ℤ◌, ◌*ℤ◌, if◌then◌else◌, int_lt, bit_and, bit_or, List, ◌∷◌}
+use Rattle.std.specs.Prelude.{ℕ, ℤ, pos, negsuc, ◌-◌, ◌+ℤ◌, ◌-ℤ◌, ◌*ℤ◌, if◌then◌else◌, ◌==◌, int_lt, bit_and, bit_or, List, ◌∷◌}
 use Rattle.pf_ints.specs.declared.lane.LaneType.{LaneType}
 use Rattle.pf_ints.specs.Meaning.Lanes.{clamped}
 use Rattle.pf_ints.specs.Meaning.Whole.{floor_mod}
@@ -16,6 +16,10 @@ ternary f _ = pos 0
 abbrev pub bits_by : ℕ → ℕ → ℕ → ℕ
 bits_by mask x y = bit_or (bit_and mask x) (bit_and (255 - mask) y)
 
+-- what is added before a shift by k that rounds: nothing where k is 0
+abbrev pub rounding : ℕ → ℤ
+rounding k = if k == 0 then pos 0 else half_step k
+
 -- by the type of the result, the amount and the operands' lanes. What leaves the type is wrapped where the lane is made.
 abbrev pub value : Work → LaneType → ℕ → List ℤ → ℤ
 value (Operator op) t k = (row_of op).value t k
@@ -30,4 +34,4 @@ value BitSelect t k = ternary (λ m x y. pos (bits_by (floor_mod m 256) (floor_m
 value MulShift t k = binary (λ x y. shifted (x *ℤ y) k)
 value MulRound t k = binary (λ x y. shifted (shifted (x *ℤ y) 14 +ℤ pos 1) 1)
 value SaturateShift t k = unary (λ x. clamped t (shifted x k))
-value SaturateRound t k = unary (λ x. clamped t (shifted (x +ℤ half_step k) k))
+value SaturateRound t k = unary (λ x. clamped t (shifted (x +ℤ rounding k) k))
