@@ -7,7 +7,8 @@ use std::alloc::Global;
 use std::str;
 use std::test::Fail;
 
-fn type_word(ty: LaneType) -> &'static str {
+/// The word of a type, as u8.
+pub fn type_word(ty: LaneType) -> &'static str {
     match (ty.signed, ty.bits) {
         (false, Bits::Eight) => "u8",
         (true, Bits::Eight) => "i8",

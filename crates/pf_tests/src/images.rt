@@ -2,11 +2,13 @@
 
 ghost use Rattle.pf_ints.specs.Meaning.Images.{IsPixelType};
 
+use crate::tables::same_bytes;
 use pf_images::{ImageFault, read_pgm, write_pgm};
-use pf_ints::LaneType;
+use pf_ints::{Image, LaneType};
+use std::process::Abort;
 use std::test::Fail;
 
-fn pixel_type(is_wide: bool) -> LaneType
+pub fn pixel_type(is_wide: bool) -> LaneType
     ensures { IsPixelType result }
 {
     if is_wide { LaneType::U16 } else { LaneType::U8 }
@@ -128,14 +130,25 @@ const IMAGES: &[(&[u8], bool, u32, &[u16], &[u8])] = &[
     ),
 ];
 
+fn try_image<R: Abort + AllocGlobal>(
+    rt: &R,
+    image: &Image,
+    width: u32,
+    pixels: &[u16],
+    text: &[u8],
+) -> Result<(), Fail> {
+    assert_eq!(rt; image.width(), width);
+    assert_eq!(rt; image.pixels(), pixels);
+    let written = write_pgm(rt.alloc(), image)?;
+    same_bytes(rt, written.as_slice(), text);
+    Ok(())
+}
+
 #[test]
 fn images_are_read_and_written(rt: HostRuntime) -> Result<(), Fail> {
     for &(bytes, is_wide, width, pixels, text) in IMAGES {
         let image = read_pgm(rt.alloc(), bytes, pixel_type(is_wide))?;
-        assert_eq!(rt; image.width(), width);
-        assert_eq!(rt; image.pixels(), pixels);
-        let written = write_pgm(rt.alloc(), &image)?;
-        assert_eq!(rt; written.as_slice(), text);
+        try_image(&rt, &image, width, pixels, text)?;
     }
     Ok(())
 }

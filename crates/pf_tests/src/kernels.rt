@@ -2,12 +2,13 @@
 //! each limit and past it, and texts that are written.
 
 use crate::faults::kernel_fault;
+use crate::tables::{cells, joined, lines_of, same, same_bytes};
 use pf_kernel::{out_size, read_kernel, write_kernel};
 use std::alloc::{AllocError, Global};
 use std::process::Abort;
 use std::test::Fail;
 
-/// What is told of a text, and the text, with `/` for each of its line feeds.
+/// What is told of a text, and the text, with `;` for each of its line feeds.
 const TEXTS: &str = "\
 1 syntax 7 | kernel
 1 syntax 8 | kernel 3
@@ -17,34 +18,34 @@ const TEXTS: &str = "\
 1 syntax 8 | kernel abcdefghijklmnopqrstuvwxyz0123456
 1 syntax 10 | kernel k k
 1 syntax 12 |  \tkernel\tk $
-2 syntax 6 | kernel k/image
-2 syntax 7 | kernel k/image u8
-2 syntax 8 | kernel k/image a
-2 syntax 9 | kernel k/image a i8
-2 syntax 9 | kernel k/image a u32
-2 syntax 12 | kernel k/image a u8 x
-2 syntax 12 | kernel k/image a u8 -5 6
-2 syntax 14 | kernel k/image a u8 5 x
-2 syntax 16 | kernel k/image a u8 5 6 7
-2 syntax 12 | kernel k/image a u8 256
-2 syntax 12 | kernel k/image a u8 12345678901 5
-2 syntax 13 | kernel k/image a u8 5
-2 syntax 12 | kernel k/image a u8 5 4
-2 syntax 12 | kernel k/image a u8 5 256
-2 syntax 13 | kernel k/image a u16 5 65536
-2 syntax 14 | kernel k/image a u8 5 12345678901
+2 syntax 6 | kernel k;image
+2 syntax 7 | kernel k;image u8
+2 syntax 8 | kernel k;image a
+2 syntax 9 | kernel k;image a i8
+2 syntax 9 | kernel k;image a u32
+2 syntax 12 | kernel k;image a u8 x
+2 syntax 12 | kernel k;image a u8 -5 6
+2 syntax 14 | kernel k;image a u8 5 x
+2 syntax 16 | kernel k;image a u8 5 6 7
+2 syntax 12 | kernel k;image a u8 256
+2 syntax 12 | kernel k;image a u8 12345678901 5
+2 syntax 13 | kernel k;image a u8 5
+2 syntax 12 | kernel k;image a u8 5 4
+2 syntax 12 | kernel k;image a u8 5 256
+2 syntax 13 | kernel k;image a u16 5 65536
+2 syntax 14 | kernel k;image a u8 5 12345678901
 2 syntax 1 | # none
 1 syntax 1 | image a u8
-2 syntax 1 | kernel k/
-2 syntax 1 | kernel k/kernel k
-2 syntax 1 | kernel k/def d u8 = 1u8
-2 syntax 1 | kernel k/out u8 = 1u8
-3 syntax 1 | kernel k/image a u8/
-4 syntax 1 | kernel k/image a u8/def d u8 = 1u8/image b u8
-4 syntax 1 | kernel k/image a u8/def d u8 = 1u8/
-4 syntax 1 | kernel k/image a u8/out u8 = 1u8/image b u8
-4 syntax 1 | kernel k/image a u8/out u8 = 1u8/def d u8 = 1u8
-4 syntax 1 | kernel k/image a u8/out u8 = 1u8/out u8 = 1u8
+2 syntax 1 | kernel k;
+2 syntax 1 | kernel k;kernel k
+2 syntax 1 | kernel k;def d u8 = 1u8
+2 syntax 1 | kernel k;out u8 = 1u8
+3 syntax 1 | kernel k;image a u8;
+4 syntax 1 | kernel k;image a u8;def d u8 = 1u8;image b u8
+4 syntax 1 | kernel k;image a u8;def d u8 = 1u8;
+4 syntax 1 | kernel k;image a u8;out u8 = 1u8;image b u8
+4 syntax 1 | kernel k;image a u8;out u8 = 1u8;def d u8 = 1u8
+4 syntax 1 | kernel k;image a u8;out u8 = 1u8;out u8 = 1u8
 ";
 
 const FRONT: &[u8] = b"kernel k\nimage a u8\n";
@@ -102,7 +103,7 @@ const LINES: &str = "\
 3 syntax 13 | out u8 = a[--1,0]
 3 syntax 12 | out u8 = a[-12345678901,0]
 3 syntax 13 | out u8 = a[0
-3 syntax 14 | out u8 = a [0;0]
+3 syntax 14 | out u8 = a [0:0]
 3 syntax 14 | out u8 = a[0,
 3 syntax 14 | out u8 = a[0,0u8]
 3 syntax 15 | out u8 = a[0,0
@@ -148,16 +149,16 @@ const LINES: &str = "\
 3 name b | out u8 = b[0,0]
 3 name d | out u8 = d
 3 name a | out u8 = a
-4 name d | def d u8 = 1u8/out u8 = d[0,0]
+4 name d | def d u8 = 1u8;out u8 = d[0,0]
 3 name d | def d u8 = d
-3 name e | def d u8 = e/def e u8 = 1u8
+3 name e | def d u8 = e;def e u8 = 1u8
 3 name a | image a u8
 3 name a | def a u8 = 1u8
-4 name d | def d u8 = 1u8/def d u8 = 1u8
+4 name d | def d u8 = 1u8;def d u8 = 1u8
 3 name a | def a u8 = b[0,0]
 3 name b | out u16 = a[0,0] + b[0,0]
 3 name x | out u8 = select(x < y, a[0,0], a[0,0])
-4 types u8 u16 | image b u16/out u16 = a[0,0] + b[0,0]
+4 types u8 u16 | image b u16;out u16 = a[0,0] + b[0,0]
 3 types u16 u8 | out u16 = a[0,0]
 3 types i16 u16 | def d i16 = 1u16
 3 types u16 u32 | out u16 = widening_add(1u32, 1u32)
@@ -203,38 +204,29 @@ kernel | out u8 = rounding_shr(rounding_shr(a[0,0], 1), 7)
 kernel | out u8 = mul_shr(mul_shr(a[0,0], 1u8, 0), 1u8, 15)
 kernel | out u8 = rounding_mul_shr(rounding_mul_shr(a[0,0], 1u8, 1), 1u8, 15)
 kernel | out u8 = a[64,-64] + a[-64,64]
-kernel | image k u8/out u8 = k[0,0]
-kernel | image abcdefghijklmnopqrstuvwxyz_12345 u8/out u8 = a[0,0]
-kernel | def d u8 = (a[0,0])/out u8 = ((d))
+kernel | image k u8;out u8 = k[0,0]
+kernel | image abcdefghijklmnopqrstuvwxyz_12345 u8;out u8 = a[0,0]
+kernel | def d u8 = (a[0,0]);out u8 = ((d))
 ";
 
-/// These lines behind a kernel's name and an image `a`.
-fn behind(alloc: Global, lines: &[u8]) -> Result<Vec<u8>, AllocError> {
-    let mut text = Vec::from_slice(alloc, FRONT)?;
-    text.extend_from_slice(lines)?;
-    Ok(text)
-}
-
 fn told(alloc: Global, text: &[u8]) -> Result<String, Fail> {
-    match read_kernel(alloc, text).err() {
-        Some(fault) => kernel_fault(alloc, &fault),
-        None => Ok(String::from_str(alloc, "kernel")?),
+    match read_kernel(alloc, text) {
+        Ok(_kernel) => Ok(String::from_str(alloc, "kernel")?),
+        Err(fault) => kernel_fault(alloc, &fault),
     }
 }
 
 fn try_text<R: Abort + AllocGlobal>(rt: &R, text: &[u8], wanted: &str) -> Result<(), Fail> {
     let told = told(rt.alloc(), text)?;
-    assert_eq!(rt; told.as_str(), wanted, "at {text:?}");
+    same(rt, told.as_str(), wanted);
     Ok(())
 }
 
 /// Tries a row's text behind a front.
 fn try_row<R: Abort + AllocGlobal>(rt: &R, front: &[u8], row: &str) -> Result<(), Fail> {
-    let (wanted, lines) = row.split_once(" | ").ok_or("no row")?;
-    let mut text = Vec::from_slice(rt.alloc(), front)?;
-    for byte in lines.as_bytes() {
-        text.push(if *byte == b'/' { b'\n' } else { *byte })?;
-    }
+    let (wanted, lines) = cells(row)?;
+    let lines = lines_of(rt.alloc(), lines)?;
+    let text = joined(rt.alloc(), front, lines.as_slice())?;
     try_text(rt, text.as_slice(), wanted)
 }
 
@@ -276,13 +268,15 @@ fn repeated(
     Ok(text)
 }
 
-/// Appends these three parts 64 times, with a digit between each two.
-fn push_64(
-    text: &mut Vec<u8>,
+/// A part, and behind it 64 times these three, with a digit between each two.
+fn with_64(
+    alloc: Global,
+    front: &[u8],
     first: &[u8],
     second: &[u8],
     third: &[u8],
-) -> Result<(), AllocError> {
+) -> Result<Vec<u8>, AllocError> {
+    let mut text = Vec::from_slice(alloc, front)?;
     for tens in b'0'..=b'7' {
         for units in b'0'..=b'7' {
             text.extend_from_slice(first)?;
@@ -292,85 +286,99 @@ fn push_64(
             text.extend_from_slice(third)?;
         }
     }
-    Ok(())
+    Ok(text)
 }
 
-/// Tries a text up to a limit, with an end that keeps it and one that passes it.
-fn try_limit<R: Abort + AllocGlobal>(
+/// Tries a text with an end.
+fn try_end<R: Abort + AllocGlobal>(
     rt: &R,
     text: &[u8],
-    within: &[u8],
-    past: &[u8],
+    end: &[u8],
     wanted: &str,
 ) -> Result<(), Fail> {
-    let mut whole = behind(rt.alloc(), text)?;
-    let mut more = whole.clone()?;
-    whole.extend_from_slice(within)?;
-    try_text(rt, whole.as_slice(), "kernel")?;
-    more.extend_from_slice(past)?;
-    try_text(rt, more.as_slice(), wanted)
+    let text = joined(rt.alloc(), text, end)?;
+    try_text(rt, text.as_slice(), wanted)
+}
+
+/// Tries lines up to a limit, with an end that keeps it and one that passes it.
+fn try_limit<R: Abort + AllocGlobal>(
+    rt: &R,
+    lines: &[u8],
+    ends: [&[u8]; 2],
+    wanted: &str,
+) -> Result<(), Fail> {
+    let text = joined(rt.alloc(), FRONT, lines)?;
+    try_end(rt, text.as_slice(), ends[0], "kernel")?;
+    try_end(rt, text.as_slice(), ends[1], wanted)
 }
 
 #[test]
-fn limits_of_lists(rt: HostRuntime) -> Result<(), Fail> {
+fn kernels_have_8_images(rt: HostRuntime) -> Result<(), Fail> {
     let images =
         b"image b u8\nimage c u8\nimage d u8\nimage e u8\nimage f u8\nimage g u8\nimage h u8\n";
     try_limit(
         &rt,
         images,
-        b"out u8 = h[0,0]",
-        b"image i u8",
+        [b"out u8 = h[0,0]", b"image i u8"],
         "limit images 9",
-    )?;
-    let mut taps = Vec::from_slice(rt.alloc(), b"out u8 = 1u8")?;
-    push_64(&mut taps, b" + a[", b",", b"]")?;
-    // One that stands already isn't counted again.
-    try_limit(
-        &rt,
-        taps.as_slice(),
-        b" + a[0,0]",
-        b" + a[8,0]",
-        "limit taps 65",
-    )?;
-    let mut definitions = Vec::new(rt.alloc());
-    push_64(&mut definitions, b"def d", b"", b" u8 = 1u8\n")?;
-    let (last, more) = (b"out u8 = d77", b"def e u8 = 1u8");
-    try_limit(
-        &rt,
-        definitions.as_slice(),
-        last,
-        more,
-        "limit definitions 65",
     )
 }
 
 #[test]
-fn limits_of_sizes(rt: HostRuntime) -> Result<(), Fail> {
-    let alloc = rt.alloc();
-    let shifts = repeated(alloc, b"out u8 = 1u8", b" >> 1", 127, b"")?;
-    try_limit(&rt, shifts.as_slice(), b"", b" >> 1", "limit depth 129")?;
-    // Two terms of 255 nodes each.
-    let first = repeated(
-        alloc,
-        b"def d u8 = 1u8",
-        b" + 1u8",
-        127,
-        b"\ndef e u8 = 1u8",
-    )?;
-    let both = repeated(alloc, first.as_slice(), b" + 1u8", 127, b"\n")?;
-    let (last, more) = (b"out u8 = d >> 1", b"out u8 = d + e");
-    try_limit(&rt, both.as_slice(), last, more, "limit nodes 513")?;
-    let brackets = repeated(alloc, b"out u8 = ", b"(", 1_024, b"")?;
-    let closed = repeated(alloc, b"1u8", b")", 1_024, b"")?;
+fn kernels_have_64_taps(rt: HostRuntime) -> Result<(), Fail> {
+    let taps = with_64(rt.alloc(), b"out u8 = 1u8", b" + a[", b",", b"]")?;
+    // One that stands already isn't counted again.
+    try_limit(
+        &rt,
+        taps.as_slice(),
+        [b" + a[0,0]", b" + a[8,0]"],
+        "limit taps 65",
+    )
+}
+
+#[test]
+fn kernels_have_64_definitions(rt: HostRuntime) -> Result<(), Fail> {
+    let lines = with_64(rt.alloc(), b"", b"def d", b"", b" u8 = 1u8\n")?;
+    let ends = [b"out u8 = d77".as_slice(), b"def e u8 = 1u8"];
+    try_limit(&rt, lines.as_slice(), ends, "limit definitions 65")
+}
+
+#[test]
+fn terms_are_128_deep(rt: HostRuntime) -> Result<(), Fail> {
+    let shifts = repeated(rt.alloc(), b"out u8 = 1u8", b" >> 1", 127, b"")?;
+    try_limit(&rt, shifts.as_slice(), [b"", b" >> 1"], "limit depth 129")
+}
+
+/// Two definitions of 255 nodes each.
+fn two_sums(alloc: Global) -> Result<Vec<u8>, AllocError> {
+    let between = b"\ndef e u8 = 1u8";
+    let first = repeated(alloc, b"def d u8 = 1u8", b" + 1u8", 127, between)?;
+    repeated(alloc, first.as_slice(), b" + 1u8", 127, b"\n")
+}
+
+#[test]
+fn kernels_have_512_nodes(rt: HostRuntime) -> Result<(), Fail> {
+    let sums = two_sums(rt.alloc())?;
+    let ends = [b"out u8 = d >> 1".as_slice(), b"out u8 = d + e"];
+    try_limit(&rt, sums.as_slice(), ends, "limit nodes 513")
+}
+
+#[test]
+fn brackets_are_1024_deep(rt: HostRuntime) -> Result<(), Fail> {
+    let brackets = repeated(rt.alloc(), b"out u8 = ", b"(", 1_024, b"")?;
+    let closed = repeated(rt.alloc(), b"1u8", b")", 1_024, b"")?;
     try_limit(
         &rt,
         brackets.as_slice(),
-        closed.as_slice(),
-        b"(",
+        [closed.as_slice(), b"("],
         "3 syntax 1034",
-    )?;
-    let comment = repeated(alloc, b"out u8 = a[0,0]\n#", b"$", 65_499, b"")?;
-    try_limit(&rt, comment.as_slice(), b"", b"$", "limit bytes 65537")
+    )
+}
+
+#[test]
+fn texts_have_65536_bytes(rt: HostRuntime) -> Result<(), Fail> {
+    let comment = repeated(rt.alloc(), b"out u8 = a[0,0]\n#", b"$", 65_499, b"")?;
+    try_limit(&rt, comment.as_slice(), [b"", b"$"], "limit bytes 65537")
 }
 
 /// Texts, and what is written of their kernels.
@@ -388,7 +396,7 @@ const WRITTEN: &[(&[u8], &[u8])] = &[
 fn try_written<R: Abort + AllocGlobal>(rt: &R, text: &[u8], wanted: &[u8]) -> Result<(), Fail> {
     let kernel = read_kernel(rt.alloc(), text)?;
     let written = write_kernel(rt.alloc(), &kernel)?;
-    assert_eq!(rt; written.as_slice(), wanted);
+    same_bytes(rt, written.as_slice(), wanted);
     Ok(())
 }
 
@@ -403,7 +411,7 @@ fn kernels_are_written(rt: HostRuntime) -> Result<(), Fail> {
 
 #[test]
 fn outputs_have_sizes(rt: HostRuntime) -> Result<(), Fail> {
-    let text = behind(rt.alloc(), b"out u8 = min(a[1,-1], a[3,-2])")?;
+    let text = joined(rt.alloc(), FRONT, b"out u8 = min(a[1,-1], a[3,-2])")?;
     let kernel = read_kernel(rt.alloc(), text.as_slice())?;
     assert_eq!(rt; out_size(&kernel, 5, 3), Some((2, 1)));
     assert_eq!(rt; out_size(&kernel, 3, 3), None);

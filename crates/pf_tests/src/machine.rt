@@ -3,10 +3,11 @@
 ghost use Rattle.std.specs.Prelude.{◌≡◌, ◌≤◌, ◌<◌, ◌^◌, All, IsTrue, length};
 ghost use Rattle.pf_machine.specs.Meaning.Machines.{HasTable, IsMemory};
 
+use crate::tables::{cells, joined, lines_of, same};
 use pf_ints::{Memory, Sequence};
 use pf_isa::{Isa, Machine, Program, Region, RegionList, Trap, read_text};
 use pf_neon::Neon;
-use std::alloc::Global;
+use std::alloc::{AllocError, Global};
 use std::process::Abort;
 use std::test::Fail;
 
@@ -79,256 +80,123 @@ const HEAD: &[u8] = b".target neon
 
 /// The program of this code.
 fn program(alloc: Global, code: &[u8]) -> Result<Program<Neon>, Fail> {
-    let mut text = Vec::from_slice(alloc, HEAD)?;
-    text.extend_from_slice(code)?;
+    let text = joined(alloc, HEAD, code)?;
     Ok(read_text::<Neon>(alloc, text.as_slice())?)
-}
-
-/// How a row ends: it returns; it has taken all its steps; or the instruction of this number loads
-/// or stores so many bytes at an address where it may not.
-#[derive(Clone, Copy)]
-enum End {
-    Returned,
-    Spent,
-    Outside(u64, u64, u32),
-}
-
-/// A row of code over an image of so many of the pixels below, in at most so many steps.
-struct Trial {
-    code: &'static [u8],
-    pixels: usize,
-    steps: u64,
-    end: End,
-    /// What the output then holds. All bytes behind these are 0.
-    output: &'static [u8],
 }
 
 const PIXELS: [u8; 16] = [0, 1, 2, 3, 255, 254, 7, 8, 9, 10, 128, 127, 64, 32, 16, 8];
 
-/// Loads a vector from the image, and stores it in the output.
-const COPY: &[u8] =
-    b"ldr x5, [x0, #0]\nldr q0, [x5, #0]\nldr x5, [x0, #8]\nstr q0, [x5, #0]\nret\n";
+/// So many of the pixels below and of steps, how a row of the code over such an image ends and what
+/// the output then holds, and the code, with `;` for each line feed. A row returns; or it takes all
+/// its steps; or the instruction of this number loads or stores so many bytes at an address where it
+/// may not.
+///
+/// The image lies at 81920, and the output right behind it. The table, at 65536, has their
+/// addresses, that of the scratch, 73728, and the number of pixels.
+const TRIALS: &str = "\
+16 5 | returned 00010203fffe0708090a807f40201008 | ldr x5, [x0, #0];ldr q0, [x5, #0];ldr x5, [x0, #8];\
+    str q0, [x5, #0];ret
+16 5 | returned 00010203fffe0708090a807f40201008 | ldr x7, [x0, #0];ldr q0, [x7, #0];ldr x4, [x0, #8];\
+    str q0, [x4, #0];ret
+16 4 | spent 4 00010203fffe0708090a807f40201008 | ldr x5, [x0, #0];ldr q0, [x5, #0];ldr x5, [x0, #8];\
+    str q0, [x5, #0];ret
+15 5 | outside 2 81920 16 000000000000000000000000000000 | ldr x5, [x0, #0];ldr q0, [x5, #0];ldr x5, [x0, #8];\
+    str q0, [x5, #0];ret
+16 12336 | spent 12336 00000000000000000000000000000000 | top:;b top
+16 2 | returned 00000000000000000000000000000000 | b end;b end;end:
+16 1 | spent 1 00000000000000000000000000000000 | b end;end:
+16 9 | outside 1 65568 8 00000000000000000000000000000000 | ldr x5, [x0, #32];ret
+16 9 | outside 1 65536 8 00000000000000000000000000000000 | str x5, [x0, #0];ret
+16 9 | outside 2 81920 1 00000000000000000000000000000000 | ldr x5, [x0, #0];strb w6, [x5];ret
+16 9 | outside 2 81920 2 00000000000000000000000000000000 | ldr x5, [x0, #0];strh w6, [x5];ret
+16 9 | outside 2 81928 8 00000000000000000000000000000000 | ldr x5, [x0, #0];str x6, [x5, #8];ret
+16 9 | outside 2 81920 16 00000000000000000000000000000000 | ldr x5, [x0, #0];str q0, [x5, #0];ret
+16 9 | outside 3 81935 2 00000000000000000000000000000000 | ldr x5, [x0, #0];add x5, x5, #15;ldrh w6, [x5];ret
+16 9 | outside 3 81929 8 00000000000000000000000000000000 | ldr x5, [x0, #0];add x5, x5, #9;ldr x6, [x5, #0];ret
+16 9 | outside 3 81945 8 00000000000000000000000000000000 | ldr x4, [x0, #8];add x4, x4, #9;str x4, [x4, #0];ret
+16 9 | outside 3 7 8 00000000000000000000000000000000 | mov x7, #0;sub x7, x7, #1;ldr x5, [x7, #8];ret
+16 9 | outside 3 15 16 00000000000000000000000000000000 | mov x7, #0;sub x7, x7, #1;ldr q0, [x7, #16];ret
+16 7 | returned ffffffffffffffff0200000000000000 | ldr x4, [x0, #8];mov x3, #0;sub x3, x3, #1;str x3, [x4, #0];\
+    add x3, x3, #3;str x3, [x4, #8];ret
+16 6 | returned 0000000000000000fcffffffffffffff | ldr x4, [x0, #8];mov x3, #0;sub x3, x3, #2;add x3, x3, x3;\
+    str x3, [x4, #8];ret
+16 11 | returned 01000000000000000000000000000000 | ldr x4, [x0, #8];mov x3, #0;sub x3, x3, #1;mov x6, #1;\
+    cmp x3, x6;b.lo low;strb w6, [x4];low:;add x4, x4, #1;cmp x6, x3;b.lo end;strb w6, [x4];end:;ret
+16 11 | returned 10021000200400000000000000000000 | ldr x4, [x0, #8];mov x6, #65535;add x6, x6, #529;\
+    strh w6, [x4];ldrh w3, [x4];add x4, x4, #2;strb w6, [x4];add x3, x3, x3;add x4, x4, #2;strh w3, [x4];ret
+";
 
-/// The image lies at 81920, and the output right behind it. The table, at 65536, has their addresses,
-/// that of the scratch, 73728, and the number of pixels.
-const TRIALS: &[Trial] = &[
-    Trial {
-        code: COPY,
-        pixels: 16,
-        steps: 5,
-        end: End::Returned,
-        output: &PIXELS,
-    },
-    Trial {
-        code: b"ldr x7, [x0, #0]\nldr q0, [x7, #0]\nldr x4, [x0, #8]\nstr q0, [x4, #0]\nret\n",
-        pixels: 16,
-        steps: 5,
-        end: End::Returned,
-        output: &PIXELS,
-    },
-    Trial {
-        code: COPY,
-        pixels: 16,
-        steps: 4,
-        end: End::Spent,
-        output: &PIXELS,
-    },
-    // The bytes lie in the memory, but not in one region.
-    Trial {
-        code: COPY,
-        pixels: 15,
-        steps: 5,
-        end: End::Outside(2, 81920, 16),
-        output: &[],
-    },
-    Trial {
-        code: b"top:\nb top\n",
-        pixels: 16,
-        steps: 12336,
-        end: End::Spent,
-        output: &[],
-    },
-    Trial {
-        code: b"b end\nb end\nend:\n",
-        pixels: 16,
-        steps: 2,
-        end: End::Returned,
-        output: &[],
-    },
-    Trial {
-        code: b"b end\nend:\n",
-        pixels: 16,
-        steps: 1,
-        end: End::Spent,
-        output: &[],
-    },
-    // Loads past the table, stores to the table and to the image.
-    Trial {
-        code: b"ldr x5, [x0, #32]\nret\n",
-        pixels: 16,
-        steps: 9,
-        end: End::Outside(1, 65568, 8),
-        output: &[],
-    },
-    Trial {
-        code: b"str x5, [x0, #0]\nret\n",
-        pixels: 16,
-        steps: 9,
-        end: End::Outside(1, 65536, 8),
-        output: &[],
-    },
-    Trial {
-        code: b"ldr x5, [x0, #0]\nstrb w6, [x5]\nret\n",
-        pixels: 16,
-        steps: 9,
-        end: End::Outside(2, 81920, 1),
-        output: &[],
-    },
-    Trial {
-        code: b"ldr x5, [x0, #0]\nstrh w6, [x5]\nret\n",
-        pixels: 16,
-        steps: 9,
-        end: End::Outside(2, 81920, 2),
-        output: &[],
-    },
-    Trial {
-        code: b"ldr x5, [x0, #0]\nstr x6, [x5, #8]\nret\n",
-        pixels: 16,
-        steps: 9,
-        end: End::Outside(2, 81928, 8),
-        output: &[],
-    },
-    Trial {
-        code: b"ldr x5, [x0, #0]\nstr q0, [x5, #0]\nret\n",
-        pixels: 16,
-        steps: 9,
-        end: End::Outside(2, 81920, 16),
-        output: &[],
-    },
-    // Bytes of two regions, and past the last one.
-    Trial {
-        code: b"ldr x5, [x0, #0]\nadd x5, x5, #15\nldrh w6, [x5]\nret\n",
-        pixels: 16,
-        steps: 9,
-        end: End::Outside(3, 81935, 2),
-        output: &[],
-    },
-    Trial {
-        code: b"ldr x5, [x0, #0]\nadd x5, x5, #9\nldr x6, [x5, #0]\nret\n",
-        pixels: 16,
-        steps: 9,
-        end: End::Outside(3, 81929, 8),
-        output: &[],
-    },
-    Trial {
-        code: b"ldr x4, [x0, #8]\nadd x4, x4, #9\nstr x4, [x4, #0]\nret\n",
-        pixels: 16,
-        steps: 9,
-        end: End::Outside(3, 81945, 8),
-        output: &[],
-    },
-    // Addresses across 0.
-    Trial {
-        code: b"mov x7, #0\nsub x7, x7, #1\nldr x5, [x7, #8]\nret\n",
-        pixels: 16,
-        steps: 9,
-        end: End::Outside(3, 7, 8),
-        output: &[],
-    },
-    Trial {
-        code: b"mov x7, #0\nsub x7, x7, #1\nldr q0, [x7, #16]\nret\n",
-        pixels: 16,
-        steps: 9,
-        end: End::Outside(3, 15, 16),
-        output: &[],
-    },
-    // Numbers across 0 and above 2^63, and whole pointers.
-    Trial {
-        code: b"ldr x4, [x0, #8]\nmov x3, #0\nsub x3, x3, #1\nstr x3, [x4, #0]\nadd x3, x3, #3\nstr x3, [x4, #8]\nret\n",
-        pixels: 16,
-        steps: 7,
-        end: End::Returned,
-        output: &[255, 255, 255, 255, 255, 255, 255, 255, 2],
-    },
-    Trial {
-        code: b"ldr x4, [x0, #8]\nmov x3, #0\nsub x3, x3, #2\nadd x3, x3, x3\nstr x3, [x4, #8]\nret\n",
-        pixels: 16,
-        steps: 6,
-        end: End::Returned,
-        output: &[
-            0, 0, 0, 0, 0, 0, 0, 0, 252, 255, 255, 255, 255, 255, 255, 255,
-        ],
-    },
-    // 2^64 - 1 is not below 1, and 1 is below it.
-    Trial {
-        code: b"ldr x4, [x0, #8]\nmov x3, #0\nsub x3, x3, #1\nmov x6, #1\ncmp x3, x6\nb.lo low\n\
-            strb w6, [x4]\nlow:\nadd x4, x4, #1\ncmp x6, x3\nb.lo end\nstrb w6, [x4]\nend:\nret\n",
-        pixels: 16,
-        steps: 11,
-        end: End::Returned,
-        output: &[1],
-    },
-    // The low half and the low byte of 66064.
-    Trial {
-        code: b"ldr x4, [x0, #8]\nmov x6, #65535\nadd x6, x6, #529\nstrh w6, [x4]\n\
-            ldrh w3, [x4]\nadd x4, x4, #2\nstrb w6, [x4]\nadd x3, x3, x3\nadd x4, x4, #2\nstrh w3, [x4]\nret\n",
-        pixels: 16,
-        steps: 11,
-        end: End::Returned,
-        output: &[16, 2, 16, 0, 32, 4],
-    },
-];
-
-fn end_of(trial: &Trial) -> Result<(), Trap> {
-    match trial.end {
-        End::Returned => Ok(()),
-        End::Spent => Err(Trap::Spent { steps: trial.steps }),
-        End::Outside(at, address, length) => Err(Trap::Outside {
-            at,
-            address,
-            length,
-        }),
-    }
-}
-
-fn try_row<R: Abort + AllocGlobal>(rt: &R, trial: &Trial) -> Result<(), Fail> {
-    let alloc = rt.alloc();
-    let zeros = [0; 16];
-    assert!(rt; trial.pixels <= 16);
-    let count = trial.pixels as u64;
+/// The memory of a row over an image of these pixels, of which so many are there.
+fn memory(alloc: Global, count: u64, pixels: &[u8]) -> Result<RegionList, Memory> {
     let mut regions = Sequence::new(alloc);
     regions.push(region(alloc, 65_536, &[0; 32], false)?)?;
     regions.push(region(alloc, 73_728, &[0; 192], true)?)?;
-    regions.push(region(alloc, 81_920, &PIXELS[..trial.pixels], false)?)?;
-    regions.push(region(alloc, 81_920 + count, &zeros[..trial.pixels], true)?)?;
-    let mut machine = machine_of(rt, program(alloc, trial.code)?, regions)?;
-    start_row(
-        rt,
-        &mut machine,
-        65_536,
-        &[81_920, 81_920 + count, 73_728, count],
-    );
-    assert!(rt;
-        machine.run_row(trial.steps) == end_of(trial),
-        "{:?}",
-        trial.code
-    );
-    let output = machine.region(3).ok_or("no output")?.bytes.as_slice();
-    for (i, byte) in output.iter().enumerate() {
-        let wanted = trial.output.get(i).copied().unwrap_or(0);
-        assert_eq!(rt; *byte, wanted, "{i} behind {:?}", trial.code);
-    }
-    Ok(())
+    regions.push(region(alloc, 81_920, pixels, false)?)?;
+    let output = vec![in alloc; 0; pixels.len()]?;
+    let start = 81_920_u64.saturating_add(count);
+    regions.push(region(alloc, start, output.as_slice(), true)?)?;
+    Ok(regions)
 }
 
-fn try_rows<R: Abort + AllocGlobal>(rt: &R, trials: &[Trial]) -> Result<(), Fail> {
-    for trial in trials {
-        try_row(rt, trial)?;
+/// The machine of the code over an image of so many pixels.
+fn machine_over<R: Abort + AllocGlobal>(
+    rt: &R,
+    code: &str,
+    pixels: usize,
+) -> Result<Machine<Neon>, Fail> {
+    assert!(rt; pixels <= 16);
+    let memory = memory(rt.alloc(), pixels as u64, &PIXELS[..pixels])?;
+    let code = lines_of(rt.alloc(), code)?;
+    let program = program(rt.alloc(), code.as_slice())?;
+    Ok(machine_of(rt, program, memory)?)
+}
+
+fn ended(alloc: Global, end: Result<(), Trap>) -> Result<String, AllocError> {
+    match end {
+        Ok(()) => String::from_str(alloc, "returned"),
+        Err(Trap::Spent { steps }) => format!(in alloc; "spent {steps}"),
+        Err(
+            Trap::Outside {
+                at,
+                address,
+                length,
+            },
+        ) => format!(in alloc; "outside {at} {address} {length}"),
     }
+}
+
+/// How a row ends, and what the output then holds.
+fn told<R: Abort + AllocGlobal>(
+    rt: &R,
+    machine: &mut Machine<Neon>,
+    count: u64,
+    steps: u64,
+) -> Result<String, Fail> {
+    let output = 81_920_u64.saturating_add(count);
+    start_row(rt, machine, 65_536, &[81_920, output, 73_728, count]);
+    let mut text = ended(rt.alloc(), machine.run_row(steps))?;
+    let output = machine.region(3).ok_or("no output")?;
+    text.push_str(" ")?;
+    let held = hex::encode(rt.alloc(), output.bytes.as_slice())?;
+    text.push_str(held.as_str())?;
+    Ok(text)
+}
+
+fn try_row<R: Abort + AllocGlobal>(rt: &R, row: &str) -> Result<(), Fail> {
+    let (front, back) = cells(row)?;
+    let (wanted, code) = cells(back)?;
+    let (pixels, steps) = front.split_once(' ').ok_or("no steps")?;
+    let (pixels, steps) = (pixels.parse::<usize>()?, steps.parse::<u64>()?);
+    let mut machine = machine_over(rt, code, pixels)?;
+    let told = told(rt, &mut machine, pixels as u64, steps)?;
+    same(rt, told.as_str(), wanted);
     Ok(())
 }
 
 #[test]
 fn rows_end_and_leave_their_output(rt: HostRuntime) -> Result<(), Fail> {
-    try_rows(&rt, TRIALS)
+    for row in TRIALS.lines() {
+        try_row(&rt, row)?;
+    }
+    Ok(())
 }
