@@ -393,14 +393,9 @@ const WRITTEN: &[(&[u8], &[u8])] = &[
     ),
 ];
 
-/// What is written of a text's kernel.
-fn written(alloc: Global, text: &[u8]) -> Result<Vec<u8>, Fail> {
-    let kernel = read_kernel(alloc, text)?;
-    Ok(write_kernel(alloc, &kernel)?)
-}
-
 fn try_written<R: Abort + AllocGlobal>(rt: &R, text: &[u8], wanted: &[u8]) -> Result<(), Fail> {
-    let written = written(rt.alloc(), text)?;
+    let kernel = read_kernel(rt.alloc(), text)?;
+    let written = write_kernel(rt.alloc(), &kernel)?;
     same_bytes(rt, written.as_slice(), wanted);
     Ok(())
 }

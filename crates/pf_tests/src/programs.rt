@@ -16,9 +16,8 @@
 
 use crate::machine::{machine_of, region, start_row};
 use crate::neon_programs::NEON;
-use crate::tables::joined;
 use pf_images::read_pgm;
-use pf_ints::{Image, ImageSet, LaneType, Sequence};
+use pf_ints::{LaneType, Sequence};
 use pf_isa::{Isa, Machine, RegionList, Trap, read_text};
 use pf_neon::Neon;
 use pf_run::run_images;
@@ -183,95 +182,61 @@ fn try_region<I: Isa, R: Abort + AllocGlobal>(
     Ok(())
 }
 
-/// Tries a row, which returns in its last step.
-fn try_table_row<I: Isa, R: Abort>(rt: &R, machine: &mut Machine<I>, table: u64, row: &Row) {
-    start_row(rt, machine, table, row.entries.as_slice());
-    let before = row.steps.saturating_sub(1);
-    assert!(rt; machine.run_row(before) == Err(Trap::Spent { steps: before }));
-    assert!(rt; machine.run_row(1) == Ok(()));
-}
-
-/// The machine behind all rows.
-fn machine_behind<I: Isa, R: Abort + AllocGlobal>(
-    rt: &R,
-    trial: &Trial,
-) -> Result<Machine<I>, Fail> {
-    let regions = regions_of(rt.alloc(), trial)?;
-    let program = read_text::<I>(rt.alloc(), trial.text.as_slice())?;
-    let mut machine = machine_of(rt, program, regions)?;
-    let table = trial.spans.first().ok_or("no table")?.start;
-    for row in trial.rows.as_slice() {
-        try_table_row(rt, &mut machine, table, row);
-    }
-    Ok(machine)
-}
-
 /// Runs the rows on the machine.
 fn try_rows<I: Isa, R: Abort + AllocGlobal>(rt: &R, trial: &Trial) -> Result<(), Fail> {
-    let machine = machine_behind::<I, R>(rt, trial)?;
+    let program = read_text::<I>(rt.alloc(), trial.text.as_slice())?;
+    let mut machine = machine_of(rt, program, regions_of(rt.alloc(), trial)?)?;
+    let table = trial.spans.first().ok_or("no table")?.start;
+    for row in trial.rows.as_slice() {
+        start_row(rt, &mut machine, table, row.entries.as_slice());
+        let before = row.steps.saturating_sub(1);
+        assert!(rt; machine.run_row(before) == Err(Trap::Spent { steps: before }));
+        assert!(rt; machine.run_row(1) == Ok(()));
+    }
     try_region(rt, &machine, trial, 1)?;
     try_region(rt, &machine, trial, 3)
 }
 
-/// The image as a PGM file.
-fn file_of(alloc: Global, trial: &Trial) -> Result<Vec<u8>, Fail> {
-    let (width, height) = trial.size;
-    let header = format!(in alloc; "P5\n{width} {height}\n255\n")?;
-    let pixels = trial.pixels(alloc)?;
-    Ok(joined(alloc, header.as_bytes(), pixels.as_slice())?)
-}
-
-fn images_of(alloc: Global, trial: &Trial) -> Result<ImageSet, Fail> {
-    let file = file_of(alloc, trial)?;
-    let mut images = Sequence::new(alloc);
-    images.push(read_pgm(alloc, file.as_slice(), LaneType::U8)?)?;
-    Ok(images)
-}
-
-/// What the text makes of the image.
-fn output_of<R: Abort + AllocGlobal>(rt: &R, trial: &Trial) -> Result<Image, Fail> {
-    assert!(rt; trial.text.len() < 0x8000_0000);
-    let images = images_of(rt.alloc(), trial)?;
-    Ok(run_images(rt.alloc(), trial.text.as_slice(), &images)?)
-}
-
-fn same_pixels<R: Abort>(rt: &R, image: &Image, wanted: &[u8]) {
-    assert_eq!(rt; image.pixels().len(), wanted.len());
-    for (pixel, byte) in image.pixels().iter().zip(wanted) {
-        assert!(rt; *pixel == u16::from(*byte));
-    }
-}
-
 /// Runs the text on the image, which places the regions and fills the table by itself.
 fn try_run<R: Abort + AllocGlobal>(rt: &R, trial: &Trial) -> Result<(), Fail> {
-    let output = output_of(rt, trial)?;
+    let alloc = rt.alloc();
+    let (width, height) = trial.size;
+    let header = format!(in alloc; "P5\n{width} {height}\n255\n")?;
+    let mut file = Vec::from_slice(alloc, header.as_bytes())?;
+    file.extend_from_slice(trial.pixels(alloc)?.as_slice())?;
+    let mut images = Sequence::new(alloc);
+    images.push(read_pgm(alloc, file.as_slice(), LaneType::U8)?)?;
+    assert!(rt; trial.text.len() < 0x8000_0000);
+    let output = run_images(alloc, trial.text.as_slice(), &images)?;
     let span = *trial.spans.get(3).ok_or("no output")?;
-    let wanted = trial.left_in(rt.alloc(), span)?;
-    same_pixels(rt, &output, wanted.as_slice());
+    let wanted = trial.left_in(alloc, span)?;
+    assert_eq!(rt; output.pixels().len(), wanted.len());
+    for (pixel, byte) in output.pixels().iter().zip(wanted.as_slice()) {
+        assert_eq!(rt; *pixel, u16::from(*byte));
+    }
     Ok(())
 }
 
-fn trial_of(alloc: Global, text: &str) -> Result<Trial, Fail> {
+fn try_programs<I: Isa, R: Abort + AllocGlobal>(rt: &R, text: &str) -> Result<u32, Fail> {
+    let alloc = rt.alloc();
     let mut trial = Trial::new(alloc);
+    let mut count: u32 = 0;
     for line in text.lines() {
-        let (word, rest) = line.split_once(' ').ok_or("no word")?;
-        trial.take(alloc, word, rest)?;
+        if line == "end" {
+            try_rows::<I, R>(rt, &trial)?;
+            try_run(rt, &trial)?;
+            trial = Trial::new(alloc);
+            count = count.saturating_add(1);
+        } else {
+            let (word, rest) = line.split_once(' ').ok_or("no word")?;
+            trial.take(alloc, word, rest)?;
+        }
     }
-    Ok(trial)
-}
-
-fn try_program<I: Isa, R: Abort + AllocGlobal>(rt: &R, text: &str) -> Result<(), Fail> {
-    let trial = trial_of(rt.alloc(), text)?;
-    try_rows::<I, R>(rt, &trial)?;
-    try_run(rt, &trial)
+    Ok(count)
 }
 
 #[test]
 fn programs_leave_their_memory(rt: HostRuntime) -> Result<(), Fail> {
-    for text in NEON.split("end\n") {
-        if !text.is_empty() {
-            try_program::<Neon, HostRuntime>(&rt, text)?;
-        }
-    }
+    assert_eq!(rt; try_programs::<Neon, HostRuntime>(&rt, NEON)?, 3);
     Ok(())
 }

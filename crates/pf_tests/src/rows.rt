@@ -2,19 +2,16 @@
 //! against pixels that are computed here.
 
 ghost use Rattle.std.specs.Prelude.{◌≡◌, [], ◌∷◌, ◌++◌, IfOk, OnOk, IsTrue, slice_index};
-ghost use Rattle.pf_machine.specs.Meaning.Heads.{IsHead};
 ghost use Rattle.pf_rows.specs.Meaning.BlockRows.{tap_widths};
 ghost use Rattle.pf_tests.specs.Steps.RowBlocks.{copy_block, kept_taps, least_block, lesser};
 
-use crate::images::pixel_type;
-use crate::tables::joined;
 use pf_images::read_pgm;
-use pf_ints::{Duplicate, Image, ImageSet, Memory, Sequence};
+use pf_ints::{Duplicate, Image, ImageSet, LaneType, Memory, Sequence};
 use pf_isa::{Block, Head, Item, Program, read_text};
 use pf_neon::{Lanes, Neon, Op};
 use pf_rows::row_program;
 use pf_run::run_program;
-use std::alloc::{AllocError, Global};
+use std::alloc::Global;
 use std::process::Abort;
 use std::test::Fail;
 
@@ -31,43 +28,25 @@ fn pixel(is_wide: bool, x: u32, y: u32) -> u16 {
     }
 }
 
-/// The samples of an image.
-fn samples(alloc: Global, is_wide: bool, width: u32, height: u32) -> Result<Vec<u8>, AllocError> {
-    let mut bytes = Vec::new(alloc);
+fn image(alloc: Global, is_wide: bool, width: u32, height: u32) -> Result<Image, Fail> {
+    let (maxval, ty): (u32, LaneType) = if is_wide {
+        (65_535, LaneType::U16)
+    } else {
+        (255, LaneType::U8)
+    };
+    let header = format!(in alloc; "P5\n{width} {height}\n{maxval}\n")?;
+    let mut file = Vec::from_slice(alloc, header.as_bytes())?;
     for y in 0..height {
         for x in 0..width {
             let [high, low] = pixel(is_wide, x, y).to_be_bytes();
             if is_wide {
-                bytes.push(high)?;
+                file.push(high)?;
             }
-            bytes.push(low)?;
+            file.push(low)?;
         }
     }
-    Ok(bytes)
+    Ok(read_pgm(alloc, file.as_slice(), ty)?)
 }
-
-fn file(alloc: Global, is_wide: bool, width: u32, height: u32) -> Result<Vec<u8>, AllocError> {
-    let maxval: u32 = if is_wide { 65_535 } else { 255 };
-    let header = format!(in alloc; "P5\n{width} {height}\n{maxval}\n")?;
-    let samples = samples(alloc, is_wide, width, height)?;
-    joined(alloc, header.as_bytes(), samples.as_slice())
-}
-
-fn image(alloc: Global, is_wide: bool, width: u32, height: u32) -> Result<Image, Fail> {
-    let file = file(alloc, is_wide, width, height)?;
-    Ok(read_pgm(alloc, file.as_slice(), pixel_type(is_wide))?)
-}
-
-/// Images of these widths of pixels.
-fn images(alloc: Global, wide: &[bool], width: u32, height: u32) -> Result<ImageSet, Fail> {
-    let mut images = Sequence::new(alloc);
-    for is_wide in wide {
-        images.push(image(alloc, *is_wide, width, height)?)?;
-    }
-    Ok(images)
-}
-
-const WIDTHS: [u32; 8] = [1, 2, 15, 16, 17, 31, 32, 33];
 
 fn copy_of(alloc: Global, head: &Head) -> Result<Head, Memory>
     ensures { IfOk result (λ copy. copy ≡ head.now) }
@@ -130,41 +109,32 @@ const COPY: &[u8] = b".target neon
 ret
 ";
 
-/// The head of a text.
-fn head_of(alloc: Global, text: &[u8]) -> Result<Head, Fail>
-    ensures { IfOk result IsHead }
-{
-    let program = read_text::<Neon>(alloc, text)?;
-    Ok(copy_of(alloc, program.head())?)
-}
-
 /// The row program of the head that copies its tap.
 #[tactic(auto, using(crate::proofs::RowBlocks::copy_is_row_block))]
 fn copy_program<R: Abort + AllocGlobal>(rt: &R) -> Result<Program<Neon>, Fail> {
-    let head = head_of(rt.alloc(), COPY)?;
-    assert!(rt; head.taps.len() == 1 && head.scratch == 192);
-    assert!(rt; head.out_ty.bytes() == 2 && has_width(&head, 0, 2));
-    let block = copy_block(rt.alloc())?;
-    Ok(row_program(rt.alloc(), block, head)?)
-}
-
-fn try_copies<R: Abort>(rt: &R, output: &Image, width: u32) {
-    assert!(rt; output.width() == width && 0 < width);
-    for (i, held) in output.pixels().iter().enumerate() {
-        let (x, y) = (i as u32 % width, i as u32 / width);
-        assert!(rt;
-            *held == pixel(true, x.wrapping_add(1), y),
-            "{i} of {width}"
-        );
-    }
+    let alloc = rt.alloc();
+    let program = read_text::<Neon>(alloc, COPY)?;
+    let head = copy_of(alloc, program.head())?;
+    assert_eq!(rt; head.taps.len(), 1);
+    assert_eq!(rt; head.scratch, 192);
+    assert_eq!(rt; head.out_ty.bytes(), 2);
+    assert!(rt; has_width(&head, 0, 2));
+    let block = copy_block(alloc)?;
+    Ok(row_program(alloc, block, head)?)
 }
 
 #[test]
 fn pixels_of_two_bytes_are_copied(rt: HostRuntime) -> Result<(), Fail> {
-    for width in WIDTHS {
-        let images = images(rt.alloc(), &[true], width + 1, 2)?;
+    let alloc = rt.alloc();
+    for width in [1, 2, 15, 16, 17, 31, 32, 33] {
+        let mut images = Sequence::new(alloc);
+        images.push(image(alloc, true, width + 1, 2)?)?;
         let output = run(&rt, copy_program(&rt)?, &images)?;
-        try_copies(&rt, &output, width);
+        assert_eq!(rt; output.width(), width);
+        for (i, held) in output.pixels().iter().enumerate() {
+            let (x, y) = (i as u32 % width, i as u32 / width);
+            assert_eq!(rt; *held, pixel(true, x + 1, y), "{i} of {width}");
+        }
     }
     Ok(())
 }
@@ -222,13 +192,16 @@ fn many_taps(alloc: Global) -> Result<Vec<u8>, Fail> {
 /// of its last one.
 #[tactic(auto, using(crate::proofs::RowBlocks::least_is_row_block))]
 fn least_program<R: Abort + AllocGlobal>(rt: &R) -> Result<Program<Neon>, Fail> {
-    let text = many_taps(rt.alloc())?;
-    let head = head_of(rt.alloc(), text.as_slice())?;
-    assert!(rt; head.taps.len() == 17 && head.scratch == 864);
-    assert!(rt; head.out_ty.bytes() == 1 && has_width(&head, 0, 1));
-    assert!(rt; has_width(&head, 15, 1) && has_width(&head, 16, 2));
-    let block = least_block(rt.alloc())?;
-    Ok(row_program(rt.alloc(), block, head)?)
+    let alloc = rt.alloc();
+    let text = many_taps(alloc)?;
+    let program = read_text::<Neon>(alloc, text.as_slice())?;
+    let head = copy_of(alloc, program.head())?;
+    assert_eq!(rt; head.taps.len(), 17);
+    assert_eq!(rt; head.scratch, 864);
+    assert_eq!(rt; head.out_ty.bytes(), 1);
+    assert!(rt; has_width(&head, 0, 1) && has_width(&head, 15, 1) && has_width(&head, 16, 2));
+    let block = least_block(alloc)?;
+    Ok(row_program(alloc, block, head)?)
 }
 
 /// What the block makes of these images in column x of a row of so many pixels: of the last tap it
@@ -244,20 +217,19 @@ fn least(width: u32, x: u32, y: u32) -> u16 {
     pixel(false, x, y).min(far).min(byte)
 }
 
-fn try_least<R: Abort>(rt: &R, output: &Image, width: u32) {
-    assert!(rt; output.width() == width && 0 < width);
-    for (i, held) in output.pixels().iter().enumerate() {
-        let (x, y) = (i as u32 % width, i as u32 / width);
-        assert!(rt; *held == least(width, x, y), "{i} of {width}");
-    }
-}
-
 #[test]
 fn many_taps_and_slots_are_joined(rt: HostRuntime) -> Result<(), Fail> {
-    for width in WIDTHS {
-        let images = images(rt.alloc(), &[false, true], width + 3, 5)?;
+    let alloc = rt.alloc();
+    for width in [1, 2, 15, 16, 17, 31, 32, 33] {
+        let mut images = Sequence::new(alloc);
+        images.push(image(alloc, false, width + 3, 5)?)?;
+        images.push(image(alloc, true, width + 3, 5)?)?;
         let output = run(&rt, least_program(&rt)?, &images)?;
-        try_least(&rt, &output, width);
+        assert_eq!(rt; output.width(), width);
+        for (i, held) in output.pixels().iter().enumerate() {
+            let (x, y) = (i as u32 % width, i as u32 / width);
+            assert_eq!(rt; *held, least(width, x, y), "{i} of {width}");
+        }
     }
     Ok(())
 }

@@ -1,14 +1,21 @@
 //! Sets of images that are judged, and kernels that are evaluated on images.
 
-use crate::images::pixel_type;
+ghost use Rattle.pf_ints.specs.Meaning.Images.{IsPixelType};
+
 use pf_images::read_pgm;
-use pf_ints::{Image, ImageSet, LaneType, Name, Sequence};
+use pf_ints::{ImageSet, LaneType, Name, Sequence};
 use pf_kernel::read_kernel;
 use pf_run::{SetFault, eval_images, judge_set};
 use pf_terms::{ImageDecl, Tap};
 use std::alloc::Global;
 use std::process::Abort;
 use std::test::Fail;
+
+fn pixel_type(is_wide: bool) -> LaneType
+    ensures { IsPixelType result }
+{
+    if is_wide { LaneType::U16 } else { LaneType::U8 }
+}
 
 /// A u8 image of this name with this range.
 fn decl(name: &[u8], hi: u32) -> Result<ImageDecl, Fail> {
@@ -80,23 +87,25 @@ const SETS: &[(&[(&[u8], bool)], Option<SetFault>)] = &[
     ),
 ];
 
-fn try_set<R: Abort>(rt: &R, set: &ImageSet, fault: Option<SetFault>) -> Result<(), Fail> {
+fn try_sets<R: Abort + AllocGlobal>(
+    rt: &R,
+    rows: &[(&[(&[u8], bool)], Option<SetFault>)],
+) -> Result<(), Fail> {
     let images = [decl(b"a", 100)?, decl(b"b", 255)?];
     let (image, dx, dy) = (0, -1, 0);
     let left = Tap { image, dx, dy };
     let (image, dx) = (1, 1);
     let taps = [left, Tap { image, dx, dy }];
-    assert!(rt; judge_set(&images, &taps, set) == fault);
+    for &(files, fault) in rows {
+        let set = set_of(rt.alloc(), files)?;
+        assert!(rt; judge_set(&images, &taps, &set) == fault);
+    }
     Ok(())
 }
 
 #[test]
 fn sets_are_judged(rt: HostRuntime) -> Result<(), Fail> {
-    for &(files, fault) in SETS {
-        let set = set_of(rt.alloc(), files)?;
-        try_set(&rt, &set, fault)?;
-    }
-    Ok(())
+    try_sets(&rt, SETS)
 }
 
 const SUM: &[u8] = b"kernel sum\nimage a u8\nout u8 = a[0,0] + 10u8\n";
@@ -130,19 +139,21 @@ const KERNELS: &[(&[u8], &[u8], u32, &[u16])] = &[
     ),
 ];
 
-/// The kernel's output on the image of a file.
-fn output_of(alloc: Global, text: &[u8], file: &[u8]) -> Result<Image, Fail> {
-    let kernel = read_kernel(alloc, text)?;
-    let set = set_of(alloc, &[(file, false)])?;
-    Ok(eval_images(alloc, &kernel, &set)?)
-}
-
-#[test]
-fn kernels_are_evaluated(rt: HostRuntime) -> Result<(), Fail> {
-    for &(text, file, width, pixels) in KERNELS {
-        let image = output_of(rt.alloc(), text, file)?;
+fn try_kernels<R: Abort + AllocGlobal>(
+    rt: &R,
+    rows: &[(&[u8], &[u8], u32, &[u16])],
+) -> Result<(), Fail> {
+    for &(text, file, width, pixels) in rows {
+        let kernel = read_kernel(rt.alloc(), text)?;
+        let set = set_of(rt.alloc(), &[(file, false)])?;
+        let image = eval_images(rt.alloc(), &kernel, &set)?;
         assert_eq!(rt; image.width(), width);
         assert_eq!(rt; image.pixels(), pixels);
     }
     Ok(())
+}
+
+#[test]
+fn kernels_are_evaluated(rt: HostRuntime) -> Result<(), Fail> {
+    try_kernels(&rt, KERNELS)
 }

@@ -9,7 +9,7 @@ ghost use Rattle.pf_values.specs.Meaning.Terms.{is_formed_node, is_well_formed};
 use crate::faults::{read_fault, type_word};
 use crate::tables::{cells, same, same_bytes};
 use pf_ints::{Duplicate, LaneType, Sequence};
-use pf_kernel::{Kernel, read_kernel};
+use pf_kernel::read_kernel;
 use pf_terms::{
     Env, Leaf, Names, Op, ReadFault, Tap, Term, TermFault, Terms, depth, nodes, print_term,
     read_term, type_of, value, weight,
@@ -144,19 +144,13 @@ fn expressions_have_values(rt: HostRuntime) -> Result<(), Fail> {
     Ok(())
 }
 
-fn names_of(alloc: Global, kernel: &Kernel) -> Result<Names, Fail>
-    ensures { IfOk result IsNames }
-{
-    Ok(kernel.names().copy(alloc)?)
-}
-
 /// The names of two u8 images a and b, and of an i16 definition d.
 fn some_names(alloc: Global) -> Result<Names, Fail>
     ensures { IfOk result IsNames }
 {
     let text = b"kernel k\nimage a u8\nimage b u8\ndef d i16 = 1i16\nout u8 = 1u8";
     let kernel = read_kernel(alloc, text)?;
-    names_of(alloc, &kernel)
+    Ok(kernel.names().copy(alloc)?)
 }
 
 /// Expressions with names, and how they are printed.
