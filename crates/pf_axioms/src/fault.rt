@@ -4,12 +4,13 @@ use pf_templates::BuildFault;
 /// Why a form isn't rewritten.
 #[derive(Debug, Drop)]
 pub enum StepFault {
-    /// The form isn't the left form of the axiom, or its types are not such as the axiom asks for.
+    /// The form isn't the left form of the axiom, or its types or exponents are not such as the
+    /// axiom asks for.
     NoMatch,
-    /// An interval that the axiom asks for doesn't exist, or the new form would hold a number that
-    /// is too far from 0.
+    /// An interval that the axiom asks for doesn't exist, or the new form would hold a number
+    /// further than 2^120 from 0 or an exponent above 119.
     TooWide,
-    /// The interval that the axiom asks for doesn't meet its condition.
+    /// The intervals that the axiom asks for don't meet its condition; `got` is that of its x.
     NotGranted { got: Interval },
     /// Want of memory.
     Memory,

@@ -11,8 +11,9 @@ use pf_forms::{Axiom, Form};
 use pf_ints::IntervalList;
 use std::alloc::Global;
 
-/// The form rewritten at its root by the axiom. It has the value of the form for all variables
-/// inside their ranges.
+/// The form rewritten at its root by the axiom, a form of its own. It has the value of the form
+/// for all variables inside their ranges, of which `ranges` has one for each variable. `NoMatch`,
+/// `TooWide` and `NotGranted` exclude each other.
 pub fn apply(
     alloc: Global,
     axiom: Axiom,

@@ -23,16 +23,28 @@ enum Wanted {
 fn is_made(alloc: Global, axiom: &str, form: &str, wanted: &Wanted) -> Result<bool, Fail> {
     let (form, _) = read(alloc, form.as_bytes())?;
     let axiom = Axiom::from_name(axiom.as_bytes()).ok_or("no axiom")?;
-    match (apply(alloc, axiom, &form, &ranges(alloc)?), wanted) {
-        (Ok(new), Makes(text)) => {
-            Ok(print_form(alloc, &new, &names(alloc)?)?.as_slice() == text.as_bytes())
+    match apply(alloc, axiom, &form, &ranges(alloc)?) {
+        Ok(new) => {
+            let text = print_form(alloc, &new, &names(alloc)?)?;
+            Ok(is_text(text.as_slice(), wanted))
         }
-        (Err(StepFault::NoMatch), NoMatch) => Ok(true),
-        (Err(StepFault::TooWide), TooWide) => Ok(true),
-        (Err(StepFault::NotGranted { got }), Got(lo, hi)) => {
-            Ok(got.lo() == *lo && got.hi() == *hi)
-        }
-        _ => Ok(false),
+        Err(fault) => Ok(is_fault(&fault, wanted)),
+    }
+}
+
+fn is_text(text: &[u8], wanted: &Wanted) -> bool {
+    match wanted {
+        Makes(form) => text == form.as_bytes(),
+        _ => false,
+    }
+}
+
+fn is_fault(fault: &StepFault, wanted: &Wanted) -> bool {
+    match (fault, wanted) {
+        (StepFault::NoMatch, NoMatch) => true,
+        (StepFault::TooWide, TooWide) => true,
+        (StepFault::NotGranted { got }, Got(lo, hi)) => got.lo() == *lo && got.hi() == *hi,
+        _ => false,
     }
 }
 

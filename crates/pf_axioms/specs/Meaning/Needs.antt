@@ -38,6 +38,7 @@ reads_y _ = false
 abbrev pub other : Needs → Letters → Shape
 other needs l = if reads_y needs then l.y else l.x
 
+-- at least low and at most high, where there are such
 abbrev pub from_to : Option ℤ → Option ℤ → Ends
 from_to low high = record { low = low; high = high }
 
