@@ -1,4 +1,4 @@
-use Rattle.std.proofs.Common.{◌++◌, [], ◌∷◌, map, List, ℕ, append_assoc, sym, subst, ◌≡◌}
+use Rattle.std.proofs.Common.{◌++◌, [], ◌∷◌, map, List, ℕ, append_assoc, ap, ◌∙◌, ◌≡◌}
 use Rattle.pf_machine.specs.Meaning.Heads.{image_name, names_of_taps}
 use Rattle.pf_isa.specs.Meaning.Texts.{printed, target_line, image_line, tap_line, out_line, scratch_line, lifted_lines, cost_line}
 use Rattle.pf_isa.proofs.TextLaws.{joined_lines}
@@ -13,7 +13,11 @@ returns c =
     let lifted_on : List (List ℕ) = lifted_lines (names_of_taps h.images h.taps) h.lifted ++ cost_on in
     let output : List (List ℕ) = out_line h.out_ty ∷ scratch_line h.scratch ∷ [] in
     let taps = map (tap_line (map image_name h.images)) h.taps in
-    let all = joined_lines _ _ _ (target_line c.args.target ∷ (map image_line h.images ++ taps)) (output ++ lifted_on) inputs
+    let images = map image_line h.images in
+    let inputs_on : List (List ℕ) = target_line c.args.target ∷ (images ++ taps) in
+    let lines : inputs_on ++ (output ++ lifted_on) ≡ target_line c.args.target ∷ (images ++ (taps ++ (output ++ lifted_on))) =
+    ap (λ l. target_line c.args.target ∷ l) (append_assoc images taps (output ++ lifted_on)) in
+    joined_lines _ _ _ inputs_on (output ++ lifted_on) inputs
     (joined_lines _ _ _ output lifted_on c.in_ok-push_output.ensures
-    (joined_lines _ _ _ (lifted_lines (names_of_taps h.images h.taps) h.lifted) cost_on lifted c.in_ok-push_cost_line.ensures)) in
-    rw append_assoc at all
+    (joined_lines _ _ _ (lifted_lines (names_of_taps h.images h.taps) h.lifted) cost_on lifted c.in_ok-push_cost_line.ensures))
+    ∙ ap (λ ls. c.args.text.now.items ++ printed ls) lines
