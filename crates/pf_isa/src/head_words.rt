@@ -15,6 +15,12 @@ use pf_ints::{LaneType, Name};
 use pf_terms::{ImageDecl, ImageName, Tap, type_of_word};
 use pf_text::{behind, is_digit, is_name, value_of_digits};
 
+/// How far a tap may be away, in each direction.
+const MOST_DISTANCE: u64 = 64;
+
+/// The most bytes of scratch memory.
+const MOST_SCRATCH: u64 = 1 << 30;
+
 /// The number that the word writes, or None where it writes none below 2^64.
 pub fn number_of_word(word: &[u8]) -> Option<u64>
     ensures { IsTheOne (λ n. (n < 2 ^ 64) × (decimal n ≡ word.now)) result }
@@ -76,7 +82,7 @@ fn distance_of_word(word: &[u8]) -> Option<u8>
     ensures { IsTheOne (λ n. (n ≤ 64) × (decimal n ≡ word.now)) result }
 {
     let n = number_of_word(word)?;
-    if 64 < n {
+    if MOST_DISTANCE < n {
         return None;
     }
     Some(n as u8)
@@ -167,7 +173,7 @@ fn size_of_word(word: &[u8]) -> Option<u32>
     ensures { IsTheOne (λ n. (n ≤ 2 ^ 30) × (decimal n ≡ word.now)) result }
 {
     let n = number_of_word(word)?;
-    if 1 << 30 < n {
+    if MOST_SCRATCH < n {
         return None;
     }
     Some(n as u32)

@@ -5,7 +5,7 @@ use pf_ints::Name;
 use std::collections::BTreeSet;
 
 /// A jump of a text.
-#[derive(Clone, Copy, Debug, PartialEq, Eq)]
+#[derive(Clone, Copy)]
 pub struct Jump {
     /// The number of its line, counted from 1.
     pub line: u64,

@@ -1,5 +1,5 @@
-ghost use Rattle.std.specs.Prelude.{◌≡◌, ◌≢◌, ◌<◌, ◌≤◌, ◌+◌, ◌↔◌, [], ◌∷◌, length, map, true, IsTrue, IfOk, IfSome, Contains, codes};
-ghost use Rattle.std.specs.List.{list_any, position};
+ghost use Rattle.std.specs.Prelude.{◌≡◌, ◌≢◌, ◌<◌, ◌≤◌, ◌+◌, ◌↔◌, [], ◌∷◌, ◌++◌, length, map, true, IsTrue, IfOk, OnOk, IfSome, Contains, codes};
+ghost use Rattle.std.specs.List.{list_any, position, slice_split};
 ghost use Rattle.std.specs.Str.{bytes_eq};
 ghost use Rattle.pf_ints.specs.Meaning.Images.{IsPixelType};
 ghost use Rattle.pf_terms.specs.declared.meaning.ReadFault.TheVariants.{Memory as Refused};
@@ -7,11 +7,11 @@ ghost use Rattle.pf_terms.specs.Meaning.KernelNames.{IsNames};
 ghost use Rattle.pf_terms.specs.Meaning.Meanings.{IsTermText};
 ghost use Rattle.pf_values.specs.Meaning.Terms.{IsWellTyped, stated_type};
 ghost use Rattle.pf_values.specs.Meaning.NamedTerms.{is_named};
-ghost use Rattle.pf_machine.specs.Meaning.Heads.{IsDecl, IsTap};
+ghost use Rattle.pf_machine.specs.Meaning.Heads.{IsDecl, IsTap, image_name, def_name};
 ghost use Rattle.pf_isa.specs.Steps.HeadSteps.{WordsGoOn, DeclarationGoesOn, TapOrOutGoesOn, OutWordsGoOn, ImageGoesOn, TapGoesOn, OutGoesOn, LiftedGoesOn, TermGoesOn, IsDefinitionOf, IsFitting, IsRoom, HasTermNames};
-ghost use Rattle.pf_isa.specs.Steps.HeadWords.{IsTheOne, IsLiftedName, is_sign};
+ghost use Rattle.pf_isa.specs.Steps.HeadWords.{IsTheOne, IsLiftedName, is_sign, is_space, lifted_words, words_in};
 ghost use Rattle.pf_isa.specs.Meaning.TextFaults.{texts, SoFar, empty_head, head_names, names_so_far, GoesOn, GoesOnAt, stage_behind};
-ghost use Rattle.pf_isa.specs.declared.so_far.Stage.TheVariants.{Declarations, Lifted, Code};
+ghost use Rattle.pf_isa.specs.declared.so_far.Stage.TheVariants.{Declarations, Scratch, Lifted, Cost, Code};
 
 use crate::head_words::{cost_of, image_of, lifted_of, out_of, scratch_of, tap_of};
 use crate::term_size::fewest_nodes;
@@ -25,11 +25,21 @@ use pf_text::tight_line;
 use std::alloc::{AllocError, Global};
 use std::marker::Model;
 
+/// The most images and the most taps of a head, and the most lifted terms besides the output's.
+const MOST_IMAGES: usize = 8;
+
+const MOST_TAPS: usize = 64;
+
+const MOST_DEFS: usize = 64;
+
+/// The greatest depth of a lifted term.
+const MOST_DEPTH: u64 = 1024;
+
 /// The most nodes that the lifted terms of a head have in all.
 const MOST_NODES: usize = 1536;
 
 /// What may come next in a text.
-#[derive(Clone, Copy, Debug, PartialEq, Eq)]
+#[derive(Clone, Copy, PartialEq)]
 pub enum Stage {
     /// An image, a tap or the type of the output.
     Declarations,
@@ -127,7 +137,7 @@ impl HeadSoFar {
         if self.has_name(image.name.as_slice()) || !self.head.taps.is_empty() {
             return Ok(None);
         }
-        if 8 <= self.head.images.len() {
+        if MOST_IMAGES <= self.head.images.len() {
             return Ok(None);
         }
         let HeadSoFar {
@@ -136,11 +146,7 @@ impl HeadSoFar {
             mut names,
             nodes,
         } = self;
-        head.images.push(*image)?;
-        names.images.push(ImageName {
-            name: image.name,
-            ty: image.ty,
-        })?;
+        push_image(&mut head, &mut names, image)?;
         Ok(Some(HeadSoFar {
             stage,
             head,
@@ -154,7 +160,7 @@ impl HeadSoFar {
         requires tap { IsTap (length self.head.images) tap }
         ensures { IfOk result (IsTheOne (TapGoesOn self.head tap)) }
     {
-        if has_tap(self.head.taps.as_slice(), tap) || 64 <= self.head.taps.len() {
+        if has_tap(self.head.taps.as_slice(), tap) || MOST_TAPS <= self.head.taps.len() {
             return Ok(None);
         }
         let HeadSoFar {
@@ -163,8 +169,7 @@ impl HeadSoFar {
             mut names,
             nodes,
         } = self;
-        head.taps.push(tap)?;
-        names.taps.push(tap)?;
+        push_tap(&mut head, &mut names, tap)?;
         Ok(Some(HeadSoFar {
             stage,
             head,
@@ -241,6 +246,15 @@ impl HeadSoFar {
         }
     }
 
+    fn with_scratch_words(self, words: &[&[u8]]) -> Option<HeadSoFar>
+        ensures { IsTheOne (WordsGoOn Scratch self.head (texts words.now)) result }
+    {
+        match scratch_of(words) {
+            Some(scratch) => Some(self.with_scratch(scratch)),
+            None => None,
+        }
+    }
+
     fn with_cost(self, cost: u64) -> HeadSoFar
         ensures { result ≡ record { stage = Code; head = record self.head { cost = cost } } }
     {
@@ -259,6 +273,15 @@ impl HeadSoFar {
         }
     }
 
+    fn with_cost_words(self, words: &[&[u8]]) -> Option<HeadSoFar>
+        ensures { IsTheOne (WordsGoOn Cost self.head (texts words.now)) result }
+    {
+        match cost_of(words) {
+            Some(cost) => Some(self.with_cost(cost)),
+            None => None,
+        }
+    }
+
     // What is so far with a line of these words, which says no lifted term.
     fn with_words(self, words: &[&[u8]]) -> Result<Option<HeadSoFar>, Memory>
         requires { HasTermNames self }
@@ -266,14 +289,8 @@ impl HeadSoFar {
     {
         match self.stage {
             Stage::Declarations => self.with_declaration(words),
-            Stage::Scratch => match scratch_of(words) {
-                Some(scratch) => Ok(Some(self.with_scratch(scratch))),
-                None => Ok(None),
-            },
-            Stage::Cost => match cost_of(words) {
-                Some(cost) => Ok(Some(self.with_cost(cost))),
-                None => Ok(None),
-            },
+            Stage::Scratch => Ok(self.with_scratch_words(words)),
+            Stage::Cost => Ok(self.with_cost_words(words)),
             Stage::Lifted | Stage::Code => Ok(None),
         }
     }
@@ -283,7 +300,7 @@ impl HeadSoFar {
         requires { IsLiftedName name.now }
         ensures { IsTrue result ↔ IsRoom self.now.head name.now }
     {
-        is_out(name) || self.head.lifted.len() < 64
+        is_out(name) || self.head.lifted.len() < MOST_DEFS
     }
 
     fn with_lifted(
@@ -327,8 +344,7 @@ impl HeadSoFar {
             None => return Ok(None),
         };
         let nodes = before.saturating_add(nodes(&definition.term));
-        names.defs.push(DefName { name: *name, ty })?;
-        head.lifted.push(definition)?;
+        push_lifted(&mut head, &mut names, definition)?;
         Ok(Some(HeadSoFar {
             stage: stage_behind(name.as_slice()),
             head,
@@ -346,9 +362,7 @@ impl HeadSoFar {
             Some(end) => end,
             None => return Ok(None),
         };
-        let front = tight_line(alloc, &line[..end + 1])?;
-        let words = words_of(alloc, front.as_slice())?;
-        match lifted_of(words.as_slice()) {
+        match lifted_in(alloc, &line[..end + 1])? {
             Some(found) => self.with_lifted(alloc, &found.0, found.1, &line[end + 1..]),
             None => Ok(None),
         }
@@ -363,9 +377,56 @@ impl HeadSoFar {
             return self.with_lifted_line(alloc, line);
         }
         let tight = tight_line(alloc, line)?;
-        let words = words_of(alloc, tight.as_slice())?;
+        self.with_tight(alloc, tight.as_slice())
+    }
+
+    // What is so far with a line that is no lifted term's, without the blanks that don't count.
+    fn with_tight(self, alloc: Global, tight: &[u8]) -> Result<Option<HeadSoFar>, Memory>
+        requires { HasTermNames self }
+        ensures { IfOk result (IsTheOne (WordsGoOn self.stage self.head (slice_split is_space tight.now))) }
+    {
+        let words = words_of(alloc, tight)?;
         self.with_words(words.as_slice())
     }
+}
+
+fn push_image(head: &mut Head, names: &mut Names, image: &ImageDecl) -> Result<(), Memory>
+    ensures head { OnOk result (head.new ≡ record head.old { images = head.old.images ++ image.now ∷ [] }) }
+    ensures names { OnOk result (names.new ≡ record names.old { images = names.old.images ++ image_name image.now ∷ [] }) }
+{
+    head.images.push(*image)?;
+    names.images.push(ImageName {
+        name: image.name,
+        ty: image.ty,
+    })
+}
+
+fn push_tap(head: &mut Head, names: &mut Names, tap: Tap) -> Result<(), Memory>
+    ensures head { OnOk result (head.new ≡ record head.old { taps = head.old.taps ++ tap ∷ [] }) }
+    ensures names { OnOk result (names.new ≡ record names.old { taps = names.old.taps ++ tap ∷ [] }) }
+{
+    head.taps.push(tap)?;
+    names.taps.push(tap)
+}
+
+fn push_lifted(head: &mut Head, names: &mut Names, definition: Definition) -> Result<(), Memory>
+    ensures head { OnOk result (head.new ≡ record head.old { lifted = head.old.lifted ++ definition ∷ [] }) }
+    ensures names { OnOk result (names.new ≡ record names.old { defs = names.old.defs ++ def_name definition ∷ [] }) }
+{
+    names.defs.push(DefName {
+        name: definition.name,
+        ty: definition.ty,
+    })?;
+    head.lifted.push(definition)
+}
+
+// The name and the type of the lifted term whose line begins so, up to its sign.
+fn lifted_in(alloc: Global, front: &[u8]) -> Result<Option<(Name, LaneType)>, Memory>
+    ensures { IfOk result (IsTheOne (λ r. IsLiftedName r.0 × (words_in front.now ≡ lifted_words r.0 r.1))) }
+{
+    let tight = tight_line(alloc, front)?;
+    let words = words_of(alloc, tight.as_slice())?;
+    Ok(lifted_of(words.as_slice()))
 }
 
 // The place of the first `=`.
@@ -426,7 +487,9 @@ fn definition_of(
 fn is_fitting(term: &Term, ty: LaneType, before: u64) -> bool
     ensures { IsTrue result ↔ IsFitting term.now ty before }
 {
-    stated_type(term) == ty && depth(term) <= 1024 && before.saturating_add(nodes(term)) <= 1536
+    stated_type(term) == ty
+        && depth(term) <= MOST_DEPTH
+        && before.saturating_add(nodes(term)) <= MOST_NODES as u64
 }
 
 // The term that a text means, where it has no tap that isn't listed.

@@ -231,16 +231,39 @@ fn push_code<I: Isa>(
     Ok(())
 }
 
+/// Appends the lines of the target, the images and the taps, whose images have these names.
+fn push_inputs(
+    text: &mut Vec<u8>,
+    target: Target,
+    names: &[ImageName],
+    head: &Head,
+) -> Result<(), Memory>
+    requires { All (λ t. t.image < length names.now) head.now.taps }
+    ensures { OnOk result (text.new.items
+        ≡ text.old.items ++ printed (target_line target ∷ (map image_line head.now.images ++ map (tap_line names.now) head.now.taps))) }
+{
+    push_target_line(text, target)?;
+    push_image_lines(text, head.images.as_slice())?;
+    push_tap_lines(text, names, head.taps.as_slice())?;
+    Ok(())
+}
+
+/// Appends the lines of the output's type and of the scratch.
+fn push_output(text: &mut Vec<u8>, head: &Head) -> Result<(), Memory>
+    ensures { OnOk result (text.new.items ≡ text.old.items ++ printed (out_line head.now.out_ty ∷ scratch_line head.now.scratch ∷ [])) }
+{
+    push_out_line(text, head.out_ty)?;
+    push_scratch_line(text, head.scratch)?;
+    Ok(())
+}
+
 fn push_head(alloc: Global, text: &mut Vec<u8>, target: Target, head: &Head) -> Result<(), Memory>
     requires { IsHead head.now }
     ensures { OnOk result (text.new.items ≡ text.old.items ++ printed (head_lines target head.now)) }
 {
     let mut names = names_of_taps(alloc, head)?;
-    push_target_line(text, target)?;
-    push_image_lines(text, head.images.as_slice())?;
-    push_tap_lines(text, names.images.as_slice(), head.taps.as_slice())?;
-    push_out_line(text, head.out_ty)?;
-    push_scratch_line(text, head.scratch)?;
+    push_inputs(text, target, names.images.as_slice(), head)?;
+    push_output(text, head)?;
     push_lifted_lines(text, &mut names, head.lifted.as_slice())?;
     push_cost_line(text, head.cost)?;
     Ok(())

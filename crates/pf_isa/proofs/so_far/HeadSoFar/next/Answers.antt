@@ -1,7 +1,7 @@
 use Rattle.std.proofs.Common.{◌≡◌, ◌≢◌, rules}
+use Rattle.std.specs.List.{slice_split}
 use Rattle.pf_isa.specs.declared.so_far.Stage.TheVariants.{Lifted}
-use Rattle.pf_isa.specs.Steps.HeadWords.{words_in}
-use Rattle.pf_isa.specs.Meaning.TextFaults.{texts}
+use Rattle.pf_isa.specs.Steps.HeadWords.{words_in, is_space}
 use Rattle.pf_isa.proofs.HeadLineLaws.{words_line_goes, lifted_stage}
 use Rattle.pf_isa.proofs.so_far.HeadSoFar.next.Goals as goal
 
@@ -13,5 +13,6 @@ returns-then-eq c =
 pub returns : goal.returns
 returns c =
     let other : c.args.self.stage ≢ Lifted = λ e. search rules in
-    let is : texts c.as_slice-2.result.now ≡ words_in c.args.line.now = search rules in
-    words_line_goes c.args.self.stage c.args.self.head c.args.line.now (texts c.as_slice-2.result.now) c.with_words.result other c.requires is c.with_words.ensures
+    let is : slice_split is_space c.as_slice.result.now ≡ words_in c.args.line.now = search rules in
+    let words = slice_split is_space c.as_slice.result.now in
+    words_line_goes c.args.self.stage c.args.self.head c.args.line.now words c.with_tight.result other c.requires is c.with_tight.ensures

@@ -17,6 +17,6 @@ returns c =
     let names : c.self.inside.names ≡ names_so_far c.args.self.head = search rules in
     let nodes : c.self.inside.nodes ≡ nodes_so_far c.args.self.head = search rules in
     let told = definition_at c.args.self.head c.self.inside.names c.args.name.now c.args.ty c.args.text.now c.self.inside.nodes c.in_ok-definition.field-0 names nodes c.in_ok-definition.ensures.found in
-    let s : SoFar = record { stage = c.stage_behind.result; head = record c.self.inside.head { lifted = c.push-2.new.self } } in
+    let s : SoFar = record { stage = c.stage_behind.result; head = c.push_lifted.new.head } in
     let made : s ≡ record { stage = stage_behind c.args.name.now; head = head_with_lifted c.args.self.head c.in-Some.definition } = search rules in
     term_goes c.args.self.head c.args.name.now c.args.ty c.args.text.now c.in-Some.definition s (subst (IsTheOne (IsDefinitionOf (names_so_far c.args.self.head) c.args.name.now c.args.ty c.args.text.now (nodes_so_far c.args.self.head))) c.in-Some.is told) made
