@@ -1,1 +1,4 @@
 pub mod OperandLaws
+pub mod FrameLaws
+pub mod TableLaws
+pub mod InstructionLaws
