@@ -147,10 +147,10 @@ same_byte c = grind (arith, nat_tests)
 matched_mark : (c n : ℕ) (v w ns done : List ℕ) → is_mark c ≡ true → OperandFacts c n → begins_plain w ≡ true → matched (c ∷ v) (operand c n ++ filled w ns) done ≡ matched v (filled w ns) (done ++ n ∷ [])
 matched_mark c n v w ns done h facts plain = rw (h, facts.read (filled w ns) (no_name w ns plain)) refl
 
-matched_byte : (c : ℕ) (v line done : List ℕ) → is_mark c ≡ false → matched (c ∷ v) (c ∷ line) done ≡ matched v line done
+pub matched_byte : (c : ℕ) (v line done : List ℕ) → is_mark c ≡ false → matched (c ∷ v) (c ∷ line) done ≡ matched v line done
 matched_byte c v line done h = rw (h, same_byte c) refl
 
-matched_other : (c d : ℕ) (v line done : List ℕ) → is_mark c ≡ false → (c == d) ≡ false → matched (c ∷ v) (d ∷ line) done ≡ None
+pub matched_other : (c d : ℕ) (v line done : List ℕ) → is_mark c ≡ false → (c == d) ≡ false → matched (c ∷ v) (d ∷ line) done ≡ None
 matched_other c d v line done h other = rw (h, other) refl
 
 -- the operands are read back
@@ -184,14 +184,14 @@ byte_no_operand c m v (d ∷ w) t done byte none begins some =
     (λ (other : (c == d) ≡ false). matched_other c d v (w ++ t) done byte other)
     (cases_Bool (c == d))
 
-no_at_mark : (c : ℕ) (v line done : List ℕ) → is_mark c ≡ true → read_operand c line ≡ None → matched (c ∷ v) line done ≡ None
+pub no_at_mark : (c : ℕ) (v line done : List ℕ) → is_mark c ≡ true → read_operand c line ≡ None → matched (c ∷ v) line done ≡ None
 no_at_mark c v line done h none = rw (h, none) refl
 
 or_right : (a b : Bool) → a ≡ false → (a || b) ≡ true → b ≡ true
 or_right true b h e = absurd (cc)
 or_right false b h e = e
 
-is_not : (b : Bool) → not b ≡ true → b ≡ false
+pub is_not : (b : Bool) → not b ≡ true → b ≡ false
 is_not true h = absurd (cc)
 is_not false h = refl
 
