@@ -1,6 +1,7 @@
 pub mod ByteLaws
 pub mod EffectLaws
 pub mod MemoryLaws
+pub mod FileLaws
 pub mod StepLaws
 pub mod RowLaws
 pub mod MachineLaws

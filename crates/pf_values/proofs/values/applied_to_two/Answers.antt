@@ -1,6 +1,6 @@
 use Rattle.std.proofs.Common.{rules}
 use Rattle.std.proofs.lemmas.Int.{to_z-of_z}
-use Rattle.pf_values.proofs.values.of_two.Goals as goal
+use Rattle.pf_values.proofs.values.applied_to_two.Goals as goal
 
 pub returns-in-Add : goal.returns-in-Add
 returns-in-Add c = search (rules, to_z-of_z)
