@@ -8,7 +8,7 @@ use Rattle.std.proofs.lemmas.Bool.{cases_lt}
 use Rattle.std.proofs.lemmas.List.{take_all, take-append-drop, drop-drop, length-map, length-replicate}
 use Rattle.std.proofs.lemmas.List.Elements.{All-replicate}
 use Rattle.pf_ints.specs.Meaning.Images.{Picture}
-use Rattle.pf_values.specs.Meaning.Kernels.{Source, Keeps, no_decl}
+use Rattle.pf_values.specs.Meaning.Kernels.{KeepsSet, no_decl}
 use Rattle.pf_machine.specs.declared.registers.RegFile.{RegFile}
 use Rattle.pf_machine.specs.declared.code.Line.{Line}
 use Rattle.pf_machine.specs.declared.block.Item.{Item}
@@ -69,7 +69,7 @@ row_written start count before left inside long front back =
     rest_is (start + count) left ∙ ap (λ c. part (start + count) c left) size ∙ back.each (start + count) (length before - (start + count)) (omega arith) (omega arith) ∙ sym (rest_is (start + count) before) in
     in_three start count left ∙ ap (λ l. l ++ (part start count left ++ drop (start + count) left)) first ∙ ap (λ l. take start before ++ (part start count left ++ l)) last
 
-module _ (I O : Type 0) (t : Table O) (is_op : O → Type 0) (laws : IsTable t is_op) (h : Head) (slots : ℕ) (block : List (Item O)) (ones : All (IsOne is_op) block) (fit : IsRowBlock t h slots block) (s : Source) (images : s.images ≡ h.images) (taps : s.taps ≡ h.taps) (pictures : List Picture) (keeps : Keeps s pictures) (at : Places) (scratch output : List ℕ) (placed : IsPlaced h pictures at scratch output) (y : ℕ) (inside : y < rows h pictures) where
+module _ (I O : Type 0) (t : Table O) (is_op : O → Type 0) (laws : IsTable t is_op) (h : Head) (slots : ℕ) (block : List (Item O)) (ones : All (IsOne is_op) block) (fit : IsRowBlock t h slots block) (pictures : List Picture) (keeps : KeepsSet h.images h.taps pictures) (at : Places) (scratch output : List ℕ) (placed : IsPlaced h pictures at scratch output) (y : ℕ) (inside : y < rows h pictures) where
   abbrev n : ℕ
   n = columns h pictures
 
@@ -89,13 +89,13 @@ module _ (I O : Type 0) (t : Table O) (is_op : O → Type 0) (laws : IsTable t i
   line = width * (n * y)
 
   abbrev image : ℕ → ℕ
-  image = image_of_tap h fit.head s images taps pictures keeps
+  image = image_of_tap h fit.head pictures keeps
 
   abbrev place : ℕ → ℕ
-  place = place_of_tap h fit.head s images taps pictures keeps y
+  place = place_of_tap h fit.head pictures keeps y
 
   abbrev place_is : RowPlace t.vector pictures at entries widths width slots n h.scratch (output_size h pictures) line image place
-  place_is = row_placed h fit.head s images taps pictures keeps t.vector slots laws.some_bytes laws.few_bytes fit.scratch at scratch output placed y inside
+  place_is = row_placed h fit.head pictures keeps t.vector slots laws.some_bytes laws.few_bytes fit.scratch at scratch output placed y inside
 
   count_is : length widths ≡ length h.taps
   count_is = length-map h.taps (λ t. pixel_bytes (get_or h.images t.image no_decl).ty)
@@ -107,7 +107,7 @@ module _ (I O : Type 0) (t : Table O) (is_op : O → Type 0) (laws : IsTable t i
   are_blocks : (x : ℕ) (blocks : List (List ℕ)) → Finds t.vector n pictures widths image place x blocks → AreBlocks t.vector h pictures y x blocks
   are_blocks x blocks finds = record {
     sizes = λ k known. let count = count_is in finds.sizes k (omega arith);
-    each = λ k j known within left. let count = count_is in finds.each k j (omega arith) within left ∙ pixel_is h fit.head s images taps pictures keeps k known y (x + j) inside left;
+    each = λ k j known within left. let count = count_is in finds.each k j (omega arith) within left ∙ pixel_is h fit.head pictures keeps k known y (x + j) inside left;
   }
 
   -- what a block gives doesn't depend on what registers and slots hold
@@ -145,8 +145,8 @@ module _ (I O : Type 0) (t : Table O) (is_op : O → Type 0) (laws : IsTable t i
 
   module _ (narrow : n < t.vector) where
     gives_narrow : (blocks : List (List ℕ)) → Finds t.vector n pictures widths image place 0 blocks → (f : RegFile) (kept : List (List ℕ)) → IsFile t t.vectors f → length kept ≡ slots → (q : ℕ) → q < n
-        → length (part (width * q) width (given_from t is_op laws code (row_labels I t widths width block) pictures at entries widths width slots n h.scratch (output_size h pictures) line image place place_is block (laid I O t widths width block few) ones fit.clean.within fit.steps fit.stores narrow (some_columns h fit.head s images taps pictures keeps) blocks f kept)) ≡ width
-        → Given 0 q (bytes width (number (part (width * q) width (given_from t is_op laws code (row_labels I t widths width block) pictures at entries widths width slots n h.scratch (output_size h pictures) line image place place_is block (laid I O t widths width block few) ones fit.clean.within fit.steps fit.stores narrow (some_columns h fit.head s images taps pictures keeps) blocks f kept))))
+        → length (part (width * q) width (given_from t is_op laws code (row_labels I t widths width block) pictures at entries widths width slots n h.scratch (output_size h pictures) line image place place_is block (laid I O t widths width block few) ones fit.clean.within fit.steps fit.stores narrow (some_columns h fit.head pictures keeps) blocks f kept)) ≡ width
+        → Given 0 q (bytes width (number (part (width * q) width (given_from t is_op laws code (row_labels I t widths width block) pictures at entries widths width slots n h.scratch (output_size h pictures) line image place place_is block (laid I O t widths width block few) ones fit.clean.within fit.steps fit.stores narrow (some_columns h fit.head pictures keeps) blocks f kept))))
     gives_narrow blocks finds f kept is_file kept_long q known size =
         let whole : q - 0 ≡ q = omega arith in
         record {
@@ -179,7 +179,7 @@ module _ (I O : Type 0) (t : Table O) (is_op : O → Type 0) (laws : IsTable t i
       ⊎_elim
       (λ (narrow : n < t.vector).
       longer t is_op laws code (row_labels I t widths width block) pictures at entries widths width slots n h.scratch (output_size h pictures) line image place place_is block (laid I O t widths width block few) ones fit.clean.within fit.steps fit.stores Given gives_wide (many + 4096 * (length widths + 1)) steps_of start output (omega arith)
-      (narrow_row t is_op laws code (row_labels I t widths width block) pictures at entries widths width slots n h.scratch (output_size h pictures) line image place place_is block (laid I O t widths width block few) ones fit.clean.within fit.steps fit.stores narrow (some_columns h fit.head s images taps pictures keeps) Given gives_wide (gives_narrow narrow) file scratch output (started_file t) placed.scratch_size placed.output_bytes))
+      (narrow_row t is_op laws code (row_labels I t widths width block) pictures at entries widths width slots n h.scratch (output_size h pictures) line image place place_is block (laid I O t widths width block few) ones fit.clean.within fit.steps fit.stores narrow (some_columns h fit.head pictures keeps) Given gives_wide (gives_narrow narrow) file scratch output (started_file t) placed.scratch_size placed.output_bytes))
       (λ (wide : t.vector ≤ n).
       longer t is_op laws code (row_labels I t widths width block) pictures at entries widths width slots n h.scratch (output_size h pictures) line image place place_is block (laid I O t widths width block few) ones fit.clean.within fit.steps fit.stores Given gives_wide (7 + (many + 12) * n) steps_of start output (omega arith)
       (wide_row t is_op laws code (row_labels I t widths width block) pictures at entries widths width slots n h.scratch (output_size h pictures) line image place place_is block (laid I O t widths width block few) ones fit.clean.within fit.steps fit.stores Given gives_wide file scratch output wide (started_file t) placed.scratch_size placed.output_bytes))

@@ -20,7 +20,7 @@ use Rattle.pf_machine.specs.Meaning.Tables.{Table, IsTable}
 use Rattle.pf_machine.proofs.ByteLaws.{bytes_below, lane_at}
 use Rattle.pf_machine.proofs.RowLaws.{leaves, length-row_in_memory, length-row_values}
 use Rattle.pf_rows.specs.Meaning.BlockRows.{tap_widths, start_of, pixel_part, tap_pixel, IsBlockRow, IsLanewise, IsRowBlock, RunsBlock, LeavesLanes}
-use Rattle.pf_values.specs.Meaning.Kernels.{no_decl}
+use Rattle.pf_values.specs.Meaning.Kernels.{KeepsSet, no_decl}
 use Rattle.pf_rows.specs.Steps.RowCode.{IsOne, row_text}
 use Rattle.pf_rows.proofs.Cells.{part, length-part, Cells, cells_of, cells-of, cells-joined, length-cells_of, get_or-cells_of}
 use Rattle.pf_rows.proofs.RowPlaces.{span}
@@ -102,7 +102,7 @@ module _ {O : Type 0} (t : Table O) (h : Head) (slots : ℕ) (block : List (Item
 
 module _ (I O : Type 0) (t : Table O) (is_op : O → Type 0) (laws : IsTable t is_op) (h : Head) (slots : ℕ) (block : List (Item O)) (ones : All (IsOne is_op) block) (fit : IsRowBlock t h slots block) where
   pub runs_block : RunsBlock t slots block (row_text I t h block)
-  runs_block pictures keeps at scratch output placed y inside = block_row I O t is_op laws h slots block ones fit _ refl refl pictures keeps at scratch output placed y inside
+  runs_block pictures keeps at scratch output placed y inside = block_row I O t is_op laws h slots block ones fit pictures keeps at scratch output placed y inside
 
   pub leaves_lanes : LeavesLanes t slots block (row_text I t h block)
   leaves_lanes value lanewise s pictures images taps ty keeps values =
@@ -110,6 +110,6 @@ module _ (I O : Type 0) (t : Table O) (is_op : O → Type 0) (laws : IsTable t i
       let value_at = λ (x y : ℕ). value (map (tap_pixel h.taps pictures x y) h.taps) in
       leaves t p pictures s value_at taps ty keeps values
       (λ at scratch output placed y inside.
-      let done = block_row I O t is_op laws h slots block ones fit s images taps pictures keeps at scratch output placed y inside in
+      let done = block_row I O t is_op laws h slots block ones fit pictures (subst (λ ts. KeepsSet h.images ts pictures) taps (subst (λ ds. KeepsSet ds s.taps pictures) images keeps)) at scratch output placed y inside in
       let same : done.0 ≡ row_in_memory value_at h pictures y = row_of_lanes t h slots block laws.some_bytes value lanewise pictures y done.0 done.1 in
       subst (λ row. RowDone t p pictures at y row scratch output) same done.2)

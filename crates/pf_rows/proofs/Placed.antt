@@ -14,7 +14,7 @@ use Rattle.pf_ints.specs.declared.lane.Bits.{Bits}
 use Rattle.pf_ints.specs.declared.lane.Bits.TheVariants.{Eight, Sixteen, ThirtyTwo}
 use Rattle.pf_values.specs.declared.names.Tap.{Tap}
 use Rattle.pf_values.specs.Meaning.NamedTerms.{no_tap}
-use Rattle.pf_values.specs.Meaning.Kernels.{Source, Keeps, KeepsRange, no_picture, width_of, height_of, out_width, out_height, tap_column, tap_row, no_decl}
+use Rattle.pf_values.specs.Meaning.Kernels.{KeepsSet, KeepsRange, no_picture, width_of, height_of, out_width, out_height, tap_column, tap_row, no_decl}
 use Rattle.pf_machine.specs.declared.program.Head.{Head}
 use Rattle.pf_machine.specs.declared.memory.Region.{Region}
 use Rattle.pf_machine.specs.Meaning.Bytes.{bytes, packed}
@@ -39,7 +39,7 @@ one_or_two ThirtyTwo low = absurd (omega arith)
 pub pixel_one_or_two : (ty : LaneType) → IsPixelType ty → (1 ≤ pixel_bytes ty) × (pixel_bytes ty ≤ 2)
 pixel_one_or_two ty is = one_or_two ty.bits is.narrow
 
-module _ (h : Head) (is_head : IsHead h) (s : Source) (images : s.images ≡ h.images) (taps : s.taps ≡ h.taps) (pictures : List Picture) (keeps : Keeps s pictures) where
+module _ (h : Head) (is_head : IsHead h) (pictures : List Picture) (keeps : KeepsSet h.images h.taps pictures) where
   -- an image has its declared type, and the size of all
   record IsDeclared (k : ℕ) : Type 0 where
     known : k < length pictures
@@ -50,16 +50,14 @@ module _ (h : Head) (is_head : IsHead h) (s : Source) (images : s.images ≡ h.i
   image_is : (k : ℕ) → k < length h.images → IsDeclared k
   image_is k inside =
       let p = get_or pictures k no_picture in
-      let same : length s.images ≡ length h.images = ap length images in
       let known : k < length pictures = omega (arith, keeps.count) in
-      let inside' : k < length s.images = omega arith in
       let picture : IsPicture p = All-get_or IsPicture pictures k no_picture known keeps.limits in
       let size = All-get_or (λ (p : Picture). (p.width ≡ width_of pictures) × (p.height ≡ height_of pictures)) pictures k no_picture known keeps.sizes in
-      let pair : get_or (zip s.images pictures) k (no_decl, no_picture) ≡ (get_or s.images k no_decl, p) = get_or-zip s.images pictures k (no_decl, no_picture) inside' known in
-      let kept : KeepsRange (get_or s.images k no_decl) p = subst (λ q. KeepsRange q.0 q.1) pair (All-get_or (λ q. KeepsRange q.0 q.1) (zip s.images pictures) k (no_decl, no_picture) (omega (arith, length-zip s.images pictures)) keeps.each) in
+      let pair : get_or (zip h.images pictures) k (no_decl, no_picture) ≡ (get_or h.images k no_decl, p) = get_or-zip h.images pictures k (no_decl, no_picture) inside known in
+      let kept : KeepsRange (get_or h.images k no_decl) p = subst (λ q. KeepsRange q.0 q.1) pair (All-get_or (λ q. KeepsRange q.0 q.1) (zip h.images pictures) k (no_decl, no_picture) (omega (arith, length-zip h.images pictures)) keeps.each) in
       record {
         known = known;
-        ty = kept.ty ∙ ap (λ l. (get_or l k no_decl).ty) images;
+        ty = kept.ty;
         width = size.0;
         count = picture.count ∙ ap (λ w. w * p.height) size.0 ∙ ap (λ l. width_of pictures * l) size.1;
       }
@@ -75,10 +73,10 @@ module _ (h : Head) (is_head : IsHead h) (s : Source) (images : s.images ≡ h.i
   image_of_tap k = (get_or h.taps k no_tap).image
 
   wide : pos 1 ≤ℤ out_width h.taps pictures
-  wide = subst (λ ts. pos 1 ≤ℤ out_width ts pictures) taps keeps.wide
+  wide = keeps.wide
 
   high : pos 1 ≤ℤ out_height h.taps pictures
-  high = subst (λ ts. pos 1 ≤ℤ out_height ts pictures) taps keeps.high
+  high = keeps.high
 
   pub some_columns : 1 ≤ columns h pictures
   some_columns = let some = wide in omega (arith, ints)

@@ -4,9 +4,7 @@ use Rattle.std.specs.List.{concat, list_any}
 use Rattle.pf_ints.specs.Meaning.Images.{Picture, pixel}
 use Rattle.pf_values.specs.declared.names.Tap.{Tap}
 use Rattle.pf_values.specs.Meaning.NamedTerms.{no_tap}
-use Rattle.pf_values.specs.declared.term.Leaf.TheVariants.{Tap as TapLeaf}
-use Rattle.pf_values.specs.declared.term.Term.TheVariants.{Leaf}
-use Rattle.pf_values.specs.Meaning.Kernels.{Source, Keeps, Out, out_value, no_picture, tap_row, tap_column, no_decl}
+use Rattle.pf_values.specs.Meaning.Kernels.{Source, KeepsSet, Keeps, Out, out_value, no_picture, tap_row, tap_column, no_decl}
 use Rattle.pf_machine.specs.declared.block.Item.{Item}
 use Rattle.pf_machine.specs.declared.block.Item.TheVariants.{Vector as Operation, TapLoad, OutStore, SlotLoad, SlotStore}
 use Rattle.pf_machine.specs.declared.program.Head.{Head}
@@ -89,7 +87,7 @@ pub record IsRowBlock {O : Type 0} (t : Table O) (h : Head) (slots : ℕ) (block
 
 -- the images are those that the head asks for, and the output has a pixel
 abbrev pub KeepsHead : Head → List Picture → Type 0
-KeepsHead h pictures = Keeps (record { images = h.images; taps = h.taps; defs = []; out_ty = h.out_ty; out = Leaf (TapLeaf 0) h.out_ty }) pictures
+KeepsHead h pictures = KeepsSet h.images h.taps pictures
 
 -- under every placement and in every row, the program ends within its steps and without a trap, and has then written a row of the block's pixels and nothing else of the output
 abbrev pub RunsBlock : {I O : Type 0} → Table O → ℕ → List (Item O) → ProgramOf I O → Type 0

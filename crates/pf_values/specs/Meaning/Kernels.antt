@@ -101,14 +101,18 @@ pub record KeepsRange (d : ImageDecl) (p : Picture) : Type 0 where
   pub ty : p.ty ≡ d.ty
   pub pixels : All (λ n. (d.lo ≤ n) × (n ≤ d.hi)) p.pixels
 
--- the images are such as the kernel asks for, and its output has a pixel
-pub record Keeps (s : Source) (pictures : List Picture) : Type 0 where
-  pub count : length pictures ≡ length s.images
-  pub each : All (λ p. KeepsRange p.0 p.1) (zip s.images pictures)
+-- the pictures are such as these images and taps ask for, and the output has a pixel
+pub record KeepsSet (images : List ImageDecl) (taps : List Tap) (pictures : List Picture) : Type 0 where
+  pub count : length pictures ≡ length images
+  pub each : All (λ p. KeepsRange p.0 p.1) (zip images pictures)
   pub limits : All IsPicture pictures
   pub sizes : All (λ p. (p.width ≡ width_of pictures) × (p.height ≡ height_of pictures)) pictures
-  pub wide : pos 1 ≤ℤ out_width s.taps pictures
-  pub high : pos 1 ≤ℤ out_height s.taps pictures
+  pub wide : pos 1 ≤ℤ out_width taps pictures
+  pub high : pos 1 ≤ℤ out_height taps pictures
+
+-- the images are such as the kernel asks for
+abbrev pub Keeps : Source → List Picture → Type 0
+Keeps s pictures = KeepsSet s.images s.taps pictures
 
 abbrev pub no_decl : ImageDecl
 no_decl = record { name = []; ty = no_picture.ty; lo = 0; hi = 0 }
