@@ -1,5 +1,6 @@
 pub mod Texts
 pub mod TextFaults
+pub mod Headline
 pub use Rattle.pf_machine.specs.Meaning.Bytes
 pub use Rattle.pf_machine.specs.Meaning.RegisterFiles
 pub use Rattle.pf_machine.specs.Meaning.Control
