@@ -1,19 +1,27 @@
-ghost use Rattle.std.specs.Prelude.{◌≡◌, ◌⊎◌, Some, codes, map, string_bytes};
+ghost use Rattle.std.specs.Prelude.{◌≡◌, ◌⊎◌, ◌≤◌, ℕ, List, Some, codes, length, map, string_bytes, zip};
+ghost use Rattle.std.specs.List.{AllZip};
+ghost use Rattle.pf_ints.specs.declared.target.Target.{Target};
+ghost use Rattle.pf_ints.specs.Meaning.Images.{IsPicture, Picture};
+ghost use Rattle.pf_values.specs.Meaning.Kernels.{Keeps, Out, Source};
+ghost use Rattle.pf_images.specs.Meaning.Pgm.{pgm_text};
 ghost use Rattle.pf_top.specs.declared.kernel_file.KernelRefusal.{KernelRefusal};
 ghost use Rattle.pf_top.specs.declared.run_verdict.RunVerdict.{RunVerdict};
 ghost use Rattle.pf_top.specs.declared.text_file.TextRefusal.{TextRefusal};
 ghost use Rattle.pf_top.specs.declared.verdict.Verdict.{Verdict};
+ghost use Rattle.pf_top.specs.declared.verdict.FileWord.TheVariants.{Kernel};
 ghost use Rattle.pf_images.specs.Meaning.Outside.{Contents};
-ghost use Rattle.pf_top.specs.Meaning.Completeness.{IsCalm, IsRunnable, IsSelectable};
+ghost use Rattle.pf_kernel.specs.Meaning.Kernels.{Meaning};
+ghost use Rattle.pf_select.specs.Meaning.Targets.{HeadlineOn};
+ghost use Rattle.pf_top.specs.Meaning.Completeness.{IsCalm, IsImageThere, IsRunnable, IsSelectable};
 ghost use Rattle.pf_top.specs.Meaning.StoreCalls.{seen};
-ghost use Rattle.pf_top.specs.Meaning.KernelFiles.{kernels};
+ghost use Rattle.pf_top.specs.Meaning.KernelFiles.{kernels, IsKernelFile};
 ghost use Rattle.pf_top.specs.Meaning.KernelStatuses.{report_of_kernel};
 ghost use Rattle.pf_top.specs.Meaning.Running.{Run, IsRunCommand, RunEndsWith};
 ghost use Rattle.pf_top.specs.Meaning.RunStatuses.{report_of_run, report_of_text};
-ghost use Rattle.pf_top.specs.Meaning.Selections.{Select, IsSelect, EndsWith};
+ghost use Rattle.pf_top.specs.Meaning.Selections.{Select, IsSelect, OfJudged, EndsWith};
 ghost use Rattle.pf_top.specs.Meaning.SelectStatuses.{report_of_select};
 ghost use Rattle.pf_top.specs.Meaning.Statuses.{usage, ReportsLine, Reports, seen_output};
-ghost use Rattle.pf_top.specs.Meaning.TextFiles.{programs};
+ghost use Rattle.pf_top.specs.Meaning.TextFiles.{programs, text_limit};
 
 use crate::command::selection_of;
 use crate::eval::eval;
@@ -54,7 +62,13 @@ pub fn pitchfork<F: Files, S: Sink>(
         × Reports (report_of_select s v) (seen_output S.written S.faults S.calls out.old) result
         (seen_output S.written S.faults S.calls out.new) }
 
-    // The same of the words of `run`.
+    // Status 0 of `select`: the text under OUT keeps the headline's promise for the kernel that the
+    // kernel's file spells.
+    ensures headline { (s : Select) (k : Meaning) (old : Contents) → IsSelect (map string_bytes words.now.items) s
+        → F.held files.old ≡ Some old → OfJudged s Kernel (IsKernelFile k) old → result ≡ 0
+        → (new : Contents) × (text : List ℕ) × (F.held files.new ≡ Some new) × (new s.out ≡ Some text) × HeadlineOn s.target k.source text }
+
+    // The same as `selects` of the words of `run`.
     ensures runs { (r : Run) → IsRunCommand (codes "run") (map string_bytes words.now.items) r
         → (v : RunVerdict TextRefusal) × RunEndsWith programs r (seen F.held F.faults F.calls files.old) v (seen F.held F.faults F.calls files.new)
         × Reports (report_of_run report_of_text r v) (seen_output S.written S.faults S.calls out.old) result
@@ -79,6 +93,16 @@ pub fn pitchfork<F: Files, S: Sink>(
         → F.held files.old ≡ Some held → IsRunnable programs r held
         → IsCalm (F.faults files.old) (F.faults files.new) → IsCalm (S.faults out.old) (S.faults out.new)
         → (result ≡ 0) ⊎ (result ≡ 13) }
+
+    // `run` of a text that keeps the promise for a kernel does its work, or memory is wanting, and with
+    // status 0 leaves what `eval` of the kernel leaves: the file of its output.
+    ensures agrees { (r : Run) (target : Target) (source : Source) (text : List ℕ) (pictures : List Picture) (o : Picture) (old : Contents)
+        → IsRunCommand (codes "run") (map string_bytes words.now.items) r → F.held files.old ≡ Some old
+        → old r.text ≡ Some text → length text ≤ text_limit → HeadlineOn target source text
+        → length r.images ≡ length source.images → AllZip (IsImageThere old) (zip r.images source.images) pictures
+        → Keeps source pictures → Out source pictures o → IsPicture o
+        → (IsCalm (F.faults files.old) (F.faults files.new) → IsCalm (S.faults out.old) (S.faults out.new) → (result ≡ 0) ⊎ (result ≡ 13))
+        × (result ≡ 0 → (new : Contents) × (F.held files.new ≡ Some new) × (new r.out ≡ Some (pgm_text o))) }
 
     // `eval` does its work, or memory is wanting, on a kernel and images such as it asks for.
     ensures completes_eval { (e : Run) (held : Contents) → IsRunCommand (codes "eval") (map string_bytes words.now.items) e

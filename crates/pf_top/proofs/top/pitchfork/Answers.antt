@@ -2,13 +2,17 @@ use Rattle.std.proofs.Common.{◌≡◌, subst, sym}
 use Rattle.pf_top.specs.Steps.SelectSteps.{the_words}
 use Rattle.pf_top.specs.Steps.RunSteps.{the_run}
 use Rattle.pf_top.specs.Meaning.Completeness.{IsRunnable, IsSelectable}
-use Rattle.pf_top.specs.Meaning.KernelFiles.{kernels}
+use Rattle.pf_top.specs.declared.verdict.FileWord.TheVariants.{Kernel}
+use Rattle.pf_top.specs.Meaning.KernelFiles.{kernels, IsKernelFile}
+use Rattle.pf_top.specs.Meaning.Selections.{OfJudged}
 use Rattle.pf_top.specs.Meaning.KernelStatuses.{report_of_kernel}
 use Rattle.pf_top.specs.Meaning.RunStatuses.{report_of_text}
 use Rattle.pf_top.specs.Meaning.TextFiles.{programs}
+use Rattle.pf_top.proofs.Agreement.{agrees}
 use Rattle.pf_top.proofs.Completing.{complete}
 use Rattle.pf_top.proofs.CompletingSelection.{same_select, selection_completes}
 use Rattle.pf_top.proofs.Fits.{kernels_fit, programs_fit}
+use Rattle.pf_top.proofs.Promising.{Promise, promised}
 use Rattle.pf_top.proofs.SameWords.{same_run}
 use Rattle.pf_top.proofs.top.pitchfork.Goals as goal
 
@@ -45,3 +49,14 @@ pub returns-in-Some-clause-completes_select : goal.returns-in-Some-clause-comple
 returns-in-Some-clause-completes_select g c = λ s held is told can calm quiet.
     let same : the_words c.in-Some.words ≡ s = same_select _ _ _ c.in-Some.ensures (rw c.as_slice.ensures.value is) in
     selection_completes (the_words c.in-Some.words) held (subst (λ t. IsSelectable t held) (sym same) can) _ _ _ _ _ told calm quiet c.select-verdict.result c.select-verdict.ensures c.tell_verdict.ensures
+
+pub returns-in-Some-clause-headline : goal.returns-in-Some-clause-headline
+returns-in-Some-clause-headline g c = λ s k old is told spelled nought.
+    let same : the_words c.in-Some.words ≡ s = same_select _ _ _ c.in-Some.ensures (rw c.as_slice.ensures.value is) in
+    subst (λ t. Promise t k _) same
+    (promised (the_words c.in-Some.words) k old _ _ _ _ _ c.select-verdict.result told (subst (λ t. OfJudged t Kernel (IsKernelFile k) old) (sym same) spelled) nought c.select-verdict.ensures c.tell_verdict.ensures)
+
+pub returns-in-Some-run_of-clause-agrees : goal.returns-in-Some-run_of-clause-agrees
+returns-in-Some-run_of-clause-agrees g c = λ r target source text pictures o old is told.
+    let same : the_run c.in-Some-run_of.words ≡ r = same_run _ _ _ _ c.in-Some-run_of.ensures (rw c.as_slice-2.ensures.value is) in
+    rw (← same) (agrees (the_run c.in-Some-run_of.words) target source text pictures o old _ _ _ _ _ c.run-verdict.result told c.run-verdict.ensures c.tell_run_verdict.ensures)
