@@ -1,2 +1,5 @@
+pub mod Faults
+pub mod Needs
+pub mod Folds
 pub mod Rows
 pub mod AxiomSteps

@@ -1,1 +1,3 @@
-pub mod Folds
+pub mod Numbers
+pub mod Grants
+pub mod Groups

@@ -1,5 +1,5 @@
 use pf_ints::Interval;
-use std::alloc::{AllocError, AllocFailed};
+use pf_templates::BuildFault;
 
 /// Why a form isn't rewritten.
 #[derive(Debug, Drop)]
@@ -15,24 +15,16 @@ pub enum StepFault {
     Memory,
 }
 
-impl From<AllocError> for StepFault {
+impl From<BuildFault> for StepFault {
     ghost use Rattle.std.specs.Prelude.{◌≡◌};
-    ghost use Rattle.pf_axioms.specs.declared.fault.StepFault.TheVariants.{Memory};
+    ghost use Rattle.pf_axioms.specs.Meaning.Faults.{fault_of};
 
-    ghost from_gives = { λ _ e. e ≡ Memory };
+    ghost from_gives = { λ fault e. e ≡ fault_of fault };
 
-    fn from(_error: AllocError) -> StepFault {
-        StepFault::Memory
-    }
-}
-
-impl<T: Drop> From<AllocFailed<T>> for StepFault {
-    ghost use Rattle.std.specs.Prelude.{◌≡◌};
-    ghost use Rattle.pf_axioms.specs.declared.fault.StepFault.TheVariants.{Memory};
-
-    ghost from_gives = { λ _ e. e ≡ Memory };
-
-    fn from(_error: AllocFailed<T>) -> StepFault {
-        StepFault::Memory
+    fn from(fault: BuildFault) -> StepFault {
+        match fault {
+            BuildFault::TooWide => StepFault::TooWide,
+            BuildFault::Memory => StepFault::Memory,
+        }
     }
 }

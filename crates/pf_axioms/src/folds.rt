@@ -2,10 +2,10 @@ ghost use Rattle.std.specs.Prelude.{◌≡◌, ℕ, ℤ, List};
 ghost use Rattle.pf_ints.specs.Meaning.Ranges.{Range};
 ghost use Rattle.pf_forms.specs.Meaning.Shapes.{shape, Num};
 ghost use Rattle.pf_forms.specs.Meaning.Values.{IsFormOver};
-ghost use Rattle.pf_forms.specs.declared.axioms.Axiom.TheVariants.{Fold};
-ghost use Rattle.pf_axioms.specs.Meaning.Rows.{is_within_forms};
-ghost use Rattle.pf_axioms.specs.Steps.Folds.{IsNumberOf, AreNumbersOf};
-ghost use Rattle.pf_axioms.specs.Meaning.AxiomSteps.{GivesForm, limited, rewritten};
+ghost use Rattle.pf_axioms.specs.Meaning.Rows.{Folding};
+ghost use Rattle.pf_templates.specs.Meaning.Building.{is_within_forms};
+ghost use Rattle.pf_axioms.specs.Steps.Numbers.{IsNumberOf, AreNumbersOf};
+ghost use Rattle.pf_axioms.specs.Meaning.AxiomSteps.{GivesForm, limited, answer};
 
 use crate::fault::StepFault;
 use pf_forms::{Form, power};
@@ -14,7 +14,7 @@ use pf_ints::{FURTHEST, sat, wrap};
 /// An operation on numbers alone becomes its value.
 pub fn fold(form: &Form) -> Result<Form, StepFault>
     requires { (count : ℕ) × IsFormOver count (shape form.now) }
-    ensures { (ranges : List Range) → GivesForm result (rewritten Fold ranges (shape form.now)) }
+    ensures { (ranges : List Range) → GivesForm result (answer Folding ranges (shape form.now)) }
 {
     match form {
         Form::Var(_) | Form::Num(_) | Form::Pow(_) => Err(StepFault::NoMatch),

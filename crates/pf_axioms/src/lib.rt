@@ -3,7 +3,9 @@
 
 mod fault;
 mod folds;
-mod rows;
+mod grants;
+mod laws;
+mod needs;
 mod steps;
 
 pub use fault::StepFault;

@@ -1,14 +1,12 @@
-ghost use Rattle.std.specs.Prelude.{◌≡◌, length, IfOk};
-ghost use Rattle.pf_forms.specs.Meaning.Shapes.{shape};
+ghost use Rattle.std.specs.Prelude.{◌≡◌, ℕ, List, length, IfOk};
+ghost use Rattle.pf_forms.specs.Meaning.Shapes.{Shape, shape};
 ghost use Rattle.pf_forms.specs.Meaning.Values.{IsFormOver};
-ghost use Rattle.pf_axioms.specs.Meaning.AxiomSteps.{AxiomStep, KeepsValue, GivesForm, answer_of, rewritten};
+ghost use Rattle.pf_axioms.specs.Meaning.Rows.{axiom_row};
+ghost use Rattle.pf_axioms.specs.Meaning.AxiomSteps.{GivesForm, answer, answer_of, IsAnswer, IsOnly, AxiomStep, KeepsValue};
 
 use crate::fault::StepFault;
 use crate::folds::fold;
-use crate::rows::{
-    add_assoc, add_back, add_comm, add_zero, cancel, distribute, drop_wrap, mul_assoc, mul_back,
-    mul_comm, mul_one, sub_add, wrap_add, wrap_mul, wrap_wrap,
-};
+use crate::laws::{by_choices, by_orders, by_powers, by_products, by_quotients, by_sums, by_types};
 use pf_forms::{Axiom, Form};
 use pf_ints::IntervalList;
 use std::alloc::Global;
@@ -22,9 +20,10 @@ pub fn apply(
     ranges: &IntervalList,
 ) -> Result<Form, StepFault>
     requires { IsFormOver (length ranges.now) (shape form.now) }
-    ensures exactly { AxiomStep «axiom» ranges.now (shape form.now) (answer_of result) }
+    ensures value { GivesForm result (answer (axiom_row «axiom») ranges.now (shape form.now)) }
+    ensures exactly { IsAnswer (axiom_row «axiom») ranges.now (shape form.now) (answer_of result) }
+    ensures only { (g : Shape) → AxiomStep «axiom» ranges.now (shape form.now) g → IsOnly result g }
     ensures keeps { IfOk result (λ g. KeepsValue ranges.now (shape form.now) (shape g)) }
-    ensures value { GivesForm result (rewritten «axiom» ranges.now (shape form.now)) }
 {
     rewrite(alloc, axiom, form, ranges)
 }
@@ -36,24 +35,57 @@ fn rewrite(
     ranges: &IntervalList,
 ) -> Result<Form, StepFault>
     requires { IsFormOver (length ranges.now) (shape form.now) }
-    ensures { GivesForm result (rewritten «axiom» ranges.now (shape form.now)) }
+    ensures { GivesForm result (answer (axiom_row «axiom») ranges.now (shape form.now)) }
 {
     match axiom {
-        Axiom::AddComm => add_comm(alloc, form),
-        Axiom::AddAssoc => add_assoc(alloc, form),
-        Axiom::AddBack => add_back(alloc, form),
-        Axiom::AddZero => add_zero(alloc, form),
-        Axiom::SubAdd => sub_add(alloc, form),
-        Axiom::Cancel => cancel(form),
-        Axiom::MulComm => mul_comm(alloc, form),
-        Axiom::MulAssoc => mul_assoc(alloc, form),
-        Axiom::MulBack => mul_back(alloc, form),
-        Axiom::MulOne => mul_one(alloc, form),
-        Axiom::Distribute => distribute(alloc, form),
+        Axiom::AddComm
+        | Axiom::AddAssoc
+        | Axiom::AddBack
+        | Axiom::AddZero
+        | Axiom::SubAdd
+        | Axiom::Cancel => by_sums(alloc, axiom, form, ranges),
+        Axiom::MulComm
+        | Axiom::MulAssoc
+        | Axiom::MulBack
+        | Axiom::MulOne
+        | Axiom::Distribute
+        | Axiom::MulZero
+        | Axiom::Factor => by_products(alloc, axiom, form, ranges),
+        Axiom::DropWrap
+        | Axiom::WrapWrap
+        | Axiom::WrapAdd
+        | Axiom::WrapMul
+        | Axiom::DropSat
+        | Axiom::SatClamp
+        | Axiom::SatSat
+        | Axiom::SatHigh
+        | Axiom::SatLow => by_types(alloc, axiom, form, ranges),
+        Axiom::PowNum
+        | Axiom::NumPow
+        | Axiom::PowAdd
+        | Axiom::DivOne
+        | Axiom::DivDiv
+        | Axiom::DivScale => by_powers(alloc, axiom, form, ranges),
+        Axiom::DivOut
+        | Axiom::DivIn
+        | Axiom::DivInner
+        | Axiom::NegDiv
+        | Axiom::DivZero
+        | Axiom::DivNeg => by_quotients(alloc, axiom, form, ranges),
+        Axiom::MinComm
+        | Axiom::MaxComm
+        | Axiom::MinLeft
+        | Axiom::MaxLeft
+        | Axiom::MinAdd
+        | Axiom::MaxAdd
+        | Axiom::MinDiv
+        | Axiom::MaxDiv => by_orders(alloc, axiom, form, ranges),
+        Axiom::SelMax
+        | Axiom::SelMin
+        | Axiom::SelSame
+        | Axiom::MaxMinAbs
+        | Axiom::AbsPos
+        | Axiom::AbsNeg => by_choices(alloc, axiom, form, ranges),
         Axiom::Fold => fold(form),
-        Axiom::DropWrap => drop_wrap(alloc, form, ranges),
-        Axiom::WrapWrap => wrap_wrap(alloc, form),
-        Axiom::WrapAdd => wrap_add(alloc, form),
-        Axiom::WrapMul => wrap_mul(alloc, form),
     }
 }

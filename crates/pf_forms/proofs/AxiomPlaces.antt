@@ -1,12 +1,12 @@
 -- Every axiom stands in the list of all.
 use Rattle.std.proofs.Common.{◌≡◌, refl, ℕ, ◌<◌, List, [], ◌∷◌, get_or, lit<}
 use Rattle.pf_forms.specs.declared.axioms.Axiom.{Axiom}
-use Rattle.pf_forms.specs.declared.axioms.Axiom.TheVariants.{AddComm, AddAssoc, AddBack, AddZero, SubAdd, Cancel, MulComm, MulAssoc, MulBack, MulOne, Distribute, Fold, DropWrap, WrapWrap, WrapAdd, WrapMul}
+use Rattle.pf_forms.specs.declared.axioms.Axiom.TheVariants.{AddComm, AddAssoc, AddBack, AddZero, SubAdd, Cancel, MulComm, MulAssoc, MulBack, MulOne, Distribute, Fold, DropWrap, WrapWrap, WrapAdd, WrapMul, MulZero, Factor, PowNum, NumPow, PowAdd, DivOne, DivDiv, DivScale, DivOut, DivIn, DivInner, NegDiv, DivZero, DivNeg, DropSat, SatClamp, SatSat, SatHigh, SatLow, MinComm, MaxComm, MinLeft, MaxLeft, MinAdd, MaxAdd, MinDiv, MaxDiv, SelMax, SelMin, SelSame, MaxMinAbs, AbsPos, AbsNeg}
 
 abbrev all : List Axiom
-all = AddComm ∷ AddAssoc ∷ AddBack ∷ AddZero ∷ SubAdd ∷ Cancel ∷ MulComm ∷ MulAssoc ∷ MulBack ∷ MulOne ∷ Distribute ∷ Fold ∷ DropWrap ∷ WrapWrap ∷ WrapAdd ∷ WrapMul ∷ []
+all = AddComm ∷ AddAssoc ∷ AddBack ∷ AddZero ∷ SubAdd ∷ Cancel ∷ MulComm ∷ MulAssoc ∷ MulBack ∷ MulOne ∷ Distribute ∷ Fold ∷ DropWrap ∷ WrapWrap ∷ WrapAdd ∷ WrapMul ∷ MulZero ∷ Factor ∷ PowNum ∷ NumPow ∷ PowAdd ∷ DivOne ∷ DivDiv ∷ DivScale ∷ DivOut ∷ DivIn ∷ DivInner ∷ NegDiv ∷ DivZero ∷ DivNeg ∷ DropSat ∷ SatClamp ∷ SatSat ∷ SatHigh ∷ SatLow ∷ MinComm ∷ MaxComm ∷ MinLeft ∷ MaxLeft ∷ MinAdd ∷ MaxAdd ∷ MinDiv ∷ MaxDiv ∷ SelMax ∷ SelMin ∷ SelSame ∷ MaxMinAbs ∷ AbsPos ∷ AbsNeg ∷ []
 
-pub place_of : (a : Axiom) → (k : ℕ) × (k < 16) × (get_or all k AddComm ≡ a)
+pub place_of : (a : Axiom) → (k : ℕ) × (k < 49) × (get_or all k AddComm ≡ a)
 place_of AddComm = (0, lit< tt, refl)
 place_of AddAssoc = (1, lit< tt, refl)
 place_of AddBack = (2, lit< tt, refl)
@@ -23,3 +23,36 @@ place_of DropWrap = (12, lit< tt, refl)
 place_of WrapWrap = (13, lit< tt, refl)
 place_of WrapAdd = (14, lit< tt, refl)
 place_of WrapMul = (15, lit< tt, refl)
+place_of MulZero = (16, lit< tt, refl)
+place_of Factor = (17, lit< tt, refl)
+place_of PowNum = (18, lit< tt, refl)
+place_of NumPow = (19, lit< tt, refl)
+place_of PowAdd = (20, lit< tt, refl)
+place_of DivOne = (21, lit< tt, refl)
+place_of DivDiv = (22, lit< tt, refl)
+place_of DivScale = (23, lit< tt, refl)
+place_of DivOut = (24, lit< tt, refl)
+place_of DivIn = (25, lit< tt, refl)
+place_of DivInner = (26, lit< tt, refl)
+place_of NegDiv = (27, lit< tt, refl)
+place_of DivZero = (28, lit< tt, refl)
+place_of DivNeg = (29, lit< tt, refl)
+place_of DropSat = (30, lit< tt, refl)
+place_of SatClamp = (31, lit< tt, refl)
+place_of SatSat = (32, lit< tt, refl)
+place_of SatHigh = (33, lit< tt, refl)
+place_of SatLow = (34, lit< tt, refl)
+place_of MinComm = (35, lit< tt, refl)
+place_of MaxComm = (36, lit< tt, refl)
+place_of MinLeft = (37, lit< tt, refl)
+place_of MaxLeft = (38, lit< tt, refl)
+place_of MinAdd = (39, lit< tt, refl)
+place_of MaxAdd = (40, lit< tt, refl)
+place_of MinDiv = (41, lit< tt, refl)
+place_of MaxDiv = (42, lit< tt, refl)
+place_of SelMax = (43, lit< tt, refl)
+place_of SelMin = (44, lit< tt, refl)
+place_of SelSame = (45, lit< tt, refl)
+place_of MaxMinAbs = (46, lit< tt, refl)
+place_of AbsPos = (47, lit< tt, refl)
+place_of AbsNeg = (48, lit< tt, refl)

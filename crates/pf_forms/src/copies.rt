@@ -35,7 +35,7 @@ impl Form {
 
 /// An equal form, boxed.
 #[cycle(copying)]
-pub fn boxed(alloc: Global, form: &Form) -> Result<Box<Form>, AllocError>
+fn boxed(alloc: Global, form: &Form) -> Result<Box<Form>, AllocError>
     ensures { IfOk result (λ b. shape b.value ≡ shape form.now) }
 {
     Ok(Box::new(alloc, form.copy(alloc)?)?)

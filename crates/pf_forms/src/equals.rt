@@ -37,7 +37,8 @@ fn compare(a: &Form, b: &Form) -> bool
     }
 }
 
-fn same_type(s: LaneType, t: LaneType) -> bool
+/// Whether two types are the same.
+pub fn same_type(s: LaneType, t: LaneType) -> bool
     ensures { result ≡ same_type s t }
 {
     s.signed() == t.signed() && s.width() == t.width()

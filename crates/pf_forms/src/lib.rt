@@ -12,8 +12,7 @@ mod texts;
 
 pub use axioms::Axiom;
 pub use bounds::{form_bounds, power};
-pub use copies::boxed;
-pub use equals::equal;
+pub use equals::{equal, same_type};
 pub use form::Form;
 pub use parts::{at, child_of, put};
 pub use sizes::size;

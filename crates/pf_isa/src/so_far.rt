@@ -44,7 +44,7 @@ pub enum Stage {
 }
 
 /// What the lines of a head so far say.
-#[derive(Debug, Drop)]
+#[derive(Drop)]
 pub struct HeadSoFar {
     stage: Stage,
     head: Head,

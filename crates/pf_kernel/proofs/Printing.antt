@@ -1,5 +1,7 @@
 -- A kernel's terms can be printed.
-use Rattle.std.proofs.Common.{◌≡◌, ap, subst, ℕ, zero, suc, ◌<◌, List, [], ◌∷◌, ◌++◌, length, map, get_or, append_assoc, append-nil, arith, true}
+use Rattle.std.proofs.Common.{◌≡◌, ap, sym, ◌∙◌, subst, ℕ, zero, suc, ◌+◌, ◌<◌, drop, List, [], ◌∷◌, ◌++◌, length, map, get_or, append_assoc, append-nil, arith, true}
+use Rattle.std.specs.List.{flat_map}
+use Rattle.std.proofs.lemmas.List.{drop_more}
 use Rattle.pf_values.specs.declared.kernel.Definition.{Definition}
 use Rattle.pf_values.specs.declared.names.DefName.{DefName}
 use Rattle.pf_values.specs.declared.names.Names.{Names}
@@ -28,3 +30,10 @@ all_printable a (e ∷ ds) h (suc k) d less =
 
 pub defs_printable : (k : Meaning) → IsKernelOf k → (n : ℕ) (d : Definition) → n < length k.source.defs → IsPrintable (names_of k.source) (get_or k.source.defs n d).term
 defs_printable k h n d less = all_printable _ k.source.defs h.defs n d less
+
+-- one more text is written
+pub written_next : {A : Type 0} (f : A → List ℕ) (xs : List A) (i : ℕ) (x : A) (text now whole : List ℕ) → i < length xs → x ≡ get_or xs i x → now ≡ text ++ f x →
+    text ++ flat_map f (drop i xs) ≡ whole → now ++ flat_map f (drop (i + 1) xs) ≡ whole
+written_next f xs i x text now whole below at is onward =
+    ap (λ t. t ++ flat_map f (drop (i + 1) xs)) is ∙ append_assoc text (f x) (flat_map f (drop (i + 1) xs))
+    ∙ ap (λ ys. text ++ flat_map f ys) (ap (λ y. y ∷ drop (i + 1) xs) at ∙ sym (drop_more xs i x below)) ∙ onward

@@ -1,22 +1,22 @@
-ghost use Rattle.std.specs.Prelude.{◌≡◌, ◌+◌, ◌≤◌, ◌-◌, ◌^◌, ◌<◌, ◌∷◌, [], min, true, false, not, length, IfOk, IfErr, OnOk, Ok, Err, Some, None, slice_index_or};
+ghost use Rattle.std.specs.Prelude.{◌≡◌, ◌+◌, ◌≤◌, ◌-◌, ◌^◌, ◌<◌, ◌∷◌, [], min, true, false, not, length, IfOk, IfErr, OnOk, Ok, Err, Some, None};
 ghost use Rattle.pf_values.specs.declared.limit.LimitKind.TheVariants.{Definitions, Depth, Nodes};
 ghost use Rattle.pf_terms.specs.declared.parse.syntax_tree.SyntaxTree.{SyntaxTree};
 ghost use Rattle.pf_terms.specs.declared.meaning.ReadFault.TheVariants.{Limit, Memory};
 ghost use Rattle.pf_values.specs.declared.term.Term.{Term};
 ghost use Rattle.pf_terms.specs.Meaning.SyntaxTrees.{IsTreeText};
 ghost use Rattle.pf_terms.specs.Meaning.KernelNames.{IsNames};
-ghost use Rattle.pf_terms.specs.Meaning.Meanings.{IsReadFault, def_number, image_number, IsTermOr, IsTermText, first_some, names_after, term_of};
-ghost use Rattle.pf_values.specs.Meaning.Terms.{stated_type, same_type, node_count, depth_of, result_type, typed_as, doubled};
-ghost use Rattle.pf_values.specs.Meaning.NamedTerms.{no_image, no_def};
+ghost use Rattle.pf_terms.specs.Meaning.Meanings.{IsReadFault, IsTermOr, IsTermText, first_some, names_after, term_of};
+ghost use Rattle.pf_values.specs.Meaning.Terms.{stated_type, same_type, node_count, depth_of, result_type};
 ghost use Rattle.pf_kernel.specs.Steps.Expressions.{Judges, JudgesTerm, Tells, IsRefused, tree_type, term_fault, limit_fault, defs_before};
 ghost use Rattle.pf_kernel.specs.Meaning.Kernels.{IsTermOf};
 ghost use Rattle.pf_kernel.specs.Meaning.Lines.{expression_faults, mistyped, more_than, capped_count};
 
-use pf_ints::{Bits, LaneType, Name};
+use pf_ints::LaneType;
 use pf_terms::{
-    DefName, Gives, ImageName, LimitKind, Names, ReadFault, SyntaxTree, Term, depth, nodes,
-    read_draft, read_term,
+    Gives, LimitKind, Names, ReadFault, SyntaxTree, Term, def_number, def_type, depth,
+    image_number, image_type, nodes, read_draft, read_term, stated_type,
 };
+use pf_values::result_type;
 use std::alloc::Global;
 
 // How many definitions a kernel may have, how deep a term may be, and how many nodes all terms may
@@ -34,7 +34,7 @@ const MOST_COUNT: u64 = 0x7fff_ffff_ffff_ffff;
 const NO_TYPE: LaneType = LaneType::U8;
 
 /// What a term is judged by beside its names.
-#[derive(Clone, Copy, Debug)]
+#[derive(Clone, Copy)]
 pub struct Measure {
     /// The type that its line declares.
     pub ty: LaneType,
@@ -201,8 +201,8 @@ fn tree_type(names: &Names, tree: &SyntaxTree) -> LaneType
 {
     match tree {
         SyntaxTree::Number(_, ty) => *ty,
-        SyntaxTree::Name(name) => def_type(names.defs.as_slice(), name),
-        SyntaxTree::Tap(name, ..) => image_type(names.images.as_slice(), name),
+        SyntaxTree::Name(name) => def_type(&names.defs, def_number(&names.defs, name)),
+        SyntaxTree::Tap(name, ..) => image_type(&names.images, image_number(&names.images, name)),
         SyntaxTree::Node {
             op,
             less,
@@ -226,68 +226,7 @@ fn tree_type(names: &Names, tree: &SyntaxTree) -> LaneType
 fn given(gives: Gives, ty: LaneType, x: LaneType) -> LaneType
     ensures { result ≡ result_type gives ty (x ∷ x ∷ x ∷ []) }
 {
-    match gives {
-        Gives::Stated => ty,
-        Gives::First => x,
-        Gives::Unsigned => of_bits(false, x.bits),
-        Gives::Twice => of_bits(x.signed, doubled(x.bits)),
-        Gives::SignedTwice => of_bits(true, doubled(x.bits)),
-        Gives::Third => x,
-    }
-}
-
-fn def_type(defs: &[DefName], name: &Name) -> LaneType
-    ensures { result ≡ (slice_index_or defs.now (def_number defs.now name.now) no_def).ty }
-{
-    match defs {
-        [] => NO_TYPE,
-        [def, rest @ ..] => {
-            if def.name.as_slice() == name.as_slice() {
-                def.ty
-            } else {
-                def_type(rest, name)
-            }
-        }
-    }
-}
-
-fn image_type(images: &[ImageName], name: &Name) -> LaneType
-    ensures { result ≡ (slice_index_or images.now (image_number images.now name.now) no_image).ty }
-{
-    match images {
-        [] => NO_TYPE,
-        [image, rest @ ..] => {
-            if image.name.as_slice() == name.as_slice() {
-                image.ty
-            } else {
-                image_type(rest, name)
-            }
-        }
-    }
-}
-
-fn of_bits(signed: bool, bits: Bits) -> LaneType
-    ensures { result ≡ typed_as signed bits }
-{
-    LaneType { signed, bits }
-}
-
-fn doubled(bits: Bits) -> Bits
-    ensures { result ≡ doubled bits }
-{
-    match bits {
-        Bits::Eight => Bits::Sixteen,
-        _ => Bits::ThirtyTwo,
-    }
-}
-
-fn stated_type(term: &Term) -> LaneType
-    ensures { result ≡ stated_type term.now }
-{
-    match term {
-        Term::Leaf { ty, .. } => *ty,
-        Term::Node { ty, .. } => *ty,
-    }
+    result_type(gives, ty, &[x, x, x])
 }
 
 fn is_same(a: LaneType, b: LaneType) -> bool

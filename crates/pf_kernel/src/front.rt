@@ -8,7 +8,7 @@ use pf_ints::{LaneType, Name};
 use pf_terms::{ImageDecl, LineWord, Token, TokenKind};
 
 /// What a line says in front of its expression, or at all where it has none.
-#[derive(Clone, Copy, Debug)]
+#[derive(Clone, Copy)]
 pub enum Front {
     Kernel(Name),
     Image(ImageDecl),

@@ -16,7 +16,7 @@ use pf_terms::{
 use std::alloc::{AllocError, Global};
 
 /// What the first lines of a kernel's text say.
-#[derive(Debug, Drop)]
+#[derive(Drop)]
 pub struct Reading {
     pub name: Option<Name>,
     pub images: ImageList,

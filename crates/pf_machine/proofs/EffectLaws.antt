@@ -20,21 +20,21 @@ not_later : (d r : Reg) (ds : List Reg) → (Contains (d ∷ ds) r → ⊥) → 
 not_later d r ds none = λ c. none (suc c.0, omega (arith, c.1), c.2)
 
 -- another register keeps what it holds
-kept : (f : RegFile) (d r : Reg) (held : List ℕ) → d ≢ r → read (write f d held) r ≡ read f r
-kept f (V n) (V m) held other = get_or-set_other f.vectors n m held [] (λ e. other (ap V (sym e)))
-kept f (V n) K held other = refl
-kept f (V n) Q held other = refl
-kept f K (V m) held other = refl
-kept f K K held other = absurd (other refl)
-kept f K Q held other = refl
-kept f Q (V m) held other = refl
-kept f Q K held other = refl
-kept f Q Q held other = absurd (other refl)
+pub write_kept : (f : RegFile) (d r : Reg) (held : List ℕ) → d ≢ r → read (write f d held) r ≡ read f r
+write_kept f (V n) (V m) held other = get_or-set_other f.vectors n m held [] (λ e. other (ap V (sym e)))
+write_kept f (V n) K held other = refl
+write_kept f (V n) Q held other = refl
+write_kept f K (V m) held other = refl
+write_kept f K K held other = absurd (other refl)
+write_kept f K Q held other = refl
+write_kept f Q (V m) held other = refl
+write_kept f Q K held other = refl
+write_kept f Q Q held other = absurd (other refl)
 
 writes_kept : (f : RegFile) (ds : List Reg) (hs : List (List ℕ)) (r : Reg) → (Contains ds r → ⊥) → read (writes f ds hs) r ≡ read f r
 writes_kept f [] hs r none = refl
 writes_kept f (d ∷ ds) [] r none = refl
-writes_kept f (d ∷ ds) (h ∷ hs) r none = writes_kept (write f d h) ds hs r (not_later d r ds none) ∙ kept f d r h (not_first d r ds none)
+writes_kept f (d ∷ ds) (h ∷ hs) r none = writes_kept (write f d h) ds hs r (not_later d r ds none) ∙ write_kept f d r h (not_first d r ds none)
 
 pub changes_defs : {O : Type 0} (t : Table O) → ChangesDefs t
 changes_defs t op f r none = writes_kept f (t.defs op) (t.outcome op (reads f (t.uses op))) r none
@@ -55,16 +55,18 @@ first_in : (f : RegFile) (d : Reg) (ds : List Reg) → AreIn f (d ∷ ds) → Is
 first_in f d ds inside = All-head (λ r. IsRegisterOf (length f.vectors) r) d ds inside
 
 -- what is written over two files is the same in both
-same_written : (f g : RegFile) (d : Reg) (held : List ℕ) → IsRegisterOf (length f.vectors) d → IsRegisterOf (length g.vectors) d → read (write f d held) d ≡ read (write g d held) d
+same_written : (f g : RegFile) (d : Reg) (held : List ℕ) → IsRegisterOf (length f.vectors) d → IsRegisterOf (length g.vectors) d
+    → read (write f d held) d ≡ read (write g d held) d
 same_written f g (V n) held left right = get_or-set_same f.vectors n held [] left ∙ sym (get_or-set_same g.vectors n held [] right)
 same_written f g K held left right = refl
 same_written f g Q held left right = refl
 
-still_same : (f g : RegFile) (d r : Reg) (held : List ℕ) → IsRegisterOf (length f.vectors) d → IsRegisterOf (length g.vectors) d → read f r ≡ read g r → read (write f d held) r ≡ read (write g d held) r
+still_same : (f g : RegFile) (d r : Reg) (held : List ℕ) → IsRegisterOf (length f.vectors) d → IsRegisterOf (length g.vectors) d → read f r ≡ read g r
+    → read (write f d held) r ≡ read (write g d held) r
 still_same f g (V n) (V m) held left right same =
     ⊎_elim
     (λ (e : n ≡ m). rw (← e) (same_written f g (V n) held left right))
-    (λ (other : n ≡ m → ⊥). kept f (V n) (V m) held (λ e. other (vector_is e)) ∙ same ∙ sym (kept g (V n) (V m) held (λ e. other (vector_is e))))
+    (λ (other : n ≡ m → ⊥). write_kept f (V n) (V m) held (λ e. other (vector_is e)) ∙ same ∙ sym (write_kept g (V n) (V m) held (λ e. other (vector_is e))))
     (cases_eq n m)
   where
     vector_is : {a b : ℕ} → ◌≡◌ {A = Reg} (V a) (V b) → a ≡ b
@@ -78,14 +80,16 @@ still_same f g Q (V m) held left right same = same
 still_same f g Q K held left right same = same
 still_same f g Q Q held left right same = refl
 
-all_same : (f g : RegFile) (ds : List Reg) (hs : List (List ℕ)) (r : Reg) → AreIn f ds → AreIn g ds → read f r ≡ read g r → read (writes f ds hs) r ≡ read (writes g ds hs) r
+all_same : (f g : RegFile) (ds : List Reg) (hs : List (List ℕ)) (r : Reg) → AreIn f ds → AreIn g ds → read f r ≡ read g r
+    → read (writes f ds hs) r ≡ read (writes g ds hs) r
 all_same f g [] hs r left right same = same
 all_same f g (d ∷ ds) [] r left right same = same
 all_same f g (d ∷ ds) (h ∷ hs) r left right same =
     all_same (write f d h) (write g d h) ds hs r (later_in f d ds h left) (later_in g d ds h right) (still_same f g d r h (first_in f d ds left) (first_in g d ds right) same)
 
 -- with a result for each register, all of them hold the same behind the writes
-written_same : (f g : RegFile) (ds : List Reg) (hs : List (List ℕ)) (r : Reg) → length hs ≡ length ds → AreIn f ds → AreIn g ds → Contains ds r → read (writes f ds hs) r ≡ read (writes g ds hs) r
+written_same : (f g : RegFile) (ds : List Reg) (hs : List (List ℕ)) (r : Reg) → length hs ≡ length ds → AreIn f ds → AreIn g ds → Contains ds r
+    → read (writes f ds hs) r ≡ read (writes g ds hs) r
 written_same f g [] hs r whole left right c = absurd (omega (arith, c.1))
 written_same f g (d ∷ ds) [] r whole left right c = absurd (omega arith)
 written_same f g (d ∷ ds) (h ∷ hs) r whole left right (zero, inside, is) =
@@ -107,7 +111,8 @@ reads_uses t is_op laws op f g is left right same =
     alike ∙ ap (λ held. reads (writes g (t.defs op) (t.outcome op held)) (t.defs op)) same
 
 -- the new names read what the old ones read
-reads_renamed : (from to : ℕ) (f g : RegFile) (rs : List Reg) → IsRenamed from to f g → (Contains rs (V to) → ⊥) → reads f rs ≡ reads g (map (λ r. renamed_register from to r) rs)
+reads_renamed : (from to : ℕ) (f g : RegFile) (rs : List Reg) → IsRenamed from to f g → (Contains rs (V to) → ⊥)
+    → reads f rs ≡ reads g (map (λ r. renamed_register from to r) rs)
 reads_renamed from to f g [] other none = refl
 reads_renamed from to f g (r ∷ rs) other none = rw (other.same r (not_first r (V to) rs none), reads_renamed from to f g rs other (not_later r (V to) rs none)) refl
 
@@ -115,7 +120,8 @@ renamed_apart : (from to n m : ℕ) → n ≢ to → m ≢ to → n ≢ m → re
 renamed_apart from to n m a b differ e = grind (arith, nat_tests)
 
 -- a write under the new name
-renamed_written : (from to : ℕ) (f g : RegFile) (d r : Reg) (held : List ℕ) → IsRenamed from to f g → d ≢ V to → r ≢ V to → IsRegisterOf (length f.vectors) d → IsRegisterOf (length g.vectors) (renamed_register from to d)
+renamed_written : (from to : ℕ) (f g : RegFile) (d r : Reg) (held : List ℕ) → IsRenamed from to f g → d ≢ V to → r ≢ V to → IsRegisterOf (length f.vectors) d
+    → IsRegisterOf (length g.vectors) (renamed_register from to d)
     → read (write f d held) r ≡ read (write g (renamed_register from to d) held) (renamed_register from to r)
 renamed_written from to f g (V n) (V m) held other a b left right =
     ⊎_elim
@@ -133,7 +139,8 @@ renamed_written from to f g Q (V m) held other a b left right = other.same (V m)
 renamed_written from to f g Q K held other a b left right = other.same K b
 renamed_written from to f g Q Q held other a b left right = refl
 
-writes_renamed : (from to : ℕ) (f g : RegFile) (ds : List Reg) (hs : List (List ℕ)) → IsRenamed from to f g → (Contains ds (V to) → ⊥) → AreIn f ds → AreIn g (map (λ r. renamed_register from to r) ds)
+writes_renamed : (from to : ℕ) (f g : RegFile) (ds : List Reg) (hs : List (List ℕ)) → IsRenamed from to f g → (Contains ds (V to) → ⊥) → AreIn f ds
+    → AreIn g (map (λ r. renamed_register from to r) ds)
     → IsRenamed from to (writes f ds hs) (writes g (map (λ r. renamed_register from to r) ds) hs)
 writes_renamed from to f g [] hs other none left right = other
 writes_renamed from to f g (d ∷ ds) [] other none left right = other

@@ -1,6 +1,8 @@
 pub mod ByteLaws
 pub mod EffectLaws
 pub mod MemoryLaws
+pub mod FileLaws
+pub mod BlockLaws
 pub mod StepLaws
 pub mod RowLaws
 pub mod MachineLaws

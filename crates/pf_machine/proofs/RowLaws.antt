@@ -1,13 +1,14 @@
 -- From rows to images.
-use Rattle.std.proofs.Common.{◌≡◌, ℕ, zero, suc, ◌+◌, ◌*◌, ◌<◌, ◌≤◌, List, [], ◌∷◌, ◌++◌, length, map, take, drop, get_or, refl, sym, ap, ◌∙◌, arith, append_assoc, length-append, length-take, length-drop, append-nil, ◌^◌, All, inl, inr, ⊎_elim, true}
+use Rattle.std.proofs.Common.{◌≡◌, ℕ, zero, suc, ◌+◌, ◌*◌, ◌<◌, ◌≤◌, List, [], ◌∷◌, ◌++◌, length, map, take, drop, get_or, refl, sym, subst, ap, ◌∙◌, arith, append_assoc, length-append, length-take, length-drop, append-nil, ◌^◌, All, inl, inr, ⊎_elim, true}
 use Rattle.std.specs.Prelude.{ℤ, pos, ◌≤ℤ◌, unsigned_abs, replicate}
 use Rattle.std.specs.List.{range_with_len, flat_map, AllPairs}
 use Rattle.std.proofs.lemmas.List.{take_at, take_all, length-take-le, get_or_append_left, get_or-append-add, get_or-map, length-map, length-replicate, map-append}
+use Rattle.std.proofs.lemmas.List.Elements.{All-append, All-take, All-drop}
 use Rattle.std.proofs.Math.Nat.{mul_assoc}
 use Rattle.std.proofs.lemmas.Int.{ints}
 use Rattle.std.proofs.lemmas.Nat.{column_fits}
 use Rattle.std.proofs.lemmas.List.FromFn.{length-map-range_with_len, get_or-map-range_with_len}
-use Rattle.pf_machine.specs.Meaning.Bytes.{packed}
+use Rattle.pf_machine.specs.Meaning.Bytes.{AreBytes, packed}
 use Rattle.pf_machine.specs.Meaning.Memory.{Apart}
 use Rattle.pf_machine.specs.declared.memory.Region.{Region}
 use Rattle.pf_ints.specs.Meaning.Images.{Picture}
@@ -17,17 +18,27 @@ use Rattle.pf_machine.specs.Meaning.Tables.{Table}
 use Rattle.pf_machine.specs.Meaning.Programs.{ProgramOf}
 use Rattle.pf_machine.specs.Meaning.Runs.{Places, pixel_bytes, pixels_in_memory, columns, rows, region, image_regions, memory, row_entries, row_budget, table_size, output_size, IsPlaced, rows_from, Finished, Runs, Leaves}
 use Rattle.pf_machine.specs.Meaning.RowEnds.{row_size, with_row, RowDone, RowsDone, row_values, image_values, output_picture, row_in_memory}
-use Rattle.pf_machine.proofs.ByteLaws.{packed-append, length-packed}
+use Rattle.pf_machine.proofs.ByteLaws.{packed-append, length-packed, packed_below}
 
 -- the rows up to one that is written, and that one
-pub take-with_row : (output row : List ℕ) (size y : ℕ) → size * y ≤ length output → length row ≡ size → take (size * suc y) (with_row output size y row) ≡ take (size * y) output ++ row
+pub take-with_row : (output row : List ℕ) (size y : ℕ) → size * y ≤ length output → length row ≡ size
+    → take (size * suc y) (with_row output size y row) ≡ take (size * y) output ++ row
 take-with_row output row size y inside long =
     let front : length (take (size * y) output ++ row) ≡ size * suc y = rw (length-append, length-take-le (size * y) output inside, long) (omega arith) in
     rw (← append_assoc) (take_at (take (size * y) output ++ row) (drop (size * y + size) output) (size * suc y) front)
 
 -- a row leaves the output its size
-pub length-with_row : (output row : List ℕ) (size y : ℕ) → size * y + size ≤ length output → length row ≡ size → length (with_row output size y row) ≡ length output
+pub length-with_row : (output row : List ℕ) (size y : ℕ) → size * y + size ≤ length output → length row ≡ size
+    → length (with_row output size y row) ≡ length output
 length-with_row output row size y inside long = simp (length-append, length-take, length-drop) (omega arith)
+
+bytes-with_row : (count : ℕ) (output row : List ℕ) (size y : ℕ) → size * y + size ≤ length output → AreBytes count output → AreBytes size row
+    → AreBytes count (with_row output size y row)
+bytes-with_row count output row size y inside are row_are = record {
+  size = length-with_row output row size y inside row_are.size ∙ are.size;
+  small = All-append (λ b. b < 256) (take (size * y) output) (row ++ drop (size * y + size) output) (All-take (λ b. b < 256) (size * y) output are.small)
+      (All-append (λ b. b < 256) row (drop (size * y + size) output) row_are.small (All-drop (λ b. b < 256) (size * y + size) output are.small));
+}
 
 -- pixels in rows, from row a on
 pub length-rows : (f : ℕ → List ℕ) (width a n : ℕ) → ((y : ℕ) → a ≤ y → y < a + n → length (f y) ≡ width) → length (flat_map f (range_with_len a n)) ≡ width * n
@@ -37,7 +48,8 @@ length-rows f width a (suc n) long =
     let rest : length (flat_map f (range_with_len (a + 1) n)) ≡ width * n = length-rows f width (a + 1) n (λ y low high. long y (omega arith) (omega arith)) in
     rw (length-append, here, rest) (omega arith)
 
-pub get_or-rows : (f : ℕ → List ℕ) (width a n x i d : ℕ) → ((y : ℕ) → a ≤ y → y < a + n → length (f y) ≡ width) → x < width → i < n → get_or (flat_map f (range_with_len a n)) (width * i + x) d ≡ get_or (f (a + i)) x d
+pub get_or-rows : (f : ℕ → List ℕ) (width a n x i d : ℕ) → ((y : ℕ) → a ≤ y → y < a + n → length (f y) ≡ width) → x < width → i < n
+    → get_or (flat_map f (range_with_len a n)) (width * i + x) d ≡ get_or (f (a + i)) x d
 get_or-rows f width a zero x i d long column row = absurd (omega arith)
 get_or-rows f width a (suc n) x zero d long column row =
     let here : length (f a) ≡ width = long a (omega arith) (omega arith) in
@@ -57,7 +69,8 @@ length-row_values value width y = length-map-range_with_len (λ x. value x y) 0 
 pub length-image_values : (value : ℕ → ℕ → ℕ) (width height : ℕ) → length (image_values value width height) ≡ width * height
 length-image_values value width height = length-rows (λ y. row_values value width y) width 0 height (λ y low high. length-row_values value width y)
 
-pub get_or-image_values : (value : ℕ → ℕ → ℕ) (width height x y d : ℕ) → x < width → y < height → get_or (image_values value width height) (width * y + x) d ≡ value x y
+pub get_or-image_values : (value : ℕ → ℕ → ℕ) (width height x y d : ℕ) → x < width → y < height
+    → get_or (image_values value width height) (width * y + x) d ≡ value x y
 get_or-image_values value width height x y d column row =
     let at : 0 + y ≡ y = omega arith in
     get_or-rows (λ y. row_values value width y) width 0 height x y d (λ y low high. length-row_values value width y) column row
@@ -80,10 +93,11 @@ module _ {I O : Type 0} (t : Table O) (p : ProgramOf I O) (pictures : List Pictu
     kept_size : length kept ≡ length scratch
     ends : rows_from t p at.table (row_budget (length p.code) (length p.head.taps) (columns p.head pictures)) (λ y. row_entries p.head pictures at y) left y (memory pictures at table scratch output) ≡ Finished (memory pictures at table_left kept whole)
 
-  rows_left : (left y : ℕ) (table scratch output : List ℕ) → y + left ≡ rows p.head pictures → length scratch ≡ p.head.scratch → length output ≡ row_size p.head pictures * rows p.head pictures
+  rows_left : (left y : ℕ) (table scratch output : List ℕ) → y + left ≡ rows p.head pictures → AreBytes p.head.scratch scratch
+      → AreBytes (row_size p.head pictures * rows p.head pictures) output
       → RowsLeft left y table scratch output (take (row_size p.head pictures * y) output ++ flat_map row (range_with_len y left))
   rows_left zero y table scratch output count small long =
-      let size : length output ≡ row_size p.head pictures * y = long ∙ ap (λ n. row_size p.head pictures * n) (omega arith) in
+      let size : length output ≡ row_size p.head pictures * y = long.size ∙ ap (λ n. row_size p.head pictures * n) (omega arith) in
       let whole : take (row_size p.head pictures * y) output ++ [] ≡ output = append-nil _ ∙ take_all (row_size p.head pictures * y) output (omega arith) in
       record {
         table_left = table;
@@ -94,11 +108,12 @@ module _ {I O : Type 0} (t : Table O) (p : ProgramOf I O) (pictures : List Pictu
   rows_left (suc left) y table scratch output count small long =
       let size = row_size p.head pictures in
       let inside : y < rows p.head pictures = omega arith in
-      let here : RowDone t p pictures at y (row y) scratch output = done.each y inside scratch output small (long ∙ sym (output_in_rows p.head pictures)) in
-      let width : length (row y) ≡ size = done.size y inside in
-      let fits : size * y + size ≤ length output = rw long (column_fits size y size (rows p.head pictures) inside (omega arith)) in
-      let kept_small : length here.kept ≡ p.head.scratch = here.kept_size ∙ small in
-      let kept_long : length (with_row output size y (row y)) ≡ size * rows p.head pictures = length-with_row output (row y) size y fits width ∙ long in
+      let here : RowDone t p pictures at y (row y) scratch output = done.each y inside scratch output small (subst (λ n. AreBytes n output) (sym (output_in_rows p.head pictures)) long) in
+      let row_are : AreBytes size (row y) = done.bytes y inside in
+      let width = row_are.size in
+      let fits : size * y + size ≤ length output = rw (long.size) (column_fits size y size (rows p.head pictures) inside (omega arith)) in
+      let kept_small : AreBytes p.head.scratch here.kept = subst (λ n. AreBytes n here.kept) small.size here.kept_bytes in
+      let kept_long : AreBytes (size * rows p.head pictures) (with_row output size y (row y)) = bytes-with_row (size * rows p.head pictures) output (row y) size y fits long row_are in
       let rest = rows_left left (suc y) (packed 8 (row_entries p.head pictures at y)) here.kept (with_row output size y (row y)) (omega arith) kept_small kept_long in
       let next : y + 1 ≡ suc y = omega arith in
       let whole : take (size * suc y) (with_row output size y (row y)) ++ flat_map row (range_with_len (suc y) left) ≡ take (size * y) output ++ (row y ++ flat_map row (range_with_len (y + 1) left)) =
@@ -106,16 +121,16 @@ module _ {I O : Type 0} (t : Table O) (p : ProgramOf I O) (pictures : List Pictu
       record {
         table_left = rest.table_left;
         kept = rest.kept;
-        kept_size = rest.kept_size ∙ here.kept_size;
+        kept_size = let kept = here.kept_bytes in rest.kept_size ∙ kept.size;
         ends = rw (here.ends, here.regions) (rest.ends ∙ ap (λ o. Finished (memory pictures at rest.table_left rest.kept o)) whole);
       }
 
   -- All rows from the first on end, and leave their bytes one after another, whatever was in the scratch and the output.
-  pub rows_end : (scratch output : List ℕ) → length scratch ≡ p.head.scratch → length output ≡ output_size p.head pictures
+  pub rows_end : (scratch output : List ℕ) → AreBytes p.head.scratch scratch → AreBytes (output_size p.head pictures) output
       → (table : List ℕ) × (kept : List ℕ) × (length kept ≡ length scratch) × (Runs t p pictures at scratch output ≡ Finished (memory pictures at table kept (flat_map row (range_with_len 0 (rows p.head pictures)))))
   rows_end scratch output small long =
       let size = row_size p.head pictures in
-      let all = rows_left (rows p.head pictures) 0 (replicate (table_size p.head) 0) scratch output (omega arith) small (long ∙ output_in_rows p.head pictures) in
+      let all = rows_left (rows p.head pictures) 0 (replicate (table_size p.head) 0) scratch output (omega arith) small (subst (λ n. AreBytes n output) (output_in_rows p.head pictures) long) in
       let none : size * 0 ≡ 0 = omega arith in
       (all.table_left, all.kept, all.kept_size, (rw none at all.ends))
 
@@ -125,16 +140,24 @@ pub length-row_in_memory : (value : ℕ → ℕ → ℕ) (h : Head) (pictures : 
 length-row_in_memory value h pictures y =
     length-packed (pixel_bytes h.out_ty) (row_values value (columns h pictures) y) ∙ ap (λ n. pixel_bytes h.out_ty * n) (length-row_values value (columns h pictures) y)
 
-pub rows_in_memory : (value : ℕ → ℕ → ℕ) (h : Head) (pictures : List Picture) → flat_map (row_in_memory value h pictures) (range_with_len 0 (rows h pictures)) ≡ pixels_in_memory h.out_ty (output_picture value h pictures).pixels
+bytes-row_in_memory : (value : ℕ → ℕ → ℕ) (h : Head) (pictures : List Picture) (y : ℕ) → AreBytes (row_size h pictures) (row_in_memory value h pictures y)
+bytes-row_in_memory value h pictures y = record {
+  size = length-row_in_memory value h pictures y;
+  small = packed_below (pixel_bytes h.out_ty) (row_values value (columns h pictures) y);
+}
+
+pub rows_in_memory : (value : ℕ → ℕ → ℕ) (h : Head) (pictures : List Picture)
+    → flat_map (row_in_memory value h pictures) (range_with_len 0 (rows h pictures)) ≡ pixels_in_memory h.out_ty (output_picture value h pictures).pixels
 rows_in_memory value h pictures = sym (packed-rows (pixel_bytes h.out_ty) (λ y. row_values value (columns h pictures) y) (range_with_len 0 (rows h pictures)))
 
 -- where each row writes its numbers, the run leaves the picture of them
 pub picture_left : {I O : Type 0} (t : Table O) (p : ProgramOf I O) (pictures : List Picture) (at : Places) (value : ℕ → ℕ → ℕ)
-    → ((scratch output : List ℕ) → length scratch ≡ p.head.scratch → length output ≡ output_size p.head pictures → (y : ℕ) → y < rows p.head pictures → RowDone t p pictures at y (row_in_memory value p.head pictures y) scratch output)
-    → (scratch output : List ℕ) → length scratch ≡ p.head.scratch → length output ≡ output_size p.head pictures → Leaves t p pictures at scratch output (output_picture value p.head pictures)
+    → ((scratch output : List ℕ) → AreBytes p.head.scratch scratch → AreBytes (output_size p.head pictures) output → (y : ℕ) → y < rows p.head pictures → RowDone t p pictures at y (row_in_memory value p.head pictures y) scratch output)
+    → (scratch output : List ℕ) → AreBytes p.head.scratch scratch → AreBytes (output_size p.head pictures) output
+    → Leaves t p pictures at scratch output (output_picture value p.head pictures)
 picture_left t p pictures at value each scratch output small long =
     let done : RowsDone t p pictures at (row_in_memory value p.head pictures) = record {
-      size = λ y inside. length-row_in_memory value p.head pictures y;
+      bytes = λ y inside. bytes-row_in_memory value p.head pictures y;
       each = λ y inside s o fits whole. each s o fits whole y inside;
     } in
     let all = rows_end t p pictures at (row_in_memory value p.head pictures) done scratch output small long in
@@ -170,7 +193,8 @@ pub record IsShaped (r s : Region) : Type 0 where
 abbrev pub place_of_region : Region → ℕ × ℕ
 place_of_region r = (r.start, length r.bytes)
 
-shaped : (rs ss : List Region) → map place_of_region rs ≡ map place_of_region ss → (k : ℕ) (d : Region) → k < length rs → IsShaped (get_or rs k d) (get_or ss k d)
+shaped : (rs ss : List Region) → map place_of_region rs ≡ map place_of_region ss → (k : ℕ) (d : Region) → k < length rs
+    → IsShaped (get_or rs k d) (get_or ss k d)
 shaped rs ss same k d inside =
     let long : length rs ≡ length ss = sym (length-map rs place_of_region) ∙ ap length same ∙ length-map ss place_of_region in
     let left : get_or (map place_of_region rs) k (place_of_region d) ≡ place_of_region (get_or rs k d) = get_or-map place_of_region rs k d (place_of_region d) inside in
@@ -195,7 +219,8 @@ apart_kept rs ss same apart i j d before inside =
     (λ (p : (get_or rs j d).start + length (get_or rs j d).bytes ≤ (get_or rs i d).start). inr (omega arith))
     (apart i j d before (omega arith))
 
-pub low_kept : (rs ss : List Region) → map place_of_region rs ≡ map place_of_region ss → All (λ r. r.start + length r.bytes < 2 ^ 31) rs → All (λ r. r.start + length r.bytes < 2 ^ 31) ss
+pub low_kept : (rs ss : List Region) → map place_of_region rs ≡ map place_of_region ss → All (λ r. r.start + length r.bytes < 2 ^ 31) rs
+    → All (λ r. r.start + length r.bytes < 2 ^ 31) ss
 low_kept rs ss same low k d inside =
     let long : length rs ≡ length ss = same_length rs ss same in
     let a : IsShaped (get_or rs k d) (get_or ss k d) = shaped rs ss same k d (omega arith) in
@@ -205,7 +230,8 @@ low_kept rs ss same low k d inside =
     omega arith
 
 -- other bytes of the same sizes in the table, the scratch and the output
-pub memory_places : (pictures : List Picture) (at : Places) (table scratch output table' scratch' output' : List ℕ) → length table' ≡ length table → length scratch' ≡ length scratch → length output' ≡ length output
+pub memory_places : (pictures : List Picture) (at : Places) (table scratch output table' scratch' output' : List ℕ) → length table' ≡ length table
+    → length scratch' ≡ length scratch → length output' ≡ length output
     → map place_of_region (memory pictures at table scratch output) ≡ map place_of_region (memory pictures at table' scratch' output')
 memory_places pictures at table scratch output table' scratch' output' tables scratches outputs =
     let joined = λ (o : List ℕ). map-append place_of_region (image_regions at.images pictures) (region at.output o true ∷ []) in
@@ -225,15 +251,19 @@ length-row_table h pictures at y = length-packed 8 (row_entries h pictures at y)
 abbrev pub first_memory : Head → List Picture → Places → (scratch output : List ℕ) → List Region
 first_memory h pictures at scratch output = memory pictures at (replicate (table_size h) 0) scratch output
 
-pub placed_kept : (h : Head) (pictures : List Picture) (at : Places) (scratch output scratch' output' : List ℕ) → IsPlaced h pictures at scratch output → length scratch' ≡ h.scratch → length output' ≡ output_size h pictures → IsPlaced h pictures at scratch' output'
+pub placed_kept : (h : Head) (pictures : List Picture) (at : Places) (scratch output scratch' output' : List ℕ) → IsPlaced h pictures at scratch output
+    → AreBytes h.scratch scratch' → AreBytes (output_size h pictures) output'
+    → IsPlaced h pictures at scratch' output'
 placed_kept h pictures at scratch output scratch' output' placed small long =
     let before = first_memory h pictures at scratch output in
     let after = first_memory h pictures at scratch' output' in
     let same : map place_of_region before ≡ map place_of_region after =
-    memory_places pictures at (replicate (table_size h) 0) scratch output (replicate (table_size h) 0) scratch' output' refl (small ∙ sym placed.scratch_size) (long ∙ sym placed.output_bytes) in
+    let scratches = placed.scratch_bytes in
+    let outputs = placed.output_bytes in
+    memory_places pictures at (replicate (table_size h) 0) scratch output (replicate (table_size h) 0) scratch' output' refl (small.size ∙ sym scratches.size) (long.size ∙ sym outputs.size) in
     record {
       image_count = placed.image_count;
-      scratch_size = small;
+      scratch_bytes = small;
       output_bytes = long;
       apart = apart_kept before after same placed.apart;
       low = low_kept before after same placed.low;
@@ -248,14 +278,22 @@ pub row_places : (h : Head) (pictures : List Picture) (at : Places) (y : ℕ) (s
 row_places h pictures at y scratch output =
     memory_places pictures at (replicate (table_size h) 0) scratch output (packed 8 (row_entries h pictures at y)) scratch output (length-row_table h pictures at y ∙ sym (length-replicate (table_size h) 0)) refl refl
 
-pub row_apart : (h : Head) (pictures : List Picture) (at : Places) (y : ℕ) (scratch output : List ℕ) → IsPlaced h pictures at scratch output → AllPairs Apart (memory pictures at (packed 8 (row_entries h pictures at y)) scratch output)
-row_apart h pictures at y scratch output placed = apart_kept (first_memory h pictures at scratch output) (memory pictures at (packed 8 (row_entries h pictures at y)) scratch output) (row_places h pictures at y scratch output) placed.apart
+pub row_apart : (h : Head) (pictures : List Picture) (at : Places) (y : ℕ) (scratch output kept left : List ℕ) → IsPlaced h pictures at scratch output
+    → length kept ≡ h.scratch → length left ≡ output_size h pictures
+    → AllPairs Apart (memory pictures at (packed 8 (row_entries h pictures at y)) kept left)
+row_apart h pictures at y scratch output kept left placed small long =
+    let scratches = placed.scratch_bytes in
+    let outputs = placed.output_bytes in
+    let same = memory_places pictures at (replicate (table_size h) 0) scratch output (packed 8 (row_entries h pictures at y)) kept left (length-row_table h pictures at y ∙ sym (length-replicate (table_size h) 0)) (small ∙ sym scratches.size) (long ∙ sym outputs.size) in
+    apart_kept (first_memory h pictures at scratch output) (memory pictures at (packed 8 (row_entries h pictures at y)) kept left) same placed.apart
 
-pub row_low : (h : Head) (pictures : List Picture) (at : Places) (y : ℕ) (scratch output : List ℕ) → IsPlaced h pictures at scratch output → All (λ r. r.start + length r.bytes < 2 ^ 31) (memory pictures at (packed 8 (row_entries h pictures at y)) scratch output)
+pub row_low : (h : Head) (pictures : List Picture) (at : Places) (y : ℕ) (scratch output : List ℕ) → IsPlaced h pictures at scratch output
+    → All (λ r. r.start + length r.bytes < 2 ^ 31) (memory pictures at (packed 8 (row_entries h pictures at y)) scratch output)
 row_low h pictures at y scratch output placed = low_kept (first_memory h pictures at scratch output) (memory pictures at (packed 8 (row_entries h pictures at y)) scratch output) (row_places h pictures at y scratch output) placed.low
 
 -- Where each row of a program writes the values of a kernel's output, under every placement, the program's runs leave the kernel's output.
-pub leaves : {I O : Type 0} (t : Table O) (p : ProgramOf I O) (pictures : List Picture) (s : Source) (value : ℕ → ℕ → ℕ) → s.taps ≡ p.head.taps → s.out_ty ≡ p.head.out_ty → Keeps s pictures
+pub leaves : {I O : Type 0} (t : Table O) (p : ProgramOf I O) (pictures : List Picture) (s : Source) (value : ℕ → ℕ → ℕ) → s.taps ≡ p.head.taps
+    → s.out_ty ≡ p.head.out_ty → Keeps s pictures
     → ((x y : ℕ) → x < columns p.head pictures → y < rows p.head pictures → pos (value x y) ≡ out_value s pictures x y)
     → ((at : Places) (scratch output : List ℕ) → IsPlaced p.head pictures at scratch output → (y : ℕ) → y < rows p.head pictures → RowDone t p pictures at y (row_in_memory value p.head pictures y) scratch output)
     → (o : Picture) × Out s pictures o × ((at : Places) (scratch output : List ℕ) → IsPlaced p.head pictures at scratch output → Leaves t p pictures at scratch output o)
@@ -263,5 +301,5 @@ leaves t p pictures s value taps ty keeps values each = (
   output_picture value p.head pictures,
   picture_is_out s p.head pictures value taps ty keeps values,
   (λ at scratch output placed.
-      picture_left t p pictures at value (λ kept left small long y inside. each at kept left (placed_kept p.head pictures at scratch output kept left placed small long) y inside) scratch output placed.scratch_size placed.output_bytes),
+      picture_left t p pictures at value (λ kept left small long y inside. each at kept left (placed_kept p.head pictures at scratch output kept left placed small long) y inside) scratch output placed.scratch_bytes placed.output_bytes),
 )

@@ -8,7 +8,7 @@ use pf_values::{Definitions, ImageList, TapList};
 use std::marker::Model;
 
 /// What a text says before its code.
-#[derive(Debug, Drop)]
+#[derive(Drop)]
 pub struct Head {
     pub images: ImageList,
     pub taps: TapList,

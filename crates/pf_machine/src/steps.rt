@@ -1,4 +1,4 @@
-ghost use Rattle.std.specs.Prelude.{◌≡◌, ◌+◌, ◌-◌, ◌<◌, ◌≤◌, ◌*◌, ◌^◌, [], length, slice_index, slice_index_or, true, false, Err};
+ghost use Rattle.std.specs.Prelude.{◌≡◌, ◌+◌, ◌-◌, ◌<◌, ◌≤◌, ◌*◌, ◌^◌, [], length, slice_index, slice_index_or, slice_set, All, true, false, Err};
 ghost use Rattle.pf_machine.specs.Meaning.Control.{IsControl};
 ghost use Rattle.pf_machine.specs.Meaning.Tables.{IsOver};
 ghost use Rattle.pf_machine.specs.Meaning.MachineSteps.{pointer_bytes, register_wrapped, sum_of, general_of, with_general, Continues, load_step, store_step, control_step, access_step, by_access, line_step};
@@ -24,7 +24,7 @@ pub enum Trap {
 }
 
 /// The state of a machine.
-#[derive(Debug, Drop)]
+#[derive(Drop)]
 pub struct Core {
     /// How many instructions stand before the next one.
     pub at: u64,
@@ -206,6 +206,16 @@ fn held_in(file: &RegFile, vector: u32) -> &[u8]
     file.vectors.at(vector as usize).as_slice()
 }
 
+/// Writes the bytes over the vector, which has as many.
+fn overwrite_vector(file: &mut RegFile, vector: u32, held: &[u8])
+    requires within { vector < length file.old.vectors }
+    requires alike { length held.now ≡ length (slice_index_or file.old.vectors vector []) }
+    ensures written { file.new ≡ record file.old { vectors = slice_set file.old.vectors vector held.now } }
+    ensures bytes { All (λ b. b < 256) held.now }
+{
+    file.vectors.overwrite_item(vector as usize, held);
+}
+
 fn run_load<I: Isa>(access: Access, core: &mut Core) -> Result<bool, Trap>
     requires load { access.load ≡ true }
     requires base { access.base < 8 }
@@ -220,9 +230,7 @@ fn run_load<I: Isa>(access: Access, core: &mut Core) -> Result<bool, Trap>
     match readable_bytes(&core.regions, address, I::VECTOR as usize) {
         None => Err(outside(core, address, I::VECTOR)),
         Some(held) => {
-            core.file
-                .vectors
-                .overwrite_item(access.vector as usize, held);
+            overwrite_vector(&mut core.file, access.vector, held);
             core.at += 1;
             Ok(true)
         }

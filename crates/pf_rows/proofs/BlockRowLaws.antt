@@ -5,34 +5,35 @@ use Rattle.std.specs.List.{concat}
 use Rattle.std.proofs.Math.Nat.{mul_assoc, mul-add}
 use Rattle.std.proofs.lemmas.Nat.{mul-le}
 use Rattle.std.proofs.lemmas.Bool.{cases_lt}
-use Rattle.std.proofs.lemmas.List.{take_all, take-append-drop, drop-drop, length-map, length-replicate}
-use Rattle.std.proofs.lemmas.List.Elements.{All-replicate}
+use Rattle.std.proofs.lemmas.List.{take_all, take-append-drop, drop-drop, length-map}
 use Rattle.pf_ints.specs.Meaning.Images.{Picture}
 use Rattle.pf_values.specs.Meaning.Kernels.{KeepsSet, no_decl}
 use Rattle.pf_machine.specs.declared.registers.RegFile.{RegFile}
 use Rattle.pf_machine.specs.declared.code.Line.{Line}
 use Rattle.pf_machine.specs.declared.block.Item.{Item}
 use Rattle.pf_machine.specs.declared.program.Head.{Head}
-use Rattle.pf_machine.specs.Meaning.Bytes.{number, bytes, packed}
-use Rattle.pf_machine.specs.Meaning.Blocks.{BVal}
+use Rattle.pf_machine.specs.Meaning.Bytes.{AreBytes, number, bytes, packed}
+use Rattle.pf_machine.specs.Meaning.Blocks.{BVal, AreTaps, AreSlots, pixel_part}
 use Rattle.pf_machine.specs.Meaning.Runs.{Places, IsPlaced, pixel_bytes, columns, rows, row_entries, row_budget, memory, output_size}
 use Rattle.pf_machine.specs.Meaning.RowEnds.{row_size, with_row, RowDone}
 use Rattle.pf_machine.specs.Meaning.MachineSteps.{State, started}
 use Rattle.pf_machine.specs.Meaning.Tables.{Table, IsTable, IsFile}
 use Rattle.pf_machine.proofs.ByteLaws.{bytes-number}
+use Rattle.pf_machine.proofs.FileLaws.{clear_file}
 use Rattle.pf_machine.proofs.MemoryLaws.{image_bytes, take-drop-part}
-use Rattle.pf_rows.specs.Meaning.BlockRows.{tap_widths, start_of, pixel_part, AreBlocks, IsGiven, IsBlockRow, IsRowBlock}
+use Rattle.pf_rows.specs.Meaning.BlockRows.{tap_widths, start_of, AreBlocks, IsGiven, IsBlockRow, IsRowBlock}
 use Rattle.pf_rows.specs.Steps.RowCode.{row_code, row_labels, block_lines, next_lines, tail_lines, last_lines, narrow_lines, back_lines, IsOne, row_text}
 use Rattle.pf_rows.proofs.Cells.{part, length-part, Agree}
 use Rattle.pf_rows.proofs.RowPlaces.{RowPlace, span}
-use Rattle.pf_rows.proofs.Wide.{wide_taps, wide_tap}
+use Rattle.pf_rows.proofs.Wide.{wide_taps, wide_tap, wide_taps_are}
 use Rattle.pf_rows.proofs.WideRow.{RowLeft, longer, wide_row, given_by}
 use Rattle.pf_rows.proofs.NarrowRow.{Finds, narrow_row, given_from}
 use Rattle.pf_rows.proofs.Parts.{laid}
 use Rattle.pf_rows.proofs.Placed.{row_placed, image_of_tap, place_of_tap, pixel_is, some_columns}
 
 -- the code has more instructions than the block
-code_long : (I O : Type 0) (t : Table O) (widths : List ℕ) (width : ℕ) (block : List (Item O)) → length (block_lines {I = I} t widths width block) + 20 ≤ length (row_code {I = I} t widths width block)
+code_long : (I O : Type 0) (t : Table O) (widths : List ℕ) (width : ℕ) (block : List (Item O))
+    → length (block_lines {I = I} t widths width block) + 20 ≤ length (row_code {I = I} t widths width block)
 code_long I O t widths width block =
     let back : List (Line I O) = back_lines t.vector (length widths) width in
     let narrow : List (Line I O) = narrow_lines t.vector widths in
@@ -41,14 +42,6 @@ code_long I O t widths width block =
     let from_next : List (Line I O) = next_lines t.vector ++ (tail_lines ++ (last_lines t.vector ++ rest)) in
     let whole = length-append items from_next in
     omega arith
-
--- the registers in which a row begins
-pub started_file : {O : Type 0} (t : Table O) → IsFile t t.vectors (record { vectors = replicate t.vectors (replicate t.vector 0); k = 0; q = replicate t.vector false })
-started_file t = record {
-  count = length-replicate t.vectors (replicate t.vector 0);
-  vectors = All-replicate (λ v. length v ≡ t.vector) t.vectors (replicate t.vector 0) (length-replicate t.vector 0);
-  predicate = length-replicate t.vector false;
-}
 
 -- bytes by a part in their midst
 in_three : (a c : ℕ) (left : List ℕ) → left ≡ take a left ++ (part a c left ++ drop (a + c) left)
@@ -60,7 +53,8 @@ rest_is : (a : ℕ) (left : List ℕ) → drop a left ≡ part a (length left - 
 rest_is a left = sym (take_all (length left - a) (drop a left) (omega (arith, length-drop a left)))
 
 -- a row that is written, with the rest as before
-row_written : (start count : ℕ) (before left : List ℕ) → start + count ≤ length before → length left ≡ length before → Agree 0 start before left → Agree (start + count) (length before) before left
+row_written : (start count : ℕ) (before left : List ℕ) → start + count ≤ length before → length left ≡ length before → Agree 0 start before left
+    → Agree (start + count) (length before) before left
     → left ≡ take start before ++ (part start count left ++ drop (start + count) before)
 row_written start count before left inside long front back =
     let first : take start left ≡ take start before = front.each 0 start (omega arith) (omega arith) in
@@ -106,28 +100,27 @@ module _ (I O : Type 0) (t : Table O) (is_op : O → Type 0) (laws : IsTable t i
   -- the blocks that are found are the taps' pixels
   are_blocks : (x : ℕ) (blocks : List (List ℕ)) → Finds t.vector n pictures widths image place x blocks → AreBlocks t.vector h pictures y x blocks
   are_blocks x blocks finds = record {
-    sizes = λ k known. let count = count_is in finds.sizes k (omega arith);
+    taps = finds.taps;
     each = λ k j known within left. let count = count_is in finds.each k j (omega arith) within left ∙ pixel_is h fit.head pictures keeps k known y (x + j) inside left;
   }
 
   -- what a block gives doesn't depend on what registers and slots hold
-  same_value : (blocks : List (List ℕ)) (f file : RegFile) (kept other : List (List ℕ)) → IsFile t t.vectors f → IsFile t t.vectors file → length kept ≡ slots → length other ≡ slots
+  same_value : (blocks : List (List ℕ)) (f file : RegFile) (kept other : List (List ℕ)) → AreTaps t.vector widths blocks → IsFile t t.vectors f
+      → IsFile t t.vectors file
+      → AreSlots t.vector slots kept → AreSlots t.vector slots other
       → concat (BVal t width block blocks f kept) ≡ concat (BVal t width block blocks file other)
-  same_value blocks f file kept other one two three four = let clean = fit.clean in ap concat (clean.same blocks f file kept other one two three four)
+  same_value blocks f file kept other taps_are one two three four = let clean = fit.clean in ap concat (clean.same blocks f file kept other taps_are one two three four)
 
   abbrev Given : ℕ → ℕ → List ℕ → Type 0
   Given x q held = IsGiven t slots block h pictures y x q held
 
-  gives_wide : (x : ℕ) → x + t.vector ≤ n → (f : RegFile) (kept : List (List ℕ)) → IsFile t t.vectors f → length kept ≡ slots → (q : ℕ) → x ≤ q → q < x + t.vector
+  gives_wide : (x : ℕ) → x + t.vector ≤ n → (f : RegFile) (kept : List (List ℕ)) → IsFile t t.vectors f → AreSlots t.vector slots kept → (q : ℕ) → x ≤ q
+      → q < x + t.vector
       → Given x q (part (width * (q - x)) width (given_by t is_op laws code (row_labels I t widths width block) pictures at entries widths width slots n h.scratch (output_size h pictures) line image place place_is block (laid I O t widths width block few) ones fit.clean.within fit.steps fit.stores x f kept))
-  gives_wide x within f kept is_file kept_long q from to =
+  gives_wide x within f kept is_file kept_are q from to =
       let blocks = wide_taps t pictures at entries widths width slots n h.scratch (output_size h pictures) line image place place_is x in
       let finds : Finds t.vector n pictures widths image place x blocks = record {
-        sizes = λ k known.
-            let by = get_or widths k 0 in
-            let room : by * x + by * t.vector ≤ by * n = span by x t.vector n within in
-            let all = place_is.inside k known in
-            ap length (wide_tap t pictures at entries widths width slots n h.scratch (output_size h pictures) line image place place_is x k known) ∙ length-part (place k + by * x) (by * t.vector) (image_bytes pictures (image k)) (omega arith);
+        taps = wide_taps_are t pictures at entries widths width slots n h.scratch (output_size h pictures) line image place place_is x within;
         each = λ k j known less left.
             let by = get_or widths k 0 in
             let room : by * j + by * 1 ≤ by * t.vector = span by j 1 t.vector (omega arith) in
@@ -140,23 +133,23 @@ module _ (I O : Type 0) (t : Table O) (is_op : O → Type 0) (laws : IsTable t i
       record {
         blocks = blocks;
         taps = are_blocks x blocks finds;
-        given = λ file other is_file' other_long small. ap (λ l. part (width * (q - x)) width l) (same_value blocks f file kept other is_file is_file' kept_long other_long);
+        given = λ file other is_file' other_are. ap (λ l. part (width * (q - x)) width l) (same_value blocks f file kept other finds.taps is_file is_file' kept_are other_are);
       }
 
   module _ (narrow : n < t.vector) where
-    gives_narrow : (blocks : List (List ℕ)) → Finds t.vector n pictures widths image place 0 blocks → (f : RegFile) (kept : List (List ℕ)) → IsFile t t.vectors f → length kept ≡ slots → (q : ℕ) → q < n
-        → length (part (width * q) width (given_from t is_op laws code (row_labels I t widths width block) pictures at entries widths width slots n h.scratch (output_size h pictures) line image place place_is block (laid I O t widths width block few) ones fit.clean.within fit.steps fit.stores narrow (some_columns h fit.head pictures keeps) blocks f kept)) ≡ width
+    gives_narrow : (blocks : List (List ℕ)) → Finds t.vector n pictures widths image place 0 blocks → (f : RegFile) (kept : List (List ℕ))
+        → IsFile t t.vectors f → AreSlots t.vector slots kept → (q : ℕ) → q < n
+        → AreBytes width (part (width * q) width (given_from t is_op laws code (row_labels I t widths width block) pictures at entries widths width slots n h.scratch (output_size h pictures) line image place place_is block (laid I O t widths width block few) ones fit.clean.within fit.steps fit.stores narrow (some_columns h fit.head pictures keeps) blocks f kept))
         → Given 0 q (bytes width (number (part (width * q) width (given_from t is_op laws code (row_labels I t widths width block) pictures at entries widths width slots n h.scratch (output_size h pictures) line image place place_is block (laid I O t widths width block few) ones fit.clean.within fit.steps fit.stores narrow (some_columns h fit.head pictures keeps) blocks f kept))))
-    gives_narrow blocks finds f kept is_file kept_long q known size =
+    gives_narrow blocks finds f kept is_file kept_are q known pixel_are =
         let whole : q - 0 ≡ q = omega arith in
         record {
           blocks = blocks;
           taps = are_blocks 0 blocks finds;
-          given = λ file other is_file' other_long small.
+          given = λ file other is_file' other_are.
               let same : part (width * q) width (concat (BVal t width block blocks f kept)) ≡ pixel_part width (q - 0) (concat (BVal t width block blocks file other)) =
-              ap (λ l. part (width * q) width l) (same_value blocks f file kept other is_file is_file' kept_long other_long) ∙ ap (λ m. part (width * m) width (concat (BVal t width block blocks file other))) (sym whole) in
-              let long : length (pixel_part width (q - 0) (concat (BVal t width block blocks file other))) ≡ width = sym (ap length same) ∙ size in
-              ap (λ l. bytes width (number l)) same ∙ bytes-number width (pixel_part width (q - 0) (concat (BVal t width block blocks file other))) long small;
+              ap (λ l. part (width * q) width l) (same_value blocks f file kept other finds.taps is_file is_file' kept_are other_are) ∙ ap (λ m. part (width * m) width (concat (BVal t width block blocks file other))) (sym whole) in
+              bytes-number width _ pixel_are.size pixel_are.small ∙ same;
         }
 
   abbrev Left : ℕ → List ℕ → Type 0
@@ -170,6 +163,9 @@ module _ (I O : Type 0) (t : Table O) (is_op : O → Type 0) (laws : IsTable t i
 
   left_of : Left steps_of output
   left_of =
+      let scratch_are = placed.scratch_bytes in
+      let output_are = placed.output_bytes in
+      let output_long = output_are.size in
       let long = code_long I O t widths width block in
       let count = count_is in
       let all : (many + 12) * n ≤ (length code + 1) * (n + 8) = mul-le (many + 12) n (length code + 1) (n + 8) (omega arith) (omega arith) in
@@ -179,10 +175,10 @@ module _ (I O : Type 0) (t : Table O) (is_op : O → Type 0) (laws : IsTable t i
       ⊎_elim
       (λ (narrow : n < t.vector).
       longer t is_op laws code (row_labels I t widths width block) pictures at entries widths width slots n h.scratch (output_size h pictures) line image place place_is block (laid I O t widths width block few) ones fit.clean.within fit.steps fit.stores Given gives_wide (many + 4096 * (length widths + 1)) steps_of start output (omega arith)
-      (narrow_row t is_op laws code (row_labels I t widths width block) pictures at entries widths width slots n h.scratch (output_size h pictures) line image place place_is block (laid I O t widths width block few) ones fit.clean.within fit.steps fit.stores narrow (some_columns h fit.head pictures keeps) Given gives_wide (gives_narrow narrow) file scratch output (started_file t) placed.scratch_size placed.output_bytes))
+      (narrow_row t is_op laws code (row_labels I t widths width block) pictures at entries widths width slots n h.scratch (output_size h pictures) line image place place_is block (laid I O t widths width block few) ones fit.clean.within fit.steps fit.stores narrow (some_columns h fit.head pictures keeps) Given gives_wide (gives_narrow narrow) file scratch output (clear_file t) scratch_are output_long))
       (λ (wide : t.vector ≤ n).
       longer t is_op laws code (row_labels I t widths width block) pictures at entries widths width slots n h.scratch (output_size h pictures) line image place place_is block (laid I O t widths width block few) ones fit.clean.within fit.steps fit.stores Given gives_wide (7 + (many + 12) * n) steps_of start output (omega arith)
-      (wide_row t is_op laws code (row_labels I t widths width block) pictures at entries widths width slots n h.scratch (output_size h pictures) line image place place_is block (laid I O t widths width block few) ones fit.clean.within fit.steps fit.stores Given gives_wide file scratch output wide (started_file t) placed.scratch_size placed.output_bytes))
+      (wide_row t is_op laws code (row_labels I t widths width block) pictures at entries widths width slots n h.scratch (output_size h pictures) line image place place_is block (laid I O t widths width block few) ones fit.clean.within fit.steps fit.stores Given gives_wide file scratch output wide (clear_file t) scratch_are output_long))
       (cases_lt n t.vector)
 
   -- the row ends within its steps, and has written the block's pixels alone
@@ -192,7 +188,9 @@ module _ (I O : Type 0) (t : Table O) (is_op : O → Type 0) (laws : IsTable t i
       let row = part line (width * n) left.left in
       let fits = place_is.inside_out in
       let left_long = left.left_long in
-      let output_long = placed.output_bytes in
+      let output_are = placed.output_bytes in
+      let output_long = output_are.size in
+      let scratch_are = placed.scratch_bytes in
       let start : line ≡ row_size h pictures * y = sym (mul_assoc width n y) in
       let back : Agree (line + width * n) (length output) output left.left = subst (λ m. Agree (line + width * n) m output left.left) (sym output_long) left.back in
       let written : left.left ≡ take line output ++ (row ++ drop (line + width * n) output) = row_written line (width * n) output left.left (omega arith) (omega arith) left.front back in
@@ -209,7 +207,7 @@ module _ (I O : Type 0) (t : Table O) (is_op : O → Type 0) (laws : IsTable t i
         record {
           last = ends.last;
           kept = left.kept;
-          kept_size = left.kept_long ∙ sym placed.scratch_size;
+          kept_bytes = subst (λ m. AreBytes m left.kept) (sym scratch_are.size) left.kept_are;
           ends = ends.ends;
           regions = ends.regions ∙ ap (λ o. memory pictures at (packed 8 entries) left.kept o) (written ∙ row_is);
         },

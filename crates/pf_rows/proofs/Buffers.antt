@@ -5,7 +5,6 @@ use Rattle.std.proofs.lemmas.Nat.{mul-le}
 use Rattle.std.proofs.lemmas.List.{take-append-drop, length-take-le}
 use Rattle.std.proofs.lemmas.List.Elements.{All-take, All-drop, All-get_or}
 use Rattle.pf_ints.specs.Meaning.Images.{Picture}
-use Rattle.pf_values.specs.Meaning.Kernels.{no_picture}
 use Rattle.pf_machine.specs.declared.registers.RegFile.{RegFile}
 use Rattle.pf_machine.specs.declared.memory.Region.{Region}
 use Rattle.pf_machine.specs.declared.control.Control.TheVariants.{LoadPtr, StorePtr, Imm}
@@ -14,10 +13,11 @@ use Rattle.pf_machine.specs.declared.code.Line.TheVariants.{Control as Controls}
 use Rattle.pf_machine.specs.declared.code.Label.{Label}
 use Rattle.pf_machine.specs.Meaning.Bytes.{number, bytes, packed}
 use Rattle.pf_machine.specs.Meaning.Memory.{loaded, stored}
-use Rattle.pf_machine.specs.Meaning.Runs.{Places, pixel_bytes}
+use Rattle.pf_machine.specs.Meaning.Runs.{Places}
 use Rattle.pf_machine.specs.Meaning.Tables.{Table}
 use Rattle.pf_machine.specs.Meaning.MachineSteps.{pointer_bytes, place_of}
-use Rattle.pf_machine.proofs.ByteLaws.{packed_below, bytes-number, length-bytes}
+use Rattle.pf_machine.proofs.ByteLaws.{bytes-number, length-bytes}
+use Rattle.pf_machine.proofs.FileLaws.{image_bytes_below}
 use Rattle.pf_machine.proofs.MemoryLaws.{image_bytes, overwritten, length-overwritten, overwritten-overwritten, take-drop-part, stored-scratch}
 use Rattle.pf_rows.specs.Meaning.Scratch.{buffer_at, table_bytes}
 use Rattle.pf_rows.specs.Steps.RowCode.{scratch_lines, copy_turn, copy_label, tap_copy}
@@ -27,9 +27,6 @@ use Rattle.pf_rows.proofs.Cells.{part, length-part}
 use Rattle.pf_rows.proofs.RowPlaces.{RowPlace, span, entry-given, tap-given, some-pointer, most-pointer}
 use Rattle.pf_rows.proofs.Wide.{mem}
 use Rattle.pf_rows.proofs.PixelCopies.{pointer_stored, Copy, turn_count, copied, from_stands, to_stands, length-copy_turn}
-
-pub image_bytes_below : (pictures : List Picture) (k : ℕ) → All (λ b. b < 256) (image_bytes pictures k)
-image_bytes_below pictures k = let p = get_or pictures k no_picture in packed_below (pixel_bytes p.ty) p.pixels
 
 -- buffers are at low offsets
 pub buffer_low : (vector taps k : ℕ) → vector ≤ 128 → taps ≤ 64 → k ≤ taps → buffer_at vector taps k ≤ 17024
@@ -48,6 +45,12 @@ module _ {I O : Type 0} (t : Table O) (code : List (Line I O)) (labels : List La
   -- the bytes of a tap's row
   abbrev pub tap_row : ℕ → List ℕ
   tap_row k = part (place k) (get_or widths k 0 * n) (image_bytes pictures (image k))
+
+  pub tap_row_below : (k : ℕ) → All (λ b. b < 256) (tap_row k)
+  tap_row_below k =
+      let m = get_or widths k 0 * n in
+      let bytes_k = image_bytes pictures (image k) in
+      All-take (λ b. b < 256) m (drop (place k) bytes_k) (All-drop (λ b. b < 256) (place k) bytes_k (image_bytes_below pictures (image k)))
 
   abbrev pub at_buffer : ℕ → ℕ
   at_buffer k = buffer_at t.vector (length widths) k
@@ -114,9 +117,7 @@ module _ {I O : Type 0} (t : Table O) (code : List (Line I O)) (labels : List La
 
     held_bytes : (x : ℕ) → x < n → bytes w (number (pixel_held x)) ≡ pixel_held x
     held_bytes x inside =
-        bytes-number w (pixel_held x) (held_long x inside)
-        (All-take (λ b. b < 256) w (drop (w * x) (tap_row k)) (All-drop (λ b. b < 256) (w * x) (tap_row k)
-        (All-take (λ b. b < 256) (w * n) (drop (place k) (image_bytes pictures (image k))) (All-drop (λ b. b < 256) (place k) (image_bytes pictures (image k)) (image_bytes_below pictures (image k))))))
+        bytes-number w (pixel_held x) (held_long x inside) (All-take (λ b. b < 256) w (drop (w * x) (tap_row k)) (All-drop (λ b. b < 256) (w * x) (tap_row k) (tap_row_below k)))
 
     pixel_load : (x : ℕ) → x < n → loaded (memo (copied_to x) output) (get_or entries k 0 + x * w) w ≡ Some (pixel_held x)
     pixel_load x inside =
@@ -127,7 +128,8 @@ module _ {I O : Type 0} (t : Table O) (code : List (Line I O)) (labels : List La
         let none' : place k + w * x + 0 ≡ place k + w * x = omega arith in
         ap (λ l. loaded (memo (copied_to x) output) l w) (sym none) ∙ given ∙ ap Some (ap (λ m. part m w (image_bytes pictures (image k))) none' ∙ sym (take-drop-part (image_bytes pictures (image k)) (place k) (w * n) (w * x) w (omega arith)))
 
-    pixel_store : (x : ℕ) → x < n → stored (memo (copied_to x) output) (at.scratch + at_buffer k + x * w) (bytes w (number (pixel_held x))) ≡ Some (memo (copied_to (suc x)) output)
+    pixel_store : (x : ℕ) → x < n
+        → stored (memo (copied_to x) output) (at.scratch + at_buffer k + x * w) (bytes w (number (pixel_held x))) ≡ Some (memo (copied_to (suc x)) output)
     pixel_store x inside =
         let wide = wide_tap in
         let long = held_long x inside in

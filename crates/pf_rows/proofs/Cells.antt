@@ -38,7 +38,8 @@ part-behind held new n a c behind fits =
     ap (λ l. take c l) (left ∙ ap (λ l. drop (a - m) l) past ∙ sym right)
 
 -- within what is written
-pub part-within : (held new : List ℕ) (n a d c : ℕ) → a ≡ n + d → d + c ≤ length new → n + length new ≤ length held → part a c (overwritten held n new) ≡ part d c new
+pub part-within : (held new : List ℕ) (n a d c : ℕ) → a ≡ n + d → d + c ≤ length new → n + length new ≤ length held
+    → part a c (overwritten held n new) ≡ part d c new
 part-within held new n a d c place inside fits =
     let rest = drop (n + length new) held in
     let long : length (take n held) ≡ n = length-take-le n held (omega arith) in
@@ -71,7 +72,8 @@ agree-behind low high n held new behind fits = record { each = λ a c from to. p
 pub record Cells (base size : ℕ) (cells : List (List ℕ)) (held : List ℕ) : Type 0 where
   pub each : (k : ℕ) → k < length cells → length (get_or cells k []) ≡ size → part (base + size * k) size held ≡ get_or cells k []
 
-pub cells-agree : (base size : ℕ) (cells : List (List ℕ)) (held other : List ℕ) → Cells base size cells held → Agree base (base + size * length cells) held other → Cells base size cells other
+pub cells-agree : (base size : ℕ) (cells : List (List ℕ)) (held other : List ℕ) → Cells base size cells held
+    → Agree base (base + size * length cells) held other → Cells base size cells other
 cells-agree base size cells held other there same = record {
   each = λ k inside full.
       let fits : size * k + size ≤ size * length cells = column_fits size k size (length cells) inside (omega arith) in
@@ -82,7 +84,8 @@ apart_order : (k j : ℕ) → (k ≡ j → ⊥) → (k < j) ⊎ (j < k)
 apart_order k j other = ⊎_elim (λ (same : k ≡ j). absurd (other same)) (λ (rest : (k < j) ⊎ (j < k)). rest) (cases_order k j)
 
 -- one cell is written
-pub cells-set : (base size j : ℕ) (cells : List (List ℕ)) (held new : List ℕ) → Cells base size cells held → j < length cells → length new ≡ size → base + size * length cells ≤ length held
+pub cells-set : (base size j : ℕ) (cells : List (List ℕ)) (held new : List ℕ) → Cells base size cells held → j < length cells → length new ≡ size
+    → base + size * length cells ≤ length held
     → Cells base size (set cells j new) (overwritten held (base + size * j) new)
 cells-set base size j cells held new there inside long fits =
     let room : size * j + size ≤ size * length cells = column_fits size j size (length cells) inside (omega arith) in
@@ -150,7 +153,8 @@ cells-of base size count held = record {
 }
 
 -- cells that are all there are the bytes
-pub cells-joined : (base size : ℕ) (cells : List (List ℕ)) (held : List ℕ) → Cells base size cells held → ((k : ℕ) → k < length cells → length (get_or cells k []) ≡ size) → part base (size * length cells) held ≡ concat cells
+pub cells-joined : (base size : ℕ) (cells : List (List ℕ)) (held : List ℕ) → Cells base size cells held
+    → ((k : ℕ) → k < length cells → length (get_or cells k []) ≡ size) → part base (size * length cells) held ≡ concat cells
 cells-joined base size [] held there full =
     let none : size * 0 ≡ 0 = omega arith in
     ap (λ c. part base c held) none

@@ -97,7 +97,8 @@ module _ (I O : Type 0) (t : Table O) (labels : List Label) where
   store_value_is (suc zero) = ((omega arith, omega arith), tt)
   store_value_is (suc (suc width)) = ((omega arith, omega arith), tt)
 
-  turn_is : (from to : List (Line I O)) (width : ℕ) (name : List ℕ) → All P from → All P to → is_name name ≡ true → Contains (map (λ l. l.name) labels) name → All P (copy_turn from to width name)
+  turn_is : (from to : List (Line I O)) (width : ℕ) (name : List ℕ) → All P from → All P to → is_name name ≡ true → Contains (map (λ l. l.name) labels) name
+      → All P (copy_turn from to width name)
   turn_is from to width name first second named there =
       let end : List (Line I O) = Controls (AddImm 3 3 false 1) ∷ Controls (Compare 3 1) ∷ Controls (Below name) ∷ [] in
       let last : List (Line I O) = pixel_lines 7 width ++ (store_value width ∷ end) in

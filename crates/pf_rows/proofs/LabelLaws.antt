@@ -107,7 +107,8 @@ module _ (I O : Type 0) (t : Table O) (widths : List ℕ) (width : ℕ) (block :
   pub loop_there : Contains (names labels) (codes "loop")
   loop_there = last_there 1 (omega arith)
 
-  copies_there : (k before : ℕ) (ws : List ℕ) (j : ℕ) → k ≤ j → j < k + length ws → Contains (names (copy_labels I O t.vector (length widths) k before ws)) (copy_label j)
+  copies_there : (k before : ℕ) (ws : List ℕ) (j : ℕ) → k ≤ j → j < k + length ws
+      → Contains (names (copy_labels I O t.vector (length widths) k before ws)) (copy_label j)
   copies_there k before [] j from to = absurd (omega arith)
   copies_there k before (w ∷ ws) j from to =
       let next = before + length (tap_copy {I = I} {O = O} t.vector (length widths) k w) in
@@ -123,7 +124,8 @@ module _ (I O : Type 0) (t : Table O) (widths : List ℕ) (width : ℕ) (block :
 
   -- Where the labels stand
 
-  copies_low : (k before : ℕ) (ws : List ℕ) → All (λ (l : Label). (before ≤ l.before) × (l.before ≤ before + length (tap_copies {I = I} {O = O} t.vector (length widths) k ws))) (copy_labels I O t.vector (length widths) k before ws)
+  copies_low : (k before : ℕ) (ws : List ℕ)
+      → All (λ (l : Label). (before ≤ l.before) × (l.before ≤ before + length (tap_copies {I = I} {O = O} t.vector (length widths) k ws))) (copy_labels I O t.vector (length widths) k before ws)
   copies_low k before [] = All-nil (λ (l : Label). (before ≤ l.before) × (l.before ≤ before + 0))
   copies_low k before (w ∷ ws) =
       let vector = t.vector in
@@ -146,7 +148,8 @@ module _ (I O : Type 0) (t : Table O) (widths : List ℕ) (width : ℕ) (block :
       let two = length-append narrows over in
       omega arith
 
-  copies_are : (count k before : ℕ) (ws : List ℕ) → k + length ws ≤ 64 → before + length (tap_copies {I = I} {O = O} t.vector (length widths) k ws) ≤ count → All (IsLabel count) (copy_labels I O t.vector (length widths) k before ws)
+  copies_are : (count k before : ℕ) (ws : List ℕ) → k + length ws ≤ 64 → before + length (tap_copies {I = I} {O = O} t.vector (length widths) k ws) ≤ count
+      → All (IsLabel count) (copy_labels I O t.vector (length widths) k before ws)
   copies_are count k before [] small fits = All-nil (IsLabel count)
   copies_are count k before (w ∷ ws) small fits =
       let front : List (Line I O) = tap_copy t.vector (length widths) k w in
@@ -191,7 +194,8 @@ Before l m = (l.name ≢ m.name) × (l.before ≤ m.before)
 
 module _ (I O : Type 0) (vector taps : ℕ) where
   -- a label before the copies from one on
-  before_copies : (l : Label) (k before : ℕ) (ws : List ℕ) → ((j : ℕ) → k ≤ j → j < 100 → bytes_eq l.name (copy_label j) ≡ false) → l.before ≤ before → k + length ws ≤ 100 → All (Before l) (copy_labels I O vector taps k before ws)
+  before_copies : (l : Label) (k before : ℕ) (ws : List ℕ) → ((j : ℕ) → k ≤ j → j < 100 → bytes_eq l.name (copy_label j) ≡ false) → l.before ≤ before
+      → k + length ws ≤ 100 → All (Before l) (copy_labels I O vector taps k before ws)
   before_copies l k before [] other low few = All-nil (Before l)
   before_copies l k before (w ∷ ws) other low few =
       let next = before + length (tap_copy {I = I} {O = O} vector taps k w) in
@@ -200,8 +204,10 @@ module _ (I O : Type 0) (vector taps : ℕ) where
       (before_copies l (k + 1) next ws (λ j from small. other j (omega arith) small) (omega arith) (omega arith))
 
   -- the copies' labels, and two behind them
-  copies_apart : (k before : ℕ) (ws : List ℕ) (to_back to_loop : Label) → k + length ws ≤ 100 → before + length (tap_copies {I = I} {O = O} vector taps k ws) ≤ to_back.before → to_back.before ≤ to_loop.before
-      → ((j : ℕ) → bytes_eq (copy_label j) to_back.name ≡ false) → ((j : ℕ) → bytes_eq (copy_label j) to_loop.name ≡ false) → bytes_eq to_back.name to_loop.name ≡ false
+  copies_apart : (k before : ℕ) (ws : List ℕ) (to_back to_loop : Label) → k + length ws ≤ 100
+      → before + length (tap_copies {I = I} {O = O} vector taps k ws) ≤ to_back.before → to_back.before ≤ to_loop.before
+      → ((j : ℕ) → bytes_eq (copy_label j) to_back.name ≡ false) → ((j : ℕ) → bytes_eq (copy_label j) to_loop.name ≡ false)
+      → bytes_eq to_back.name to_loop.name ≡ false
       → AllPairs Before (copy_labels I O vector taps k before ws ++ to_back ∷ to_loop ∷ [])
   copies_apart k before [] to_back to_loop few low order one two three =
       let none : List Label = [] in
@@ -223,7 +229,8 @@ module _ (I O : Type 0) (vector taps : ℕ) where
 
 module _ (I O : Type 0) (t : Table O) (widths : List ℕ) (width : ℕ) (block : List (Item O)) (few : length widths ≤ 64) where
   -- one of the first labels before all behind it
-  first_before : (l : Label) (more : List Label) → All (Before l) more → ((j : ℕ) → bytes_eq l.name (copy_label j) ≡ false) → bytes_eq l.name (codes "back") ≡ false → bytes_eq l.name (codes "loop") ≡ false → l.before ≤ narrow I O t widths width block few
+  first_before : (l : Label) (more : List Label) → All (Before l) more → ((j : ℕ) → bytes_eq l.name (copy_label j) ≡ false)
+      → bytes_eq l.name (codes "back") ≡ false → bytes_eq l.name (codes "loop") ≡ false → l.before ≤ narrow I O t widths width block few
       → All (Before l) (more ++ (copies I O t widths width block few ++ last_labels I O t widths width block few))
   first_before l more before one two three low =
       let fits = narrow_fits I O t widths width block few in

@@ -6,28 +6,31 @@ use Rattle.std.proofs.lemmas.Nat.{div-add-mod'}
 use Rattle.std.proofs.lemmas.Bool.{cases_lt, cond-true, cond-false, lt-ltb, le-ltb}
 use Rattle.std.proofs.lemmas.List.{take_all, length-map, get_or-map, length-replicate}
 use Rattle.std.proofs.lemmas.List.FromFn.{get_or-map-range_with_len}
+use Rattle.std.proofs.lemmas.List.Elements.{All-replicate}
 use Rattle.std.proofs.Math.Nat.{mul_comm}
 use Rattle.pf_ints.specs.Meaning.Images.{Picture}
 use Rattle.pf_values.specs.Meaning.NamedTerms.{no_tap}
 use Rattle.pf_machine.specs.declared.registers.RegFile.{RegFile}
 use Rattle.pf_machine.specs.declared.block.Item.{Item}
 use Rattle.pf_machine.specs.declared.program.Head.{Head}
-use Rattle.pf_machine.specs.Meaning.Bytes.{bytes}
-use Rattle.pf_machine.specs.Meaning.Blocks.{BVal}
+use Rattle.pf_machine.specs.Meaning.Bytes.{AreBytes, bytes}
+use Rattle.pf_machine.specs.Meaning.Blocks.{BVal, AreSlots, pixel_part, IsLanewise}
 use Rattle.pf_machine.specs.Meaning.Runs.{pixel_bytes, columns}
 use Rattle.pf_machine.specs.Meaning.RowEnds.{RowDone, row_values, row_in_memory}
 use Rattle.pf_machine.specs.Meaning.Tables.{Table, IsTable}
-use Rattle.pf_machine.proofs.ByteLaws.{bytes_below, lane_at}
+use Rattle.pf_machine.proofs.ByteLaws.{lane_at}
+use Rattle.pf_machine.proofs.FileLaws.{clear_file, zeros_are}
 use Rattle.pf_machine.proofs.RowLaws.{leaves, length-row_in_memory, length-row_values}
-use Rattle.pf_rows.specs.Meaning.BlockRows.{tap_widths, start_of, pixel_part, tap_pixel, IsBlockRow, IsLanewise, IsRowBlock, RunsBlock, LeavesLanes}
+use Rattle.pf_rows.specs.Meaning.BlockRows.{tap_widths, start_of, tap_pixel, IsBlockRow, IsRowBlock, RunsBlock, LeavesLanes}
 use Rattle.pf_values.specs.Meaning.Kernels.{KeepsSet, no_decl}
 use Rattle.pf_rows.specs.Steps.RowCode.{IsOne, row_text}
 use Rattle.pf_rows.proofs.Cells.{part, length-part, Cells, cells_of, cells-of, cells-joined, length-cells_of, get_or-cells_of}
 use Rattle.pf_rows.proofs.RowPlaces.{span}
-use Rattle.pf_rows.proofs.BlockRowLaws.{block_row, started_file}
+use Rattle.pf_rows.proofs.BlockRowLaws.{block_row}
 
 -- bytes are told by their parts
-same_parts : (width count : ℕ) (held other : List ℕ) → length held ≡ width * count → length other ≡ width * count → ((q : ℕ) → q < count → part (width * q) width held ≡ part (width * q) width other) → held ≡ other
+same_parts : (width count : ℕ) (held other : List ℕ) → length held ≡ width * count → length other ≡ width * count
+    → ((q : ℕ) → q < count → part (width * q) width held ≡ part (width * q) width other) → held ≡ other
 same_parts width count held other long same each =
     let cells = cells_of 0 width count other in
     let cell_count = length-cells_of 0 width count other in
@@ -61,12 +64,13 @@ start_low vector n q some inside =
     (omega arith, omega arith))
     (cases_lt q (n - vector))
 
-module _ {O : Type 0} (t : Table O) (h : Head) (slots : ℕ) (block : List (Item O)) (some : 1 ≤ t.vector) (value : List ℕ → ℕ) (lanewise : IsLanewise t slots block (tap_widths h) (pixel_bytes h.out_ty) value) (pictures : List Picture) (y : ℕ) where
+module _ {O : Type 0} (t : Table O) (h : Head) (slots : ℕ) (block : List (Item O)) (some : 1 ≤ t.vector) (value : List ℕ → ℕ) (lanewise : IsLanewise t (tap_widths h) t.vectors slots (pixel_bytes h.out_ty) block value) (pictures : List Picture) (y : ℕ) where
   abbrev value_at : ℕ → ℕ → ℕ
   value_at x y = value (map (tap_pixel h.taps pictures x y) h.taps)
 
   -- the row of such a block holds the function's values
-  pub row_of_lanes : (row : List ℕ) → IsBlockRow t slots block h pictures y row → row ≡ row_in_memory (λ x y. value (map (tap_pixel h.taps pictures x y) h.taps)) h pictures y
+  pub row_of_lanes : (row : List ℕ) → IsBlockRow t slots block h pictures y row
+      → row ≡ row_in_memory (λ x y. value (map (tap_pixel h.taps pictures x y) h.taps)) h pictures y
   row_of_lanes row is =
       let n = columns h pictures in
       let width = pixel_bytes h.out_ty in
@@ -81,23 +85,23 @@ module _ {O : Type 0} (t : Table O) (h : Head) (slots : ℕ) (block : List (Item
       let pixel = is.each q known in
       let taps = pixel.taps in
       let file : RegFile = record { vectors = replicate t.vectors (replicate t.vector 0); k = 0; q = replicate t.vector false } in
-      let none : List ℕ = [] in
-      let kept : List (List ℕ) = replicate slots none in
-      let kept_long : length kept ≡ slots = length-replicate slots none in
+      let kept : List (List ℕ) = replicate slots (replicate t.vector 0) in
+      let kept_are : AreSlots t.vector slots kept = record {
+        count = length-replicate slots (replicate t.vector 0);
+        each = All-replicate (λ v. AreBytes t.vector v) slots (replicate t.vector 0) (zeros_are t.vector);
+      } in
       let numbers = map (tap_pixel h.taps pictures q y) h.taps in
       let widths_count : length (tap_widths h) ≡ length h.taps = length-map h.taps (λ t. pixel_bytes (get_or h.images t.image no_decl).ty) in
       let numbers_count : length numbers ≡ length h.taps = length-map h.taps (tap_pixel h.taps pictures q y) in
       let sum : x + (q - x) ≡ q = omega arith in
       let given : pixel_part width (q - x) (concat (BVal t width block pixel.blocks file kept)) ≡ bytes width (value numbers) =
-      lanewise.each pixel.blocks numbers file kept (q - x) (started_file t) kept_long (omega arith) (numbers_count ∙ sym widths_count)
-      (λ k inside. taps.sizes k (omega arith))
+      lanewise.each pixel.blocks numbers file kept (q - x) taps.taps (clear_file t) kept_are (omega arith) (numbers_count ∙ sym widths_count)
       (λ k inside.
       let inside' : k < length h.taps = omega arith in
       taps.each k (q - x) inside' (omega arith) (omega arith)
       ∙ ap (λ m. bytes (get_or (tap_widths h) k 0) (tap_pixel h.taps pictures m y (get_or h.taps k no_tap))) sum
       ∙ ap (λ m. bytes (get_or (tap_widths h) k 0) m) (sym (get_or-map (tap_pixel h.taps pictures q y) h.taps k no_tap 0 inside'))) in
-      let small : All (λ b. b < 256) (pixel_part width (q - x) (concat (BVal t width block pixel.blocks file kept))) = subst (λ l. All (λ b. b < 256) l) (sym given) (bytes_below width (value numbers)) in
-      let here : part (width * q) width row ≡ bytes width (value numbers) = pixel.given file kept (started_file t) kept_long small ∙ given in
+      let here : part (width * q) width row ≡ bytes width (value numbers) = pixel.given file kept (clear_file t) kept_are ∙ given in
       here ∙ ap (λ m. bytes width m) (sym (get_or-map-range_with_len (λ x. value_at x y) 0 n q q 0 known (omega arith))) ∙ sym (lane_at width q values (omega arith)))
 
 module _ (I O : Type 0) (t : Table O) (is_op : O → Type 0) (laws : IsTable t is_op) (h : Head) (slots : ℕ) (block : List (Item O)) (ones : All (IsOne is_op) block) (fit : IsRowBlock t h slots block) where

@@ -86,7 +86,8 @@ module _ (I O : Type 0) (t : Table O) (taps : ℕ) where
     one_line : (line : Line I O) → M line → All M (line ∷ [])
     one_line line moves = All-cons M line [] moves (All-nil M)
 
-    item_moves : (slots width : ℕ) (widths : List ℕ) (item : Item O) → length widths ≡ taps → All (λ w. w ≤ 2) widths → width ≤ 2 → IsWithin t t.vectors slots item → IsBlockItem widths width item → All M (item_lines t widths width item)
+    item_moves : (slots width : ℕ) (widths : List ℕ) (item : Item O) → length widths ≡ taps → All (λ w. w ≤ 2) widths → width ≤ 2
+        → IsWithin t t.vectors slots item → IsBlockItem widths width item → All M (item_lines t widths width item)
     item_moves slots width widths (Operation op) count few low within step =
         let plain = within.0 in
         one_line (Vector op) (tt, tt, tt, tt, tt, tt, tt, tt, tt, tt, tt, rw plain tt)
@@ -106,7 +107,8 @@ module _ (I O : Type 0) (t : Table O) (taps : ℕ) where
         let offset = slot_at t.vector (length widths) slot in
         All-append M (scratch_lines 5 offset) (Vector (t.store from 0) ∷ []) (scratch_moves offset) (one_line (Vector (t.store from 0)) (store_moves from 0 (omega arith)))
 
-    block_moves : (slots width : ℕ) (widths : List ℕ) (block : List (Item O)) → length widths ≡ taps → All (λ w. w ≤ 2) widths → width ≤ 2 → All (IsWithin t t.vectors slots) block → All (IsBlockItem widths width) block → All M (block_lines t widths width block)
+    block_moves : (slots width : ℕ) (widths : List ℕ) (block : List (Item O)) → length widths ≡ taps → All (λ w. w ≤ 2) widths → width ≤ 2
+        → All (IsWithin t t.vectors slots) block → All (IsBlockItem widths width) block → All M (block_lines t widths width block)
     block_moves slots width widths [] count few low within steps = All-nil M
     block_moves slots width widths (item ∷ block) count few low within steps =
         All-append M (item_lines t widths width item) (block_lines t widths width block)

@@ -1,5 +1,5 @@
 -- A block over a narrow row's buffers.
-use Rattle.std.proofs.Common.{◌≡◌, ℕ, ◌+◌, ◌*◌, ◌<◌, ◌≤◌, List, [], length, map, take, drop, set, get_or, Some, refl, arith, ap, sym, ◌∙◌}
+use Rattle.std.proofs.Common.{◌≡◌, ℕ, ◌+◌, ◌*◌, ◌<◌, ◌≤◌, List, [], length, map, take, drop, set, get_or, Some, refl, arith, ap, sym, subst, ◌∙◌}
 use Rattle.std.specs.List.{range_with_len}
 use Rattle.std.proofs.Math.Nat.{mul_comm}
 use Rattle.std.proofs.lemmas.Nat.{mul-le}
@@ -10,15 +10,17 @@ use Rattle.pf_ints.specs.Meaning.Images.{Picture}
 use Rattle.pf_machine.specs.declared.memory.Region.{Region}
 use Rattle.pf_machine.specs.declared.code.Line.{Line}
 use Rattle.pf_machine.specs.declared.code.Label.{Label}
-use Rattle.pf_machine.specs.Meaning.Bytes.{number, bytes, packed}
+use Rattle.pf_machine.specs.Meaning.Blocks.{AreTaps}
+use Rattle.pf_machine.specs.Meaning.Bytes.{AreBytes, number, bytes, packed}
 use Rattle.pf_machine.specs.Meaning.Memory.{loaded, stored}
 use Rattle.pf_machine.specs.Meaning.MachineSteps.{register_wrapped, pointer_bytes}
 use Rattle.pf_machine.specs.Meaning.Runs.{Places}
 use Rattle.pf_machine.specs.Meaning.Tables.{Table}
-use Rattle.pf_machine.proofs.MemoryLaws.{overwritten, length-overwritten, take-drop-part, loaded-scratch, stored-scratch}
+use Rattle.pf_machine.proofs.MemoryLaws.{overwritten, take-drop-part, loaded-scratch, stored-scratch}
+use Rattle.pf_machine.proofs.FileLaws.{part_are, overwritten_are}
 use Rattle.pf_machine.proofs.StepLaws.{wrapped_small}
 use Rattle.pf_rows.specs.Meaning.Scratch.{slot_at, buffer_at}
-use Rattle.pf_rows.proofs.Cells.{part, length-part, Agree, agree-trans, agree-before, agree-behind, Cells, cells-agree, cells-set}
+use Rattle.pf_rows.proofs.Cells.{part, Agree, agree-trans, agree-before, agree-behind, Cells, cells-agree, cells-set}
 use Rattle.pf_rows.proofs.Steps.{Desk}
 use Rattle.pf_rows.proofs.RowPlaces.{RowPlace, span, number-pointer, some-pointer, most-pointer, slots-agree, slot-given, slot-stored}
 use Rattle.pf_rows.proofs.Wide.{mem, SlotsIn}
@@ -45,24 +47,26 @@ module _ {I O : Type 0} (t : Table O) (code : List (Line I O)) (labels : List La
   pub narrow_tap : (before : List ℕ) (k : ℕ) → k < length widths → get_or (narrow_taps before) k [] ≡ buffer_block before k
   narrow_tap before k known = get_or-map-range_with_len (buffer_block before) 0 (length widths) k k [] known (omega arith)
 
-  pub narrow_tap_long : (before : List ℕ) (k : ℕ) → k < length widths → length before ≡ scratch_size → length (get_or (narrow_taps before) k []) ≡ get_or widths k 0 * t.vector
-  narrow_tap_long before k known long =
-      let wide = All-get_or (λ w. (1 ≤ w) × (w ≤ 2)) widths k 0 known placed.wide in
-      let fits : get_or widths k 0 * t.vector ≤ 2 * t.vector = mul-le (get_or widths k 0) t.vector 2 t.vector wide.1 (omega arith) in
-      let room = room_of k (omega arith) in
-      ap length (narrow_tap before k known) ∙ length-part (at_buffer k) (get_or widths k 0 * t.vector) before (omega arith)
+  pub narrow_taps_are : (before : List ℕ) → AreBytes scratch_size before → AreTaps t.vector widths (narrow_taps before)
+  narrow_taps_are before are = record {
+    each = λ k known.
+        let wide = All-get_or (λ w. (1 ≤ w) × (w ≤ 2)) widths k 0 known placed.wide in
+        let fits : get_or widths k 0 * t.vector ≤ 2 * t.vector = mul-le (get_or widths k 0) t.vector 2 t.vector wide.1 (omega arith) in
+        let room = room_of k (omega arith) in
+        subst (λ l. AreBytes (get_or widths k 0 * t.vector) l) (sym (narrow_tap before k known)) (part_are (at_buffer k) (get_or widths k 0 * t.vector) before (omega arith) are.small);
+  }
 
   -- memory with these slots and these parts of the output's buffer; the table and the other buffers are as before, and so is the output
   pub record Narrow (before out : List ℕ) (kept output : List (List ℕ)) (rs : List Region) : Type 0 where
     pub scratch : List ℕ
     pub is : rs ≡ memo scratch out
-    pub scratch_long : length scratch ≡ scratch_size
+    pub scratch_are : AreBytes scratch_size scratch
     pub in_slots : SlotsIn t pictures at entries widths width slots n scratch_size output_size row image place placed kept scratch
     pub count : length output ≡ width
     pub there : Cells (at_buffer (length widths)) t.vector output scratch
     pub same : Agree 0 (at_buffer (length widths)) before scratch
 
-  module _ (before out : List ℕ) (before_long : length before ≡ scratch_size) (out_long : length out ≡ output_size) (filled : Filled t code labels pictures at entries widths width slots n scratch_size output_size row image place placed narrow some_pixel (length widths + 1) (length widths) before) where
+  module _ (before out : List ℕ) (before_are : AreBytes scratch_size before) (out_long : length out ≡ output_size) (filled : Filled t code labels pictures at entries widths width slots n scratch_size output_size row image place placed narrow some_pixel (length widths + 1) (length widths) before) where
     abbrev address : ℕ → ℕ
     address k = at.scratch + at_buffer k
 
@@ -80,9 +84,9 @@ module _ {I O : Type 0} (t : Table O) (code : List (Line I O)) (labels : List La
         let room = room_of (length widths) (omega arith) in
         let room_k = room_of k inside in
         let low = placed.scratch_low in
-        let long = w.scratch_long in
+        let are = w.scratch_are in
         let here : register_wrapped t.target (at.scratch + 8 * k) ≡ at.scratch + 8 * k = wrapped_small t.target (at.scratch + 8 * k) (omega arith) in
-        let load : loaded (memo w.scratch out) (at.scratch + 8 * k) pb ≡ Some (part (8 * k) pb w.scratch) = loaded-scratch pictures at (packed 8 entries) w.scratch out (placed.apart w.scratch out long out_long) (8 * k) pb some_bytes (omega arith) in
+        let load : loaded (memo w.scratch out) (at.scratch + 8 * k) pb ≡ Some (part (8 * k) pb w.scratch) = loaded-scratch pictures at (packed 8 entries) w.scratch out (placed.apart w.scratch out are.size out_long) (8 * k) pb some_bytes (omega arith) in
         let same = w.same in
         let held : part (8 * k) pb w.scratch ≡ bytes pb (address k) = same.each (8 * k) pb (omega arith) (omega arith) ∙ filled.entry k (omega arith) in (
           bytes pb (address k),
@@ -102,18 +106,20 @@ module _ {I O : Type 0} (t : Table O) (code : List (Line I O)) (labels : List La
         let room : t.vector * j + t.vector * 1 ≤ t.vector * by = span t.vector j 1 by (omega arith) in
         let room_k = room_of k (omega arith) in
         let before_last = order k (length widths) known in
-        let long = w.scratch_long in
+        let are = w.scratch_are in
         let same = w.same in
         let spot : address k + 0 * by + j * t.vector ≡ at.scratch + (at_buffer k + t.vector * j) = omega arith in
-        let load = loaded-scratch pictures at (packed 8 entries) w.scratch out (placed.apart w.scratch out long out_long) (at_buffer k + t.vector * j) t.vector (omega arith) (omega arith) in
+        let load = loaded-scratch pictures at (packed 8 entries) w.scratch out (placed.apart w.scratch out are.size out_long) (at_buffer k + t.vector * j) t.vector (omega arith) (omega arith) in
         let held : part (at_buffer k + t.vector * j) t.vector w.scratch ≡ part (at_buffer k + t.vector * j) t.vector before = same.each (at_buffer k + t.vector * j) t.vector (omega arith) (omega arith) in
         let sub : part (t.vector * j) t.vector (buffer_block before k) ≡ part (at_buffer k + t.vector * j) t.vector before = take-drop-part before (at_buffer k) (by * t.vector) (t.vector * j) t.vector (omega arith) in
         ap (λ r. loaded r (address k + 0 * by + j * t.vector) t.vector) w.is ∙ ap (λ a. loaded (memo w.scratch out) a t.vector) spot ∙ load
         ∙ ap Some (held ∙ sym sub ∙ ap (λ l. part (t.vector * j) t.vector l) (sym (narrow_tap before k known)))
 
-    narrow_store : (kept output : List (List ℕ)) (rs : List Region) → Narrow before out kept output rs → (j : ℕ) (new : List ℕ) → j < width → length new ≡ t.vector
+    narrow_store : (kept output : List (List ℕ)) (rs : List Region) → Narrow before out kept output rs → (j : ℕ) (new : List ℕ) → j < width
+        → AreBytes t.vector new
         → (next : List Region) × (stored rs (address (length widths) + 0 * width + j * t.vector) new ≡ Some next) × Narrow before out kept (set output j new) next
-    narrow_store kept output rs w j new inside size =
+    narrow_store kept output rs w j new inside new_are =
+        let size = new_are.size in
         let some = placed.some in
         let wide = placed.wide_out in
         let base = at_buffer (length widths) in
@@ -124,15 +130,15 @@ module _ {I O : Type 0} (t : Table O) (code : List (Line I O)) (labels : List La
         let count_bytes : t.vector * length output ≡ t.vector * width = ap (λ c. t.vector * c) count in
         let room_all = room_of (length widths) (omega arith) in
         let next_buffer = order (length widths) (length widths + 1) (omega arith) in
-        let long = w.scratch_long in
+        let are = w.scratch_are in
         let spot : address (length widths) + 0 * width + j * t.vector ≡ at.scratch + (base + t.vector * j) = omega arith in
-        let put = stored-scratch pictures at (packed 8 entries) w.scratch out (placed.apart w.scratch out long out_long) (base + t.vector * j) new (omega arith) (omega arith) in
+        let put = stored-scratch pictures at (packed 8 entries) w.scratch out (placed.apart w.scratch out are.size out_long) (base + t.vector * j) new (omega arith) (omega arith) in
         let after = overwritten w.scratch (base + t.vector * j) new in
         let fit : base + t.vector * j + length new ≤ length w.scratch = omega arith in
         let next : Narrow before out kept (set output j new) (memo after out) = record {
           scratch = after;
           is = refl;
-          scratch_long = length-overwritten w.scratch (base + t.vector * j) new fit ∙ long;
+          scratch_are = overwritten_are scratch_size (base + t.vector * j) w.scratch new are fit new_are.small;
           in_slots = slots-agree t.vector pictures at entries widths width slots n scratch_size output_size row image place placed kept w.scratch after w.in_slots (agree-behind (at_buffer (length widths + 1)) scratch_size (base + t.vector * j) w.scratch new (omega arith) fit);
           count = length-set output j new ∙ count;
           there = cells-set base t.vector j output w.scratch new w.there (omega arith) size (omega arith);
@@ -141,15 +147,17 @@ module _ {I O : Type 0} (t : Table O) (code : List (Line I O)) (labels : List La
         (memo after out, ap (λ r. stored r (address (length widths) + 0 * width + j * t.vector) new) w.is ∙ ap (λ a. stored (memo w.scratch out) a new) spot ∙ put, next)
 
     narrow_slot : (kept output : List (List ℕ)) (rs : List Region) → Narrow before out kept output rs → (k : ℕ) → k < slots
-        → (loaded rs (at.scratch + slot_at t.vector (length widths) k) t.vector ≡ Some (get_or kept k [])) × (length (get_or kept k []) ≡ t.vector)
+        → (loaded rs (at.scratch + slot_at t.vector (length widths) k) t.vector ≡ Some (get_or kept k [])) × AreBytes t.vector (get_or kept k [])
     narrow_slot kept output rs w k inside =
-        let given = slot-given t.vector pictures at entries widths width slots n scratch_size output_size row image place placed k kept w.scratch out inside w.in_slots w.scratch_long out_long in
+        let given = slot-given t.vector pictures at entries widths width slots n scratch_size output_size row image place placed k kept w.scratch out inside w.in_slots w.scratch_are out_long in
         (ap (λ r. loaded r (at.scratch + slot_at t.vector (length widths) k) t.vector) w.is ∙ given.0, given.1)
 
-    narrow_keep : (kept output : List (List ℕ)) (rs : List Region) → Narrow before out kept output rs → (k : ℕ) (new : List ℕ) → k < slots → length new ≡ t.vector
+    narrow_keep : (kept output : List (List ℕ)) (rs : List Region) → Narrow before out kept output rs → (k : ℕ) (new : List ℕ) → k < slots
+        → AreBytes t.vector new
         → (next : List Region) × (stored rs (at.scratch + slot_at t.vector (length widths) k) new ≡ Some next) × Narrow before out (set kept k new) output next
-    narrow_keep kept output rs w k new inside size =
-        let put = slot-stored t.vector pictures at entries widths width slots n scratch_size output_size row image place placed k new kept w.scratch out inside size w.in_slots w.scratch_long out_long in
+    narrow_keep kept output rs w k new inside new_are =
+        let size = new_are.size in
+        let put = slot-stored t.vector pictures at entries widths width slots n scratch_size output_size row image place placed k new kept w.scratch out inside new_are w.in_slots w.scratch_are out_long in
         let spot = slot_at t.vector (length widths) k in
         let after = overwritten w.scratch spot new in
         let base = at_buffer (length widths) in
@@ -160,12 +168,12 @@ module _ {I O : Type 0} (t : Table O) (code : List (Line I O)) (labels : List La
         let next_buffer = order (length widths) (length widths + 1) (omega arith) in
         let room : t.vector * k + t.vector * 1 ≤ t.vector * slots = span t.vector k 1 slots (omega arith) in
         let whole = placed.scratch_long in
-        let long = w.scratch_long in
+        let are = w.scratch_are in
         let fit : spot + length new ≤ length w.scratch = omega arith in
         let next : Narrow before out (set kept k new) output (memo after out) = record {
           scratch = after;
           is = refl;
-          scratch_long = put.2;
+          scratch_are = put.2;
           in_slots = put.1;
           count = w.count;
           there = cells-agree base t.vector output w.scratch after w.there (agree-before base (base + t.vector * length output) spot w.scratch new (omega arith) fit);
@@ -182,7 +190,7 @@ module _ {I O : Type 0} (t : Table O) (code : List (Line I O)) (labels : List La
         record {
           few = All-weaker (λ w. (1 ≤ w) × (w ≤ 2)) (λ w. w ≤ 2) (λ w both. both.1) widths placed.wide;
           narrow = wide.1;
-          sizes = λ k known. narrow_tap_long before k known before_long;
+          taps_are = narrow_taps_are before before_are;
           low = λ k known.
               let by = get_or widths k 0 in
               let wide_k = All-get_or (λ w. (1 ≤ w) × (w ≤ 2)) widths k 0 known placed.wide in

@@ -14,33 +14,34 @@ use Rattle.pf_machine.specs.declared.code.Line.{Line}
 use Rattle.pf_machine.specs.declared.code.Line.TheVariants.{Control as Controls}
 use Rattle.pf_machine.specs.declared.code.Label.{Label}
 use Rattle.pf_machine.specs.declared.block.Item.{Item}
-use Rattle.pf_machine.specs.Meaning.Bytes.{number, bytes, packed, lanes}
+use Rattle.pf_machine.specs.Meaning.Bytes.{AreBytes, number, bytes, packed, lanes}
 use Rattle.pf_machine.specs.Meaning.Memory.{loaded, stored}
 use Rattle.pf_machine.specs.Meaning.Runs.{Places}
 use Rattle.pf_machine.specs.Meaning.MachineSteps.{State}
 use Rattle.pf_machine.specs.Meaning.Tables.{Table, IsTable, IsFile}
-use Rattle.pf_machine.specs.Meaning.Blocks.{Bench, items_run, IsWithin}
+use Rattle.pf_machine.specs.Meaning.Blocks.{Bench, items_run, IsWithin, AreTaps, AreSlots}
 use Rattle.pf_machine.proofs.ByteLaws.{lane_at, get_or-lanes, length-lanes, length-packed, length-bytes}
+use Rattle.pf_machine.proofs.FileLaws.{part_are}
 use Rattle.pf_machine.proofs.MemoryLaws.{image_bytes, overwritten, length-overwritten, overwritten-overwritten, take-drop-part, loaded-scratch}
 use Rattle.pf_rows.specs.Meaning.Scratch.{buffer_at}
 use Rattle.pf_rows.specs.Meaning.BlockRows.{IsBlockItem, StoresEach, start_of}
 use Rattle.pf_rows.specs.Steps.RowCode.{block_lines, next_at, narrow_at, back_at, scratch_lines, copy_turn, IsOne}
 use Rattle.pf_rows.proofs.Paths.{Stands, stands-front, stands-back, now, Comes, comes-on, comes-one}
 use Rattle.pf_rows.proofs.Pointers.{scratch_count, scratch_cheap, length-scratch_lines, comes-scratch}
-use Rattle.pf_rows.proofs.Cells.{part, length-part, part-within, Agree, agree-same, agree-before, agree-behind, cells-none, cells-joined, cells_of, length-cells_of}
+use Rattle.pf_rows.proofs.Cells.{part, length-part, part-within, Agree, agree-same, agree-before, agree-behind, cells-none, cells-joined, cells_of}
 use Rattle.pf_rows.proofs.Steps.{block_takes}
 use Rattle.pf_rows.proofs.RowPlaces.{RowPlace, span, entry-given, row-stored}
 use Rattle.pf_rows.proofs.Wide.{mem}
 use Rattle.pf_rows.proofs.Ways.{Laid, Ends, comes-ends, returns, begins_narrow, parts_back}
-use Rattle.pf_rows.proofs.WideRow.{slots_are, RowLeft, longer, given_by}
+use Rattle.pf_rows.proofs.WideRow.{slots_are, slots_found, RowLeft, longer, given_by}
 use Rattle.pf_rows.proofs.PixelCopies.{Copy, turn_count, copied, from_stands, to_stands, length-copy_turn}
 use Rattle.pf_rows.proofs.Buffers.{buffer_room, buffer_low}
 use Rattle.pf_rows.proofs.Prepared.{Filled, ready}
-use Rattle.pf_rows.proofs.Narrow.{narrow_taps, narrow_tap, narrow_tap_long, Narrow, narrow_desk}
+use Rattle.pf_rows.proofs.Narrow.{narrow_taps, narrow_tap, narrow_taps_are, Narrow, narrow_desk}
 
 -- taps of a block from pixel x of a row of n pixels on: as many as there are are those of the row
 pub record Finds (vector n : ℕ) (pictures : List Picture) (widths : List ℕ) (image place : ℕ → ℕ) (x : ℕ) (blocks : List (List ℕ)) : Type 0 where
-  pub sizes : (k : ℕ) → k < length widths → length (get_or blocks k []) ≡ get_or widths k 0 * vector
+  pub taps : AreTaps vector widths blocks
   pub each : (k j : ℕ) → k < length widths → j < vector → x + j < n
       → part (get_or widths k 0 * j) (get_or widths k 0) (get_or blocks k []) ≡ part (place k + get_or widths k 0 * (x + j)) (get_or widths k 0) (image_bytes pictures (image k))
 
@@ -113,7 +114,8 @@ module _ {I O : Type 0} (t : Table O) (is_op : O → Type 0) (laws : IsTable t i
         ∙ loaded-scratch pictures at (packed 8 entries) scratch (back_to x) (placed.apart scratch (back_to x) scratch_long (back_long x (omega arith))) (buffer + width * x) width (omega arith) (omega arith)
         ∙ ap Some (sym (take-drop-part scratch buffer (width * n) (width * x) width (omega arith)))
 
-    back_store : (x : ℕ) → x < n → stored (memo scratch (back_to x)) (get_or entries (length widths) 0 + x * width) (bytes width (number (back_held x))) ≡ Some (memo scratch (back_to (suc x)))
+    back_store : (x : ℕ) → x < n
+        → stored (memo scratch (back_to x)) (get_or entries (length widths) 0 + x * width) (bytes width (number (back_held x))) ≡ Some (memo scratch (back_to (suc x)))
     back_store x inside =
         let wide = placed.wide_out in
         let room : width * x + width * 1 ≤ width * n = span width x 1 n (omega arith) in
@@ -177,7 +179,8 @@ module _ {I O : Type 0} (t : Table O) (is_op : O → Type 0) (laws : IsTable t i
     back : Agree (row + width * n) output_size out left
     pixels : (q : ℕ) → q < n → part (row + width * q) width left ≡ bytes width (number (part (width * q) width (part buffer (width * n) scratch)))
 
-  came_back : (scratch out : List ℕ) (f : RegFile) → length scratch ≡ scratch_size → length out ≡ output_size → (p v e : ℕ) (flag : Bool) → CameBack scratch out f p v e flag
+  came_back : (scratch out : List ℕ) (f : RegFile) → length scratch ≡ scratch_size → length out ≡ output_size → (p v e : ℕ) (flag : Bool)
+      → CameBack scratch out f p v e flag
   came_back scratch out f scratch_long out_long p v e flag =
       let a = back_at I t widths width block in
       let wide = placed.wide_out in
@@ -240,12 +243,13 @@ module _ {I O : Type 0} (t : Table O) (is_op : O → Type 0) (laws : IsTable t i
     pointer : ℕ
     file : RegFile
     kept : List ℕ
-    kept_long : length kept ≡ scratch_size
+    kept_are : AreBytes scratch_size kept
     comes : Comes t code labels many (now 7 (at.scratch ∷ n ∷ at.scratch ∷ 0 ∷ at.table ∷ p ∷ v ∷ e ∷ []) flag f (memo before out)) (now (next_at I t widths width block) (at.scratch ∷ n ∷ at.scratch ∷ 0 ∷ at.table ∷ pointer ∷ v ∷ e ∷ []) flag file (memo kept out))
     gives_it : part buffer (t.vector * width) kept ≡ given_from (narrow_taps_of before) f (slots_of before)
 
-  block_ran : (f : RegFile) (before out : List ℕ) → IsFile t t.vectors f → length before ≡ scratch_size → length out ≡ output_size → IsFilled before → (p v e : ℕ) (flag : Bool) → BlockRan f before out p v e flag
-  block_ran f before out is_file before_long out_long filled p v e flag =
+  block_ran : (f : RegFile) (before out : List ℕ) → IsFile t t.vectors f → AreBytes scratch_size before → length out ≡ output_size → IsFilled before
+      → (p v e : ℕ) (flag : Bool) → BlockRan f before out p v e flag
+  block_ran f before out is_file before_are out_long filled p v e flag =
       let some = placed.some in
       let none : List ℕ = [] in
       let kept = slots_of before in
@@ -254,13 +258,13 @@ module _ {I O : Type 0} (t : Table O) (is_op : O → Type 0) (laws : IsTable t i
       let holds : Narrow t code labels pictures at entries widths width slots n scratch_size output_size row image place placed narrow some_pixel before out kept (replicate width none) (memo before out) = record {
         scratch = before;
         is = refl;
-        scratch_long = before_long;
-        in_slots = slots_are t.vector pictures at entries widths width slots n scratch_size output_size row image place placed before before_long;
+        scratch_are = before_are;
+        in_slots = slots_are t.vector pictures at entries widths width slots n scratch_size output_size row image place placed before before_are;
         count = length-replicate width none;
         there = cells-none buffer t.vector width before some;
         same = agree-same 0 buffer before;
       } in
-      let desk = narrow_desk t code labels pictures at entries widths width slots n scratch_size output_size row image place placed narrow some_pixel before out before_long out_long filled in
+      let desk = narrow_desk t code labels pictures at entries widths width slots n scratch_size output_size row image place placed narrow some_pixel before out before_are out_long filled in
       let takes = block_takes t is_op laws code labels at.scratch at.scratch 0 widths width slots (λ k. at.scratch + buffer_at t.vector (length widths) k) (narrow_taps_of before) (Narrow t code labels pictures at entries widths width slots n scratch_size output_size row image place placed narrow some_pixel before out) desk n at.table v e flag block 7 p (memo before out) begun laid.steps ones within steps is_file (length-replicate width none) holds in
       let after = takes.holds in
       let all : length done.output ≡ width = after.count in
@@ -270,15 +274,15 @@ module _ {I O : Type 0} (t : Table O) (is_op : O → Type 0) (laws : IsTable t i
         pointer = takes.pointer;
         file = done.file;
         kept = after.scratch;
-        kept_long = after.scratch_long;
+        kept_are = after.scratch_are;
         comes = subst (λ r. Comes t code labels many (now 7 (at.scratch ∷ n ∷ at.scratch ∷ 0 ∷ at.table ∷ p ∷ v ∷ e ∷ []) flag f (memo before out)) (now (next_at I t widths width block) (at.scratch ∷ n ∷ at.scratch ∷ 0 ∷ at.table ∷ takes.pointer ∷ v ∷ e ∷ []) flag done.file r)) after.is takes.comes;
         gives_it = ap (λ c. part buffer (t.vector * c) after.scratch) (sym all) ∙ joined;
       }
 
   -- the buffers hold the row's pixels
-  finds_of : (before : List ℕ) → length before ≡ scratch_size → IsFilled before → Finds t.vector n pictures widths image place 0 (narrow_taps_of before)
-  finds_of before before_long filled = record {
-    sizes = λ k known. narrow_tap_long t code labels pictures at entries widths width slots n scratch_size output_size row image place placed narrow some_pixel before k known before_long;
+  finds_of : (before : List ℕ) → AreBytes scratch_size before → IsFilled before → Finds t.vector n pictures widths image place 0 (narrow_taps_of before)
+  finds_of before before_are filled = record {
+    taps = narrow_taps_are t code labels pictures at entries widths width slots n scratch_size output_size row image place placed narrow some_pixel before before_are;
     each = λ k j known inside left.
         let w = get_or widths k 0 in
         let at_k = buffer_at t.vector (length widths) k in
@@ -293,14 +297,14 @@ module _ {I O : Type 0} (t : Table O) (is_op : O → Type 0) (laws : IsTable t i
   }
 
   module _ (Given : ℕ → ℕ → List ℕ → Type 0)
-      (gives : (x : ℕ) → x + t.vector ≤ n → (f : RegFile) (kept : List (List ℕ)) → IsFile t t.vectors f → length kept ≡ slots → (q : ℕ) → x ≤ q → q < x + t.vector → Given x q (part (width * (q - x)) width (given_by t is_op laws code labels pictures at entries widths width slots n scratch_size output_size row image place placed block laid ones within steps stores x f kept)))
-      (narrow_gives : (blocks : List (List ℕ)) → Finds t.vector n pictures widths image place 0 blocks → (f : RegFile) (kept : List (List ℕ)) → IsFile t t.vectors f → length kept ≡ slots → (q : ℕ) → q < n → length (part (width * q) width (given_from blocks f kept)) ≡ width → Given 0 q (bytes width (number (part (width * q) width (given_from blocks f kept))))) where
+      (gives : (x : ℕ) → x + t.vector ≤ n → (f : RegFile) (kept : List (List ℕ)) → IsFile t t.vectors f → AreSlots t.vector slots kept → (q : ℕ) → x ≤ q → q < x + t.vector → Given x q (part (width * (q - x)) width (given_by t is_op laws code labels pictures at entries widths width slots n scratch_size output_size row image place placed block laid ones within steps stores x f kept)))
+      (narrow_gives : (blocks : List (List ℕ)) → Finds t.vector n pictures widths image place 0 blocks → (f : RegFile) (kept : List (List ℕ)) → IsFile t t.vectors f → AreSlots t.vector slots kept → (q : ℕ) → q < n → AreBytes width (part (width * q) width (given_from blocks f kept)) → Given 0 q (bytes width (number (part (width * q) width (given_from blocks f kept))))) where
     abbrev Left : ℕ → State → List ℕ → Type 0
     Left = RowLeft t is_op laws code labels pictures at entries widths width slots n scratch_size output_size row image place placed block laid ones within steps stores Given gives
 
-    pub narrow_row : (f : RegFile) (scratch held : List ℕ) → IsFile t t.vectors f → length scratch ≡ scratch_size → length held ≡ output_size
+    pub narrow_row : (f : RegFile) (scratch held : List ℕ) → IsFile t t.vectors f → AreBytes scratch_size scratch → length held ≡ output_size
         → Left (many + 4096 * (length widths + 1)) (now 0 (at.table ∷ 0 ∷ 0 ∷ 0 ∷ 0 ∷ 0 ∷ 0 ∷ 0 ∷ []) false f (memo scratch held)) held
-    narrow_row f scratch held is_file scratch_long held_long =
+    narrow_row f scratch held is_file scratch_are held_long =
         let some = placed.some in
         let most = placed.most in
         let few = placed.few_taps in
@@ -312,16 +316,17 @@ module _ {I O : Type 0} (t : Table O) (is_op : O → Type 0) (laws : IsTable t i
         let is_count = placed.count in
         let is_scratch = placed.scratch in
         let taps = length widths in
-        let count = entry-given t.vector pictures at entries widths width slots n scratch_size output_size row image place placed t.target (taps + 2) scratch held (omega arith) (omega arith) scratch_long held_long in
-        let base = entry-given t.vector pictures at entries widths width slots n scratch_size output_size row image place placed t.target (taps + 1) scratch held (omega arith) (omega arith) scratch_long held_long in
+        let count = entry-given t.vector pictures at entries widths width slots n scratch_size output_size row image place placed t.target (taps + 2) scratch held (omega arith) (omega arith) scratch_are.size held_long in
+        let base = entry-given t.vector pictures at entries widths width slots n scratch_size output_size row image place placed t.target (taps + 1) scratch held (omega arith) (omega arith) scratch_are.size held_long in
         let start : State = now 0 (at.table ∷ 0 ∷ 0 ∷ 0 ∷ 0 ∷ 0 ∷ 0 ∷ 0 ∷ []) false f (memo scratch held) in
         let begun = begins_narrow t code labels widths width block laid at.table n at.scratch f (memo scratch held) count.0 base.0 (omega arith) (omega arith) narrow count.1 (count.2 ∙ is_count) base.1 (base.2 ∙ is_scratch) in
-        let prepared = ready t code labels pictures at entries widths width slots n scratch_size output_size row image place placed narrow some_pixel (narrow_at I t widths width block) 0 0 0 t.vector true f scratch held scratch_long held_long laid.narrow laid.to_copies laid.to_block in
-        let ran = block_ran f prepared.left held is_file prepared.left_long held_long prepared.filled prepared.pointer prepared.value prepared.end prepared.flag_left in
-        let c = turn_count t code labels (from_lines 0 f ran.kept held ran.kept_long held_long) (to_lines 0 f ran.kept held ran.kept_long held_long) width in
+        let prepared = ready t code labels pictures at entries widths width slots n scratch_size output_size row image place placed narrow some_pixel (narrow_at I t widths width block) 0 0 0 t.vector true f scratch held scratch_are held_long laid.narrow laid.to_copies laid.to_block in
+        let ran = block_ran f prepared.left held is_file prepared.left_are held_long prepared.filled prepared.pointer prepared.value prepared.end prepared.flag_left in
+        let kept_are = ran.kept_are in
+        let c = turn_count t code labels (from_lines 0 f ran.kept held kept_are.size held_long) (to_lines 0 f ran.kept held kept_are.size held_long) width in
         let m = suc (n - 1) in
         let parted = parts_back t code labels widths width block laid at.scratch n at.scratch 0 at.table ran.pointer prepared.value prepared.end prepared.flag_left ran.file (memo ran.kept held) narrow in
-        let ended = came_back ran.kept held ran.file ran.kept_long held_long ran.pointer prepared.value t.vector true in
+        let ended = came_back ran.kept held ran.file kept_are.size held_long ran.pointer prepared.value t.vector true in
         let low = prepared.count_low in
         let cheap = ended.cost_low in
         let all = comes-on t code labels 6 (prepared.count + (many + 3)) _ _ _ begun (comes-on t code labels prepared.count (many + 3) _ _ _ prepared.comes (comes-on t code labels many 3 _ _ _ ran.comes parted)) in
@@ -330,7 +335,7 @@ module _ {I O : Type 0} (t : Table O) (is_op : O → Type 0) (laws : IsTable t i
         let left : Left (6 + (prepared.count + (many + 3)) + ended.cost) start held = record {
           kept = ran.kept;
           left = ended.left;
-          kept_long = ran.kept_long;
+          kept_are = kept_are;
           left_long = ended.left_long;
           ends = ends;
           front = ended.front;
@@ -343,10 +348,11 @@ module _ {I O : Type 0} (t : Table O) (is_op : O → Type 0) (laws : IsTable t i
               let one : part (width * q) width (part buffer (width * n) ran.kept) ≡ part (buffer + width * q) width ran.kept = take-drop-part ran.kept buffer (width * n) (width * q) width (omega arith) in
               let two : part (width * q) width (part buffer (t.vector * width) ran.kept) ≡ part (buffer + width * q) width ran.kept = take-drop-part ran.kept buffer (t.vector * width) (width * q) width (omega arith) in
               let same : part (width * q) width (part buffer (width * n) ran.kept) ≡ part (width * q) width (given_from (narrow_taps_of prepared.left) f (slots_of prepared.left)) = one ∙ sym two ∙ ap (λ l. part (width * q) width l) ran.gives_it in
-              let inner : length (part buffer (width * n) ran.kept) ≡ width * n = let fits = room_of_row in let end = room_of in let kept_long = ran.kept_long in length-part buffer (width * n) ran.kept (omega arith) in
-              let size : length (part (width * q) width (given_from (narrow_taps_of prepared.left) f (slots_of prepared.left))) ≡ width = sym (ap length same) ∙ length-part (width * q) width (part buffer (width * n) ran.kept) (omega arith) in
+              let inner : length (part buffer (width * n) ran.kept) ≡ width * n = let fits = room_of_row in let end = room_of in length-part buffer (width * n) ran.kept (omega arith) in
+              let source_are = part_are buffer (width * n) ran.kept (let fits = room_of_row in let end = room_of in omega arith) kept_are.small in
+              let pixel_are : AreBytes width (part (width * q) width (given_from (narrow_taps_of prepared.left) f (slots_of prepared.left))) = subst (λ l. AreBytes width l) same (part_are (width * q) width (part buffer (width * n) ran.kept) (omega arith) source_are.small) in
               let here : bytes width (number (part (width * q) width (given_from (narrow_taps_of prepared.left) f (slots_of prepared.left)))) ≡ part (row + width * q) width ended.left = ap (λ l. bytes width (number l)) (sym same) ∙ sym (ended.pixels q inside) in
-              let given = narrow_gives (narrow_taps_of prepared.left) (finds_of prepared.left prepared.left_long prepared.filled) f (slots_of prepared.left) is_file (length-cells_of (buffer_at t.vector taps (taps + 1)) t.vector slots prepared.left) q inside size in
+              let given = narrow_gives (narrow_taps_of prepared.left) (finds_of prepared.left prepared.left_are prepared.filled) f (slots_of prepared.left) is_file (slots_found t.vector pictures at entries widths width slots n scratch_size output_size row image place placed prepared.left prepared.left_are) q inside pixel_are in
               subst (λ s. Given s q (part (row + width * q) width ended.left)) (sym first) (subst (λ l. Given 0 q l) here given);
         } in
         longer t is_op laws code labels pictures at entries widths width slots n scratch_size output_size row image place placed block laid ones within steps stores Given gives (6 + (prepared.count + (many + 3)) + ended.cost) (many + 4096 * (taps + 1)) start held budget left

@@ -26,7 +26,8 @@ copy_label-other k j less small = false_from_ne_true (bytes_eq (copy_label k) (c
     absurd (omega arith))
 
 -- a name that is no copy's label
-pub place_of-past : (I O : Type 0) (vector taps k before end : ℕ) (widths : List ℕ) (rest : List Label) (name : List ℕ) → ((j : ℕ) → bytes_eq (copy_label j) name ≡ false) → place_of (copy_labels I O vector taps k before widths ++ rest) end name ≡ place_of rest end name
+pub place_of-past : (I O : Type 0) (vector taps k before end : ℕ) (widths : List ℕ) (rest : List Label) (name : List ℕ)
+    → ((j : ℕ) → bytes_eq (copy_label j) name ≡ false) → place_of (copy_labels I O vector taps k before widths ++ rest) end name ≡ place_of rest end name
 place_of-past I O vector taps k before end [] rest name other = refl
 place_of-past I O vector taps k before end (w ∷ widths) rest name other =
     let next = before + length (tap_copy {I = I} {O = O} vector taps k w) in
@@ -34,7 +35,8 @@ place_of-past I O vector taps k before end (w ∷ widths) rest name other =
     ∙ place_of-past I O vector taps (k + 1) next end widths rest name other
 
 -- the copies' labels lead to the copies
-pub copies_found : (I O : Type 0) (front : List Label) (vector taps k before end : ℕ) (widths : List ℕ) (rest : List Label) → ((j : ℕ) → k ≤ j → j < 100 → (more : List Label) → place_of (front ++ more) end (copy_label j) ≡ place_of more end (copy_label j))
+pub copies_found : (I O : Type 0) (front : List Label) (vector taps k before end : ℕ) (widths : List ℕ) (rest : List Label)
+    → ((j : ℕ) → k ≤ j → j < 100 → (more : List Label) → place_of (front ++ more) end (copy_label j) ≡ place_of more end (copy_label j))
     → k + length widths ≤ 100 → Copies I O (front ++ (copy_labels I O vector taps k before widths ++ rest)) end vector taps k before widths
 copies_found I O front vector taps k before end [] rest skips few = tt
 copies_found I O front vector taps k before end (w ∷ widths) rest skips few =

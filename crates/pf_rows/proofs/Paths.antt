@@ -48,7 +48,8 @@ module _ {I O : Type 0} (t : Table O) (code : List (Line I O)) (labels : List La
   comes-on c d r s q first second =
       record { by = λ m. let sum : c + d + m ≡ c + (d + m) = omega arith in ap (λ k. run t code labels k r) sum ∙ first.by (d + m) ∙ second.by m }
 
-  pub comes-one : (line : Line I O) (s next : State) → slice_get code s.at ≡ Some line → line_step t labels (length code) line s ≡ Continues next → Comes 1 s next
+  pub comes-one : (line : Line I O) (s next : State) → slice_get code s.at ≡ Some line → line_step t labels (length code) line s ≡ Continues next
+      → Comes 1 s next
   comes-one line s next there moved =
       let here : step t code labels s ≡ Continues next = rw there moved in
       record { by = λ m. let sum : 1 + m ≡ suc m = omega arith in ap (λ k. run t code labels k s) sum ∙ run_moved t code labels m s next here }

@@ -39,7 +39,8 @@ module _ {I O : Type 0} (code : List (Line I O)) (from to : List (Line I O)) (a 
       let at3 : Stands code (a + length from + width) rest = subst (λ m. Stands code (a + length from + m) rest) (length-pixel_lines I O 5 width) (stands-back code (a + length from) (pixel_lines 5 width) rest at2) in
       stands-front code (a + length from + width + 1) to last at3.1
 
-pub length-copy_turn : (I O : Type 0) (from to : List (Line I O)) (width : ℕ) (label : List ℕ) → length (copy_turn from to width label) ≡ length from + (width + (1 + (length to + (width + 4))))
+pub length-copy_turn : (I O : Type 0) (from to : List (Line I O)) (width : ℕ) (label : List ℕ)
+    → length (copy_turn from to width label) ≡ length from + (width + (1 + (length to + (width + 4))))
 length-copy_turn I O from to width label =
     let end : List (Line I O) = store_value width ∷ Controls (AddImm 3 3 false 1) ∷ Controls (Compare 3 1) ∷ Controls (Below label) ∷ [] in
     let last : List (Line I O) = pixel_lines 7 width ++ end in
@@ -51,7 +52,8 @@ length-copy_turn I O from to width label =
 
 module _ {I O : Type 0} (t : Table O) (code : List (Line I O)) (labels : List Label) where
   -- a pixel is loaded
-  value_loaded : (width a tb n s x u p v e : ℕ) (flag : Bool) (f : RegFile) (rs : List Region) (held : List ℕ) → 1 ≤ width → width ≤ 2 → slice_get code a ≡ Some (load_value width) → loaded rs p width ≡ Some held
+  value_loaded : (width a tb n s x u p v e : ℕ) (flag : Bool) (f : RegFile) (rs : List Region) (held : List ℕ) → 1 ≤ width → width ≤ 2
+      → slice_get code a ≡ Some (load_value width) → loaded rs p width ≡ Some held
       → Comes t code labels 1 (now a (tb ∷ n ∷ s ∷ x ∷ u ∷ p ∷ v ∷ e ∷ []) flag f rs) (now (a + 1) (tb ∷ n ∷ s ∷ x ∷ u ∷ p ∷ number held ∷ e ∷ []) flag f rs)
   value_loaded zero a tb n s x u p v e flag f rs held some few there load = absurd (omega arith)
   value_loaded (suc zero) a tb n s x u p v e flag f rs held some few there load = comes-one t code labels (Controls (LoadByte 6 5)) _ _ there (rw load refl)
@@ -59,7 +61,8 @@ module _ {I O : Type 0} (t : Table O) (code : List (Line I O)) (labels : List La
   value_loaded (suc (suc (suc width))) a tb n s x u p v e flag f rs held some few there load = absurd (omega arith)
 
   -- a pixel is stored
-  value_stored : (width a tb n s x u p v e : ℕ) (flag : Bool) (f : RegFile) (rs next : List Region) → 1 ≤ width → width ≤ 2 → slice_get code a ≡ Some (store_value width) → stored rs e (bytes width v) ≡ Some next
+  value_stored : (width a tb n s x u p v e : ℕ) (flag : Bool) (f : RegFile) (rs next : List Region) → 1 ≤ width → width ≤ 2
+      → slice_get code a ≡ Some (store_value width) → stored rs e (bytes width v) ≡ Some next
       → Comes t code labels 1 (now a (tb ∷ n ∷ s ∷ x ∷ u ∷ p ∷ v ∷ e ∷ []) flag f rs) (now (a + 1) (tb ∷ n ∷ s ∷ x ∷ u ∷ p ∷ v ∷ e ∷ []) flag f next)
   value_stored zero a tb n s x u p v e flag f rs next some few there store = absurd (omega arith)
   value_stored (suc zero) a tb n s x u p v e flag f rs next some few there store = comes-one t code labels (Controls (StoreByte 7 6)) _ _ there (rw store refl)
@@ -67,7 +70,8 @@ module _ {I O : Type 0} (t : Table O) (code : List (Line I O)) (labels : List La
   value_stored (suc (suc (suc width))) a tb n s x u p v e flag f rs next some few there store = absurd (omega arith)
 
   -- an address is kept in the scratch's table
-  pub pointer_stored : (k a tb n s x u p v e : ℕ) (flag : Bool) (f : RegFile) (rs next : List Region) → s + 8 * k < 2 ^ 32 → slice_get code a ≡ Some (Controls (StorePtr 2 k 7)) → stored rs (s + 8 * k) (bytes (pointer_bytes t.target) e) ≡ Some next
+  pub pointer_stored : (k a tb n s x u p v e : ℕ) (flag : Bool) (f : RegFile) (rs next : List Region) → s + 8 * k < 2 ^ 32
+      → slice_get code a ≡ Some (Controls (StorePtr 2 k 7)) → stored rs (s + 8 * k) (bytes (pointer_bytes t.target) e) ≡ Some next
       → Comes t code labels 1 (now a (tb ∷ n ∷ s ∷ x ∷ u ∷ p ∷ v ∷ e ∷ []) flag f rs) (now (a + 1) (tb ∷ n ∷ s ∷ x ∷ u ∷ p ∷ v ∷ e ∷ []) flag f next)
   pointer_stored k a tb n s x u p v e flag f rs next low there store =
       let small : register_wrapped t.target (s + 8 * k) ≡ s + 8 * k = wrapped_small t.target (s + 8 * k) low in
@@ -80,7 +84,8 @@ module _ {I O : Type 0} (t : Table O) (code : List (Line I O)) (labels : List La
     pub count_low : n < 2 ^ 31
     pub source_low : source + n * width < 2 ^ 32
     pub target_low : target + n * width < 2 ^ 32
-    pub sets_p : (x p v e : ℕ) (flag : Bool) → x < n → Comes t code labels (length from) (now a (tb ∷ n ∷ s ∷ x ∷ u ∷ p ∷ v ∷ e ∷ []) flag f (rs x)) (now (a + length from) (tb ∷ n ∷ s ∷ x ∷ u ∷ source ∷ v ∷ e ∷ []) flag f (rs x))
+    pub sets_p : (x p v e : ℕ) (flag : Bool) → x < n
+        → Comes t code labels (length from) (now a (tb ∷ n ∷ s ∷ x ∷ u ∷ p ∷ v ∷ e ∷ []) flag f (rs x)) (now (a + length from) (tb ∷ n ∷ s ∷ x ∷ u ∷ source ∷ v ∷ e ∷ []) flag f (rs x))
     pub sets_e : (x p v e : ℕ) (flag : Bool) → x < n
         → Comes t code labels (length to) (now (a + length from + width + 1) (tb ∷ n ∷ s ∷ x ∷ u ∷ p ∷ v ∷ e ∷ []) flag f (rs x)) (now (a + length from + width + 1 + length to) (tb ∷ n ∷ s ∷ x ∷ u ∷ p ∷ v ∷ target ∷ []) flag f (rs x))
     pub load : (x : ℕ) → x < n → loaded (rs x) (source + x * width) width ≡ Some (held x)

@@ -22,7 +22,7 @@ use Rattle.pf_machine.specs.Meaning.Memory.{nowhere}
 use Rattle.pf_machine.specs.Meaning.Heads.{IsHead, IsDecl, IsTap}
 use Rattle.pf_machine.specs.Meaning.Runs.{Places, IsPlaced, pixel_bytes, columns, rows, tap_address, row_entries, memory, output_size}
 use Rattle.pf_machine.proofs.MemoryLaws.{image_bytes, memory-image, memory-output, output_place, length-memory, length-image_regions}
-use Rattle.pf_machine.proofs.RowLaws.{row_apart, row_low, length-row_entries, placed_kept, output_in_rows}
+use Rattle.pf_machine.proofs.RowLaws.{row_apart, row_low, length-row_entries, output_in_rows}
 use Rattle.pf_machine.proofs.ByteLaws.{length-packed, lane_at}
 use Rattle.pf_rows.specs.Meaning.Scratch.{scratch_bytes}
 use Rattle.pf_rows.specs.Meaning.BlockRows.{tap_widths, tap_pixel}
@@ -99,7 +99,8 @@ module _ (h : Head) (is_head : IsHead h) (pictures : List Picture) (keeps : Keep
         length-packed (pixel_bytes p.ty) p.pixels ∙ ap (λ m. pixel_bytes p.ty * m) image.count ∙ ap (λ b. b * (width_of pictures * height_of pictures)) (sym width_is)
 
     -- pixel x of the row, among the pixels of the image
-    place_is : (y x : ℕ) → place_of_tap y k + get_or (tap_widths h) k 0 * x ≡ get_or (tap_widths h) k 0 * (width_of pictures * tap_row h.taps y tap + (tap_column h.taps 0 tap + x))
+    place_is : (y x : ℕ)
+        → place_of_tap y k + get_or (tap_widths h) k 0 * x ≡ get_or (tap_widths h) k 0 * (width_of pictures * tap_row h.taps y tap + (tap_column h.taps 0 tap + x))
     place_is y x =
         let image = image_is tap.image tap_image in
         let w = get_or (tap_widths h) k 0 in
@@ -167,8 +168,8 @@ module _ (h : Head) (is_head : IsHead h) (pictures : List Picture) (keeps : Keep
         let rest : List ℕ = (at.output + line_at) ∷ at.scratch ∷ n ∷ [] in
         let table_low : at.table + length (packed 8 entries) < 2 ^ 31 = region_low 0 (omega arith) in
         let scratch_low : at.scratch + length scratch < 2 ^ 31 = region_low 1 (omega arith) in
-        let scratch_long = placed.scratch_size in
-        let output_long = placed.output_bytes in
+        let scratch_are = placed.scratch_bytes in
+        let output_are = placed.output_bytes in
         let table_long = length-packed 8 entries in
         let size = length-row_entries h pictures at y in
         let found = memory-output pictures at (packed 8 entries) scratch output in
@@ -212,5 +213,5 @@ module _ (h : Head) (is_head : IsHead h) (pictures : List Picture) (keeps : Keep
           scratch_low = omega arith;
           count = ap (λ i. get_or entries i 0) third ∙ get_or-append-add addresses rest 2 0;
           count_low = omega arith;
-          apart = λ kept out kept_long out_long. row_apart h pictures at y kept out (placed_kept h pictures at scratch output kept out placed kept_long out_long);
+          apart = λ kept out kept_long out_long. row_apart h pictures at y scratch output kept out placed kept_long out_long;
         }

@@ -45,14 +45,16 @@ scratch_cheap offset low = let one = at_most_one (offset / 4096 % 4095) in omega
 
 module _ {I O : Type 0} (t : Table O) (code : List (Line I O)) (labels : List Label) where
   -- a number is added to the register
-  adds : (a r by base : ℕ) (g : List ℕ) (flag : Bool) (f : RegFile) (rs : List Region) → slice_get code a ≡ Some (Controls (AddImm r r false by)) → get_or g r 0 ≡ base → base + by < 2 ^ 32
+  adds : (a r by base : ℕ) (g : List ℕ) (flag : Bool) (f : RegFile) (rs : List Region) → slice_get code a ≡ Some (Controls (AddImm r r false by))
+      → get_or g r 0 ≡ base → base + by < 2 ^ 32
       → Comes t code labels 1 (now a g flag f rs) (now (a + 1) (set g r (base + by)) flag f rs)
   adds a r by base g flag f rs there held small =
       let sum : register_wrapped t.target (get_or g r 0 + by) ≡ base + by = ap (λ b. register_wrapped t.target (b + by)) held ∙ wrapped_small t.target (base + by) small in
       comes-one t code labels (Controls (AddImm r r false by)) (now a g flag f rs) (now (a + 1) (set g r (base + by)) flag f rs) there (rw sum refl)
 
   -- the register goes on by x pixels
-  pub comes-pixels : (width a r base x : ℕ) (g : List ℕ) (flag : Bool) (f : RegFile) (rs : List Region) → Stands code a (pixel_lines r width) → r ≢ 3 → r < length g → get_or g r 0 ≡ base → get_or g 3 0 ≡ x → base + x * width < 2 ^ 32
+  pub comes-pixels : (width a r base x : ℕ) (g : List ℕ) (flag : Bool) (f : RegFile) (rs : List Region) → Stands code a (pixel_lines r width) → r ≢ 3
+      → r < length g → get_or g r 0 ≡ base → get_or g 3 0 ≡ x → base + x * width < 2 ^ 32
       → Comes t code labels width (now a g flag f rs) (now (a + width) (set g r (base + x * width)) flag f rs)
   comes-pixels zero a r base x g flag f rs there other inside held pixel small =
       let here : a + 0 ≡ a = omega arith in
@@ -75,7 +77,8 @@ module _ {I O : Type 0} (t : Table O) (code : List (Line I O)) (labels : List La
       (subst (λ l. Comes t code labels (1 + width) (now a g flag f rs) (now (a + 1 + width) l flag f rs)) same both))
 
   -- so many times the same number is added
-  comes-replicate : (count a r by base : ℕ) (g : List ℕ) (flag : Bool) (f : RegFile) (rs : List Region) → Stands code a (replicate count (Controls (AddImm r r false by))) → r < length g → get_or g r 0 ≡ base → base + by * count < 2 ^ 32
+  comes-replicate : (count a r by base : ℕ) (g : List ℕ) (flag : Bool) (f : RegFile) (rs : List Region)
+      → Stands code a (replicate count (Controls (AddImm r r false by))) → r < length g → get_or g r 0 ≡ base → base + by * count < 2 ^ 32
       → Comes t code labels count (now a g flag f rs) (now (a + count) (set g r (base + by * count)) flag f rs)
   comes-replicate zero a r by base g flag f rs there inside held small =
       let here : a + 0 ≡ a = omega arith in
@@ -95,7 +98,8 @@ module _ {I O : Type 0} (t : Table O) (code : List (Line I O)) (labels : List La
       (subst (λ m. Comes t code labels (1 + count) (now a g flag f rs) (now m (set g r (base + by * suc count)) flag f rs)) place
       (subst (λ l. Comes t code labels (1 + count) (now a g flag f rs) (now (a + 1 + count) l flag f rs)) same both))
 
-  comes-last : (pages a r base : ℕ) (g : List ℕ) (flag : Bool) (f : RegFile) (rs : List Region) → Stands code a (last_pages r pages) → get_or g r 0 ≡ base → base + 4096 * pages < 2 ^ 32
+  comes-last : (pages a r base : ℕ) (g : List ℕ) (flag : Bool) (f : RegFile) (rs : List Region) → Stands code a (last_pages r pages) → get_or g r 0 ≡ base
+      → base + 4096 * pages < 2 ^ 32
       → Comes t code labels (last_count pages) (now a g flag f rs) (now (a + last_count pages) (set g r (base + 4096 * pages)) flag f rs)
   comes-last zero a r base g flag f rs there held small =
       let here : a + 0 ≡ a = omega arith in
@@ -105,7 +109,8 @@ module _ {I O : Type 0} (t : Table O) (code : List (Line I O)) (labels : List La
   comes-last (suc pages) a r base g flag f rs there held small = adds a r (4096 * suc pages) base g flag f rs there.0 held small
 
   -- the register becomes the address of a byte of the scratch
-  pub comes-scratch : (a r scratch offset : ℕ) (g : List ℕ) (flag : Bool) (f : RegFile) (rs : List Region) → Stands code a (scratch_lines r offset) → r < length g → get_or g 2 0 ≡ scratch → scratch + offset < 2 ^ 32
+  pub comes-scratch : (a r scratch offset : ℕ) (g : List ℕ) (flag : Bool) (f : RegFile) (rs : List Region) → Stands code a (scratch_lines r offset)
+      → r < length g → get_or g 2 0 ≡ scratch → scratch + offset < 2 ^ 32
       → Comes t code labels (scratch_count offset) (now a g flag f rs) (now (a + scratch_count offset) (set g r (scratch + offset)) flag f rs)
   comes-scratch a r scratch offset g flag f rs there inside held small =
       let low = offset % 4096 in

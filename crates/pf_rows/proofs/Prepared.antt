@@ -2,7 +2,7 @@
 use Rattle.std.proofs.Common.{◌≡◌, ℕ, suc, ◌+◌, ◌*◌, ◌<◌, ◌≤◌, List, [], ◌∷◌, ◌++◌, length, take, get_or, Bool, false, Some, refl, arith, ap, sym, subst, ◌∙◌, ⊎_elim, length-append}
 use Rattle.std.specs.Prelude.{codes}
 use Rattle.std.proofs.lemmas.List.{take_all, length-take-le}
-use Rattle.std.proofs.lemmas.List.Elements.{All-get_or}
+use Rattle.std.proofs.lemmas.List.Elements.{All-take, All-get_or}
 use Rattle.std.proofs.lemmas.Bool.{cases_lt}
 use Rattle.pf_ints.specs.Meaning.Images.{Picture}
 use Rattle.pf_machine.specs.declared.registers.RegFile.{RegFile}
@@ -11,13 +11,14 @@ use Rattle.pf_machine.specs.declared.control.Control.TheVariants.{StorePtr, Imm,
 use Rattle.pf_machine.specs.declared.code.Line.{Line}
 use Rattle.pf_machine.specs.declared.code.Line.TheVariants.{Control as Controls}
 use Rattle.pf_machine.specs.declared.code.Label.{Label}
-use Rattle.pf_machine.specs.Meaning.Bytes.{bytes, packed}
+use Rattle.pf_machine.specs.Meaning.Bytes.{AreBytes, bytes, packed}
 use Rattle.pf_machine.specs.Meaning.Memory.{stored}
 use Rattle.pf_machine.specs.Meaning.Runs.{Places}
 use Rattle.pf_machine.specs.Meaning.Tables.{Table}
 use Rattle.pf_machine.specs.Meaning.MachineSteps.{register_wrapped, pointer_bytes, place_of}
-use Rattle.pf_machine.proofs.ByteLaws.{length-bytes}
-use Rattle.pf_machine.proofs.MemoryLaws.{image_bytes, overwritten, length-overwritten, stored-scratch}
+use Rattle.pf_machine.proofs.ByteLaws.{length-bytes, bytes_below}
+use Rattle.pf_machine.proofs.FileLaws.{overwritten_are}
+use Rattle.pf_machine.proofs.MemoryLaws.{image_bytes, overwritten, stored-scratch}
 use Rattle.pf_machine.proofs.StepLaws.{wrapped_small}
 use Rattle.pf_rows.specs.Meaning.Scratch.{buffer_at}
 use Rattle.pf_rows.specs.Steps.RowCode.{scratch_lines, tap_copy, tap_copies, narrow_lines}
@@ -28,7 +29,7 @@ use Rattle.pf_rows.proofs.RowPlaces.{RowPlace, span, some-pointer, most-pointer}
 use Rattle.pf_rows.proofs.Wide.{mem}
 use Rattle.pf_rows.proofs.Ways.{Copies}
 use Rattle.pf_rows.proofs.PixelCopies.{pointer_stored}
-use Rattle.pf_rows.proofs.Buffers.{tap_row, buffer_room, row_room, buffer_low, table_ends, tap_copied}
+use Rattle.pf_rows.proofs.Buffers.{tap_row, tap_row_below, buffer_room, row_room, buffer_low, table_ends, tap_copied}
 
 module _ {I O : Type 0} (t : Table O) (code : List (Line I O)) (labels : List Label) (pictures : List Picture) (at : Places) (entries widths : List ℕ) (width slots n scratch_size output_size row : ℕ) (image place : ℕ → ℕ) (placed : RowPlace t.vector pictures at entries widths width slots n scratch_size output_size row image place) (narrow : n < t.vector) (some_pixel : 1 ≤ n) where
   abbrev memo : List ℕ → List ℕ → List Region
@@ -70,31 +71,34 @@ module _ {I O : Type 0} (t : Table O) (code : List (Line I O)) (labels : List La
   abbrev filled_of : ℕ → List ℕ → List ℕ
   filled_of k scratch = overwritten (written k scratch) (8 * k) (bytes pb (at.scratch + buffer k))
 
-  length-written : (k : ℕ) (scratch : List ℕ) → k < length widths → length scratch ≡ scratch_size → length (written k scratch) ≡ scratch_size
-  length-written k scratch known long =
+  bytes-written : (k : ℕ) (scratch : List ℕ) → k < length widths → AreBytes scratch_size scratch → AreBytes scratch_size (written k scratch)
+  bytes-written k scratch known are =
       let size = row_size k known in
-      let whole : length (take (get_or widths k 0 * n) (row_of_tap k)) ≡ get_or widths k 0 * n = length-take-le (get_or widths k 0 * n) (row_of_tap k) (omega arith) in
+      let new = take (get_or widths k 0 * n) (row_of_tap k) in
+      let whole : length new ≡ get_or widths k 0 * n = length-take-le (get_or widths k 0 * n) (row_of_tap k) (omega arith) in
       let room = room_of k (omega arith) in
       let fits = room_of_row k known in
-      length-overwritten scratch (buffer k) (take (get_or widths k 0 * n) (row_of_tap k)) (omega arith) ∙ long
+      let small = tap_row_below t code labels pictures at entries widths width slots n scratch_size output_size row image place placed narrow some_pixel k in
+      overwritten_are scratch_size (buffer k) scratch new are (omega arith) (All-take (λ b. b < 256) (get_or widths k 0 * n) (row_of_tap k) small)
 
-  length-filled : (k : ℕ) (scratch : List ℕ) → k < length widths → length scratch ≡ scratch_size → length (filled_of k scratch) ≡ scratch_size
-  length-filled k scratch known long =
-      let mid = length-written k scratch known long in
+  bytes-filled : (k : ℕ) (scratch : List ℕ) → k < length widths → AreBytes scratch_size scratch → AreBytes scratch_size (filled_of k scratch)
+  bytes-filled k scratch known are =
+      let mid = bytes-written k scratch known are in
       let size : length (bytes pb (at.scratch + buffer k)) ≡ pb = length-bytes pb (at.scratch + buffer k) in
       let most = most-pointer t.target in
       let ends = table_ends (length widths) k (omega arith) in
       let room = room_of k (omega arith) in
-      length-overwritten (written k scratch) (8 * k) (bytes pb (at.scratch + buffer k)) (omega arith) ∙ mid
+      overwritten_are scratch_size (8 * k) (written k scratch) (bytes pb (at.scratch + buffer k)) mid (omega arith) (bytes_below pb (at.scratch + buffer k))
 
   -- one more tap
-  filled_more : (k : ℕ) (scratch : List ℕ) → k < length widths → length scratch ≡ scratch_size → Filled k k scratch → Filled (k + 1) (k + 1) (filled_of k scratch)
-  filled_more k scratch known long before =
+  filled_more : (k : ℕ) (scratch : List ℕ) → k < length widths → AreBytes scratch_size scratch → Filled k k scratch
+      → Filled (k + 1) (k + 1) (filled_of k scratch)
+  filled_more k scratch known are before =
       let new = take (get_or widths k 0 * n) (row_of_tap k) in
       let pointer = bytes pb (at.scratch + buffer k) in
       let size = row_size k known in
       let whole : length new ≡ get_or widths k 0 * n = length-take-le (get_or widths k 0 * n) (row_of_tap k) (omega arith) in
-      let mid_long = length-written k scratch known long in
+      let mid = bytes-written k scratch known are in
       let size_pointer : length pointer ≡ pb = length-bytes pb (at.scratch + buffer k) in
       let most = most-pointer t.target in
       let ends = table_ends (length widths) k (omega arith) in
@@ -136,13 +140,15 @@ module _ {I O : Type 0} (t : Table O) (code : List (Line I O)) (labels : List La
     e' : ℕ
     flag' : Bool
     left : List ℕ
-    left_long : length left ≡ scratch_size
+    left_are : AreBytes scratch_size left
     filled : Filled (length widths) (length widths) left
     comes : Comes t code labels count (now a (regs x p v e) flag f (memo scratch output)) (now (a + length (tap_copies {I = I} {O = O} t.vector (length widths) k rest)) (regs x' p' v' e') flag' f (memo left output))
 
-  all_copied : (rest : List ℕ) (k a x p v e : ℕ) (flag : Bool) (f : RegFile) (scratch output : List ℕ) → k + length rest ≡ length widths → ((j : ℕ) → j < length rest → get_or rest j 0 ≡ get_or widths (k + j) 0)
-      → length scratch ≡ scratch_size → length output ≡ output_size → Stands code a (tap_copies t.vector (length widths) k rest) → Copies I O labels (length code) t.vector (length widths) k a rest → Filled k k scratch → AllCopied rest k a x p v e flag f scratch output
-  all_copied [] k a x p v e flag f scratch output all same long output_long there to filled =
+  all_copied : (rest : List ℕ) (k a x p v e : ℕ) (flag : Bool) (f : RegFile) (scratch output : List ℕ) → k + length rest ≡ length widths
+      → ((j : ℕ) → j < length rest → get_or rest j 0 ≡ get_or widths (k + j) 0)
+      → AreBytes scratch_size scratch → length output ≡ output_size → Stands code a (tap_copies t.vector (length widths) k rest)
+      → Copies I O labels (length code) t.vector (length widths) k a rest → Filled k k scratch → AllCopied rest k a x p v e flag f scratch output
+  all_copied [] k a x p v e flag f scratch output all same are output_long there to filled =
       let end : k ≡ length widths = omega arith in
       let here : a ≡ a + 0 = omega arith in
       record {
@@ -154,23 +160,23 @@ module _ {I O : Type 0} (t : Table O) (code : List (Line I O)) (labels : List La
         e' = e;
         flag' = flag;
         left = scratch;
-        left_long = long;
+        left_are = are;
         filled = subst (λ m. Filled m m scratch) end filled;
         comes = subst (λ m. Comes t code labels 0 (now a (regs x p v e) flag f (memo scratch output)) (now m (regs x p v e) flag f (memo scratch output))) here (comes-none t code labels (now a (regs x p v e) flag f (memo scratch output)));
       }
-  all_copied (w ∷ rest) k a x p v e flag f scratch output all same long output_long there to filled =
+  all_copied (w ∷ rest) k a x p v e flag f scratch output all same are output_long there to filled =
       let known : k < length widths = omega arith in
       let zeroth : k + 0 ≡ k = omega arith in
       let is : w ≡ get_or widths k 0 = same 0 (omega arith) ∙ ap (λ i. get_or widths i 0) zeroth in
       let front : List (Line I O) = tap_copy t.vector (length widths) k w in
       let back : List (Line I O) = tap_copies t.vector (length widths) (k + 1) rest in
       let there' : Stands code a (tap_copy t.vector (length widths) k (get_or widths k 0)) = subst (λ l. Stands code a (tap_copy t.vector (length widths) k l)) is (stands-front code a front back there) in
-      let one = tap_copied t code labels pictures at entries widths width slots n scratch_size output_size row image place placed narrow some_pixel k known a f scratch output long output_long there' to.0 x p v e flag in
+      let one = tap_copied t code labels pictures at entries widths width slots n scratch_size output_size row image place placed narrow some_pixel k known a f scratch output are.size output_long there' to.0 x p v e flag in
       let way : Comes t code labels one.count (now a (regs x p v e) flag f (memo scratch output)) (now (a + length front) (regs n one.pointer one.value (at.scratch + buffer k)) false f (memo (filled_of k scratch) output)) =
       subst (λ l. Comes t code labels one.count (now a (regs x p v e) flag f (memo scratch output)) (now (a + length (tap_copy {I = I} {O = O} t.vector (length widths) k l)) (regs n one.pointer one.value (at.scratch + buffer k)) false f (memo (filled_of k scratch) output))) (sym is) one.comes in
       let later = all_copied rest (k + 1) (a + length front) n one.pointer one.value (at.scratch + buffer k) false f (filled_of k scratch) output (omega arith)
       (λ j inside. let next : k + suc j ≡ k + 1 + j = omega arith in same (suc j) (omega arith) ∙ ap (λ i. get_or widths i 0) next)
-      (length-filled k scratch known long) output_long (stands-back code a front back there) to.1 (filled_more k scratch known long filled) in
+      (bytes-filled k scratch known are) output_long (stands-back code a front back there) to.1 (filled_more k scratch known are filled) in
       let low = one.count_low in
       let low' = later.count_low in
       let whole = comes-on t code labels one.count later.count _ _ _ way later.comes in
@@ -185,13 +191,15 @@ module _ {I O : Type 0} (t : Table O) (code : List (Line I O)) (labels : List La
         e' = later.e';
         flag' = later.flag';
         left = later.left;
-        left_long = later.left_long;
+        left_are = later.left_are;
         filled = later.filled;
         comes = subst (λ m. Comes t code labels (one.count + later.count) (now a (regs x p v e) flag f (memo scratch output)) (now m (regs later.x' later.p' later.v' later.e') later.flag' f (memo later.left output))) place_is whole;
       }
 
   -- t becomes the scratch, and the block begins
-  over_scratch : (a tb n s x u p v e : ℕ) (flag : Bool) (f : RegFile) (rs : List Region) → Stands code a (Controls (AddImm 0 2 false 0) ∷ Controls (Imm 3 0) ∷ Controls (Jump (codes "block")) ∷ []) → register_wrapped t.target (s + 0) ≡ s → place_of labels (length code) (codes "block") ≡ 7
+  over_scratch : (a tb n s x u p v e : ℕ) (flag : Bool) (f : RegFile) (rs : List Region)
+      → Stands code a (Controls (AddImm 0 2 false 0) ∷ Controls (Imm 3 0) ∷ Controls (Jump (codes "block")) ∷ []) → register_wrapped t.target (s + 0) ≡ s
+      → place_of labels (length code) (codes "block") ≡ 7
       → Comes t code labels 3 (now a (tb ∷ n ∷ s ∷ x ∷ u ∷ p ∷ v ∷ e ∷ []) flag f rs) (now 7 (s ∷ n ∷ s ∷ 0 ∷ u ∷ p ∷ v ∷ e ∷ []) flag f rs)
   over_scratch a tb n s x u p v e flag f rs there same to_block =
       let one : Comes t code labels 1 (now a (tb ∷ n ∷ s ∷ x ∷ u ∷ p ∷ v ∷ e ∷ []) flag f rs) (now (a + 1) (s ∷ n ∷ s ∷ x ∷ u ∷ p ∷ v ∷ e ∷ []) flag f rs) = comes-one t code labels (Controls (AddImm 0 2 false 0)) _ _ there.0 (rw same refl) in
@@ -208,13 +216,15 @@ module _ {I O : Type 0} (t : Table O) (code : List (Line I O)) (labels : List La
     pub end : ℕ
     pub flag_left : Bool
     pub left : List ℕ
-    pub left_long : length left ≡ scratch_size
+    pub left_are : AreBytes scratch_size left
     pub filled : Filled (length widths + 1) (length widths) left
     pub comes : Comes t code labels count (now a (regs x p v e) flag f (memo scratch output)) (now 7 (at.scratch ∷ n ∷ at.scratch ∷ 0 ∷ at.table ∷ pointer ∷ value ∷ end ∷ []) flag_left f (memo left output))
 
-  pub ready : (a x p v e : ℕ) (flag : Bool) (f : RegFile) (scratch output : List ℕ) → length scratch ≡ scratch_size → length output ≡ output_size → Stands code a (narrow_lines t.vector widths) → Copies I O labels (length code) t.vector (length widths) 0 a widths → place_of labels (length code) (codes "block") ≡ 7
+  pub ready : (a x p v e : ℕ) (flag : Bool) (f : RegFile) (scratch output : List ℕ) → AreBytes scratch_size scratch → length output ≡ output_size
+      → Stands code a (narrow_lines t.vector widths) → Copies I O labels (length code) t.vector (length widths) 0 a widths
+      → place_of labels (length code) (codes "block") ≡ 7
       → Ready a x p v e flag f scratch output
-  ready a x p v e flag f scratch output long output_long there to to_block =
+  ready a x p v e flag f scratch output are output_long there to to_block =
       let taps = length widths in
       let most = placed.most in
       let few = placed.few_taps in
@@ -224,12 +234,12 @@ module _ {I O : Type 0} (t : Table O) (code : List (Line I O)) (labels : List La
       let last : List (Line I O) = pointer_lines ++ end_lines in
       let front : List (Line I O) = tap_copies t.vector taps 0 widths in
       let none : Filled 0 0 scratch = record { entry = λ j inside. absurd (omega arith); rows_there = λ j inside. absurd (omega arith) } in
-      let copies = all_copied widths 0 a x p v e flag f scratch output (omega arith) (λ j inside. let same : j ≡ 0 + j = omega arith in ap (λ i. get_or widths i 0) same) long output_long (stands-front code a front last there) to none in
+      let copies = all_copied widths 0 a x p v e flag f scratch output (omega arith) (λ j inside. let same : j ≡ 0 + j = omega arith in ap (λ i. get_or widths i 0) same) are output_long (stands-front code a front last there) to none in
       let at_last = stands-back code a front last there in
       let b = a + length front in
       let many = scratch_count offset in
       let pointer = bytes pb (at.scratch + offset) in
-      let left_long = copies.left_long in
+      let left_are = copies.left_are in
       let size : length pointer ≡ pb = length-bytes pb (at.scratch + offset) in
       let some_bytes = some-pointer t.target in
       let most_bytes = most-pointer t.target in
@@ -241,7 +251,7 @@ module _ {I O : Type 0} (t : Table O) (code : List (Line I O)) (labels : List La
       let two = comes-scratch t code labels b 7 at.scratch offset (regs copies.x' copies.p' copies.v' copies.e') copies.flag' f (memo copies.left output) (stands-front code b pointer_lines end_lines at_last) (omega arith) refl (omega arith) in
       let at_end : Stands code (b + many) end_lines = subst (λ l. Stands code (b + l) end_lines) (length-scratch_lines I O 7 offset) (stands-back code b pointer_lines end_lines at_last) in
       let put : stored (memo copies.left output) (at.scratch + 8 * taps) pointer ≡ Some (memo after output) =
-      stored-scratch pictures at (packed 8 entries) copies.left output (placed.apart copies.left output left_long output_long) (8 * taps) pointer (omega arith) (omega arith) in
+      stored-scratch pictures at (packed 8 entries) copies.left output (placed.apart copies.left output left_are.size output_long) (8 * taps) pointer (omega arith) (omega arith) in
       let three = pointer_stored t code labels taps (b + many) at.table n at.scratch copies.x' at.table copies.p' copies.v' (at.scratch + offset) copies.flag' f (memo copies.left output) (memo after output) (omega arith) at_end.0 put in
       let base : register_wrapped t.target (at.scratch + 0) ≡ at.scratch = let zeroth : at.scratch + 0 ≡ at.scratch = omega arith in ap (λ m. register_wrapped t.target m) zeroth ∙ wrapped_small t.target at.scratch (omega arith) in
       let four = over_scratch (b + many + 1) at.table n at.scratch copies.x' at.table copies.p' copies.v' (at.scratch + offset) copies.flag' f (memo after output) at_end.1 base to_block in
@@ -258,7 +268,7 @@ module _ {I O : Type 0} (t : Table O) (code : List (Line I O)) (labels : List La
         end = at.scratch + offset;
         flag_left = copies.flag';
         left = after;
-        left_long = length-overwritten copies.left (8 * taps) pointer fit ∙ left_long;
+        left_are = overwritten_are scratch_size (8 * taps) copies.left pointer left_are fit (bytes_below pb (at.scratch + offset));
         filled = record {
           entry = λ j inside. ⊎_elim
               (λ (less : j < taps). part-before copies.left pointer (8 * taps) (8 * j) pb (omega arith) fit ∙ filled.entry j less)

@@ -1,5 +1,5 @@
 -- Where a row's taps, output and scratch are in memory.
-use Rattle.std.proofs.Common.{◌≡◌, ℕ, ◌+◌, ◌*◌, ◌^◌, ◌<◌, ◌≤◌, List, [], length, take, drop, set, get_or, All, Some, arith, ap, sym, ◌∙◌, ⊎_elim}
+use Rattle.std.proofs.Common.{◌≡◌, ℕ, ◌+◌, ◌*◌, ◌^◌, ◌<◌, ◌≤◌, List, [], length, take, drop, set, get_or, All, Some, arith, ap, sym, subst, ◌∙◌, ⊎_elim}
 use Rattle.std.specs.List.{AllPairs}
 use Rattle.std.proofs.Math.Nat.{mul_comm, mul-add, mul-le-mul_left}
 use Rattle.std.proofs.lemmas.List.{take-take, get_or-set_same, get_or-set_other, length-set}
@@ -8,12 +8,13 @@ use Rattle.pf_ints.specs.Meaning.Images.{Picture}
 use Rattle.pf_ints.specs.declared.target.Target.{Target}
 use Rattle.pf_ints.specs.declared.target.Target.TheVariants.{Neon, Avx2, Hvx}
 use Rattle.pf_machine.specs.declared.memory.Region.{Region}
-use Rattle.pf_machine.specs.Meaning.Bytes.{number, bytes, packed}
+use Rattle.pf_machine.specs.Meaning.Bytes.{AreBytes, number, bytes, packed}
 use Rattle.pf_machine.specs.Meaning.Memory.{Apart, loaded, stored}
 use Rattle.pf_machine.specs.Meaning.MachineSteps.{register_wrapped, pointer_bytes}
 use Rattle.pf_machine.specs.Meaning.Runs.{Places, memory}
 use Rattle.pf_machine.proofs.ByteLaws.{entry_at, length-packed, number-bytes, take-bytes}
-use Rattle.pf_machine.proofs.MemoryLaws.{image_bytes, overwritten, length-overwritten, loaded-table, loaded-image, loaded-scratch, stored-scratch, stored-output}
+use Rattle.pf_machine.proofs.MemoryLaws.{image_bytes, overwritten, loaded-table, loaded-image, loaded-scratch, stored-scratch, stored-output}
+use Rattle.pf_machine.proofs.FileLaws.{overwritten_are}
 use Rattle.pf_machine.proofs.StepLaws.{wrapped_small}
 use Rattle.pf_rows.specs.Meaning.Scratch.{buffer_at, slot_at, scratch_bytes}
 use Rattle.pf_rows.proofs.Cells.{part, Agree, Cells, cells-agree, cells-set}
@@ -40,10 +41,12 @@ pub record RowPlace (vector : ℕ) (pictures : List Picture) (at : Places) (entr
   pub scratch_low : at.scratch + scratch_size < 2 ^ 31
   pub count : get_or entries (length widths + 2) 0 ≡ n
   pub count_low : n < 2 ^ 31
-  pub apart : (kept output : List ℕ) → length kept ≡ scratch_size → length output ≡ output_size → AllPairs Apart (memory pictures at (packed 8 entries) kept output)
+  pub apart : (kept output : List ℕ) → length kept ≡ scratch_size → length output ≡ output_size
+      → AllPairs Apart (memory pictures at (packed 8 entries) kept output)
 
 -- a number of a table by as many bytes as a machine's pointers have
-pub number-entry : (target : Target) (entries : List ℕ) (k : ℕ) → k < length entries → get_or entries k 0 < 2 ^ 32 → number (take (pointer_bytes target) (drop (8 * k) (packed 8 entries))) ≡ get_or entries k 0
+pub number-entry : (target : Target) (entries : List ℕ) (k : ℕ) → k < length entries → get_or entries k 0 < 2 ^ 32
+    → number (take (pointer_bytes target) (drop (8 * k) (packed 8 entries))) ≡ get_or entries k 0
 number-entry Neon entries k inside small = ap number (entry_at entries k inside) ∙ number-bytes 8 (get_or entries k 0) (omega arith)
 number-entry Avx2 entries k inside small = ap number (entry_at entries k inside) ∙ number-bytes 8 (get_or entries k 0) (omega arith)
 number-entry Hvx entries k inside small =
@@ -75,7 +78,8 @@ module _ (vector : ℕ) (pictures : List Picture) (at : Places) (entries widths 
   holding scratch output = memory pictures at (packed 8 entries) scratch output
 
   -- an entry of the row's table
-  pub entry-given : (target : Target) (k : ℕ) (scratch output : List ℕ) → k < length entries → get_or entries k 0 < 2 ^ 32 → length scratch ≡ scratch_size → length output ≡ output_size
+  pub entry-given : (target : Target) (k : ℕ) (scratch output : List ℕ) → k < length entries → get_or entries k 0 < 2 ^ 32 → length scratch ≡ scratch_size
+      → length output ≡ output_size
       → (held : List ℕ) × (loaded (holding scratch output) (register_wrapped target (at.table + 8 * k)) (pointer_bytes target) ≡ Some held) × (number held ≡ get_or entries k 0)
   entry-given target k scratch output inside small kept out =
       let size = placed.size in
@@ -90,7 +94,8 @@ module _ (vector : ℕ) (pictures : List Picture) (at : Places) (entries widths 
       (held, load, number-entry target entries k inside small)
 
   -- bytes of a tap
-  pub tap-given : (k x off c : ℕ) (scratch output : List ℕ) → k < length widths → 0 < c → get_or widths k 0 * x + off + c ≤ get_or widths k 0 * n → length scratch ≡ scratch_size → length output ≡ output_size
+  pub tap-given : (k x off c : ℕ) (scratch output : List ℕ) → k < length widths → 0 < c → get_or widths k 0 * x + off + c ≤ get_or widths k 0 * n
+      → length scratch ≡ scratch_size → length output ≡ output_size
       → loaded (holding scratch output) (get_or entries k 0 + x * get_or widths k 0 + off) c ≡ Some (part (place k + get_or widths k 0 * x + off) c (image_bytes pictures (image k)))
   tap-given k x off c scratch output known some within kept out =
       let w = get_or widths k 0 in
@@ -102,7 +107,8 @@ module _ (vector : ℕ) (pictures : List Picture) (at : Places) (entries widths 
       ∙ loaded-image pictures at (packed 8 entries) scratch output (placed.apart scratch output kept out) (image k) (place k + w * x + off) c placed.images (placed.known k known) some (omega arith)
 
   -- a store to the row
-  pub row-stored : (off : ℕ) (new scratch output : List ℕ) → 0 < length new → off + length new ≤ width * n → length scratch ≡ scratch_size → length output ≡ output_size
+  pub row-stored : (off : ℕ) (new scratch output : List ℕ) → 0 < length new → off + length new ≤ width * n → length scratch ≡ scratch_size
+      → length output ≡ output_size
       → stored (holding scratch output) (get_or entries (length widths) 0 + off) new ≡ Some (holding scratch (overwritten output (row + off) new))
   row-stored off new scratch output some within kept out =
       let inside = placed.inside_out in
@@ -118,7 +124,7 @@ module _ (vector : ℕ) (pictures : List Picture) (at : Places) (entries widths 
   -- the slots are there, each of a vector's size
   pub record Slots (kept : List (List ℕ)) (scratch : List ℕ) : Type 0 where
     pub count : length kept ≡ slots
-    pub sizes : (k : ℕ) → k < slots → length (get_or kept k []) ≡ vector
+    pub each : (k : ℕ) → k < slots → AreBytes vector (get_or kept k [])
     pub there : Cells slots_at vector kept scratch
 
   pub slots-agree : (kept : List (List ℕ)) (scratch other : List ℕ) → Slots kept scratch → Agree slots_at scratch_size scratch other → Slots kept other
@@ -128,41 +134,43 @@ module _ (vector : ℕ) (pictures : List Picture) (at : Places) (entries widths 
       let end : vector * length kept ≡ vector * slots = ap (λ c. vector * c) count in
       record {
         count = are.count;
-        sizes = are.sizes;
+        each = are.each;
         there = cells-agree slots_at vector kept scratch other are.there (record { each = λ a c from to. same.each a c from (omega arith) });
       }
 
   -- a slot is loaded
-  pub slot-given : (k : ℕ) (kept : List (List ℕ)) (scratch output : List ℕ) → k < slots → Slots kept scratch → length scratch ≡ scratch_size → length output ≡ output_size
-      → (loaded (holding scratch output) (at.scratch + slot_at vector (length widths) k) vector ≡ Some (get_or kept k [])) × (length (get_or kept k []) ≡ vector)
+  pub slot-given : (k : ℕ) (kept : List (List ℕ)) (scratch output : List ℕ) → k < slots → Slots kept scratch → AreBytes scratch_size scratch
+      → length output ≡ output_size
+      → (loaded (holding scratch output) (at.scratch + slot_at vector (length widths) k) vector ≡ Some (get_or kept k [])) × AreBytes vector (get_or kept k [])
   slot-given k kept scratch output inside are held out =
       let long = placed.scratch_long in
       let some = placed.some in
       let room : vector * k + vector * 1 ≤ vector * slots = span vector k 1 slots (omega arith) in
       let count = are.count in
-      let size = are.sizes k inside in
+      let slot = are.each k inside in
       let there = are.there in
-      let load = loaded-scratch pictures at (packed 8 entries) scratch output (placed.apart scratch output held out) (slot_at vector (length widths) k) vector (omega arith) (omega arith) in
-      (load ∙ ap Some (there.each k (omega arith) size), size)
+      let load = loaded-scratch pictures at (packed 8 entries) scratch output (placed.apart scratch output held.size out) (slot_at vector (length widths) k) vector (omega arith) (omega arith) in
+      (load ∙ ap Some (there.each k (omega arith) slot.size), slot)
 
   -- a slot is stored
-  pub slot-stored : (k : ℕ) (new : List ℕ) (kept : List (List ℕ)) (scratch output : List ℕ) → k < slots → length new ≡ vector → Slots kept scratch → length scratch ≡ scratch_size → length output ≡ output_size
+  pub slot-stored : (k : ℕ) (new : List ℕ) (kept : List (List ℕ)) (scratch output : List ℕ) → k < slots → AreBytes vector new → Slots kept scratch
+      → AreBytes scratch_size scratch → length output ≡ output_size
       → (stored (holding scratch output) (at.scratch + slot_at vector (length widths) k) new ≡ Some (holding (overwritten scratch (slot_at vector (length widths) k) new) output))
       × Slots (set kept k new) (overwritten scratch (slot_at vector (length widths) k) new)
-      × (length (overwritten scratch (slot_at vector (length widths) k) new) ≡ scratch_size)
-  slot-stored k new kept scratch output inside size are held out =
+      × AreBytes scratch_size (overwritten scratch (slot_at vector (length widths) k) new)
+  slot-stored k new kept scratch output inside new_are are held out =
       let long = placed.scratch_long in
       let some = placed.some in
       let room : vector * k + vector * 1 ≤ vector * slots = span vector k 1 slots (omega arith) in
       let count = are.count in
       let same : vector * length kept ≡ vector * slots = ap (λ c. vector * c) count in
-      let put = stored-scratch pictures at (packed 8 entries) scratch output (placed.apart scratch output held out) (slot_at vector (length widths) k) new (omega arith) (omega arith) in
+      let put = stored-scratch pictures at (packed 8 entries) scratch output (placed.apart scratch output held.size out) (slot_at vector (length widths) k) new (omega arith) (omega arith) in
       let after : Slots (set kept k new) (overwritten scratch (slot_at vector (length widths) k) new) = record {
         count = length-set kept k new ∙ count;
-        sizes = λ j known. ⊎_elim
-            (λ (here : j ≡ k). ap (λ i. length (get_or (set kept k new) i [])) here ∙ ap length (get_or-set_same kept k new [] (omega arith)) ∙ size)
-            (λ (other : j ≡ k → ⊥). ap length (get_or-set_other kept k j new [] other) ∙ are.sizes j known)
+        each = λ j known. ⊎_elim
+            (λ (here : j ≡ k). subst (λ l. AreBytes vector l) (sym (ap (λ i. get_or (set kept k new) i []) here ∙ get_or-set_same kept k new [] (omega arith))) new_are)
+            (λ (other : j ≡ k → ⊥). subst (λ l. AreBytes vector l) (sym (get_or-set_other kept k j new [] other)) (are.each j known))
             (cases_eq j k);
-        there = cells-set slots_at vector k kept scratch new are.there (omega arith) size (omega arith);
+        there = cells-set slots_at vector k kept scratch new are.there (omega arith) new_are.size (omega arith);
       } in
-      (put, after, length-overwritten scratch (slot_at vector (length widths) k) new (omega arith) ∙ held)
+      (put, after, overwritten_are scratch_size (slot_at vector (length widths) k) scratch new held (omega arith) new_are.small)

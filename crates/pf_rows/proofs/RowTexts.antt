@@ -72,7 +72,8 @@ module _ (I O : Type 0) (t : Table O) (h : Head) (slots : ℕ) (block : List (It
 
 -- The code and its labels, part by part
 
-pub joined : {A : Type 0} (k0 k1 k2 k3 k4 k5 k6 k7 begin items next tail last narrow back : List A) → k0 ≡ [] → k1 ≡ k0 ++ begin → k2 ≡ k1 ++ items → k3 ≡ k2 ++ next → k4 ≡ k3 ++ tail → k5 ≡ k4 ++ last → k6 ≡ k5 ++ narrow → k7 ≡ k6 ++ back
+pub joined : {A : Type 0} (k0 k1 k2 k3 k4 k5 k6 k7 begin items next tail last narrow back : List A) → k0 ≡ [] → k1 ≡ k0 ++ begin → k2 ≡ k1 ++ items
+    → k3 ≡ k2 ++ next → k4 ≡ k3 ++ tail → k5 ≡ k4 ++ last → k6 ≡ k5 ++ narrow → k7 ≡ k6 ++ back
     → k7 ≡ begin ++ (items ++ (next ++ (tail ++ (last ++ (narrow ++ back)))))
 joined k0 k1 k2 k3 k4 k5 k6 k7 begin items next tail last narrow back e0 e1 e2 e3 e4 e5 e6 e7 =
     let f1 : k1 ≡ begin = e1 ∙ ap (λ l. l ++ begin) e0 in
@@ -85,10 +86,14 @@ joined k0 k1 k2 k3 k4 k5 k6 k7 begin items next tail last narrow back e0 e1 e2 e
     e7 ∙ ap (λ l. l ++ back) f6 ∙ flat
 
 module _ (I O : Type 0) (t : Table O) (widths : List ℕ) (width : ℕ) (block : List (Item O)) where
-  pub labels_joined : (k0 k1 k2 k3 k4 k5 k6 : List (Line I O)) (l0 l1 l2 l3 l4 l5 l6 : List Label) (n1 n2 n3 n4 : List ℕ) → k0 ≡ [] → k1 ≡ k0 ++ begin_lines t.vector (length widths) → k2 ≡ k1 ++ block_lines t widths width block → k3 ≡ k2 ++ next_lines t.vector → k4 ≡ k3 ++ tail_lines → k5 ≡ k4 ++ last_lines t.vector → k6 ≡ k5 ++ narrow_lines t.vector widths
+  pub labels_joined : (k0 k1 k2 k3 k4 k5 k6 : List (Line I O)) (l0 l1 l2 l3 l4 l5 l6 : List Label) (n1 n2 n3 n4 : List ℕ) → k0 ≡ []
+      → k1 ≡ k0 ++ begin_lines t.vector (length widths) → k2 ≡ k1 ++ block_lines t widths width block → k3 ≡ k2 ++ next_lines t.vector → k4 ≡ k3 ++ tail_lines
+      → k5 ≡ k4 ++ last_lines t.vector → k6 ≡ k5 ++ narrow_lines t.vector widths
       → n1 ≡ codes "block" → n2 ≡ codes "tail" → n3 ≡ codes "last" → n4 ≡ codes "narrow"
-      → l0 ≡ [] → l1 ≡ l0 ++ label n1 (length k1) ∷ [] → l2 ≡ l1 ++ label n2 (length k3) ∷ [] → l3 ≡ l2 ++ label n3 (length k4) ∷ [] → l4 ≡ l3 ++ label n4 (length k5) ∷ []
-      → l5 ≡ l4 ++ copy_labels I O t.vector (length widths) 0 (length k5) widths → l6 ≡ l5 ++ label (codes "back") (length k6) ∷ label (codes "loop") (length k6 + 1) ∷ []
+      → l0 ≡ [] → l1 ≡ l0 ++ label n1 (length k1) ∷ [] → l2 ≡ l1 ++ label n2 (length k3) ∷ [] → l3 ≡ l2 ++ label n3 (length k4) ∷ []
+      → l4 ≡ l3 ++ label n4 (length k5) ∷ []
+      → l5 ≡ l4 ++ copy_labels I O t.vector (length widths) 0 (length k5) widths
+      → l6 ≡ l5 ++ label (codes "back") (length k6) ∷ label (codes "loop") (length k6 + 1) ∷ []
       → l6 ≡ row_labels I t widths width block
   labels_joined k0 k1 k2 k3 k4 k5 k6 l0 l1 l2 l3 l4 l5 l6 n1 n2 n3 n4 e0 e1 e2 e3 e4 e5 e6 m1 m2 m3 m4 h0 h1 h2 h3 h4 h5 h6 =
       let b = next_at I t widths width block in
@@ -124,7 +129,8 @@ module _ (I O : Type 0) (t : Table O) (widths : List ℕ) (width : ℕ) (block :
 
 -- What the parts of a row's code ask of the block
 
-near_item : {O : Type 0} (t : Table O) (vector taps slots : ℕ) (item : Item O) → slot_at vector taps slots ≤ 2 ^ 30 → IsWithin t t.vectors slots item → SlotEndsBelow vector taps (2 ^ 30) item
+near_item : {O : Type 0} (t : Table O) (vector taps slots : ℕ) (item : Item O) → slot_at vector taps slots ≤ 2 ^ 30 → IsWithin t t.vectors slots item
+    → SlotEndsBelow vector taps (2 ^ 30) item
 near_item t vector taps slots (Operation op) low within = tt
 near_item t vector taps slots (TapLoad to tap part) low within = tt
 near_item t vector taps slots (OutStore from part) low within = tt
@@ -137,7 +143,8 @@ near_item t vector taps slots (SlotStore from slot) low within =
     let room : vector * slot + vector * 1 ≤ vector * slots = span vector slot 1 slots (omega arith) in
     omega arith
 
-pub near_block : {O : Type 0} (t : Table O) (h : Head) (slots : ℕ) (block : List (Item O)) → IsRowBlock t h slots block → (widths : List ℕ) → widths ≡ tap_widths h → All (λ i. SlotEndsBelow t.vector (length widths) (2 ^ 30) i) block
+pub near_block : {O : Type 0} (t : Table O) (h : Head) (slots : ℕ) (block : List (Item O)) → IsRowBlock t h slots block → (widths : List ℕ)
+    → widths ≡ tap_widths h → All (λ i. SlotEndsBelow t.vector (length widths) (2 ^ 30) i) block
 near_block t h slots block fit widths same =
     let clean = fit.clean in
     let head = fit.head in
@@ -158,7 +165,9 @@ widths_pixels h is widths same =
 abbrev pub text_of : {I O : Type 0} → Head → List (Line I O) → List Label → ProgramOf I O
 text_of head code labels = record { head = head; code = code; labels = labels }
 
-pub text_is : (I O : Type 0) (t : Table O) (h : Head) (block : List (Item O)) (widths : List ℕ) (width : ℕ) (code : List (Line I O)) (labels : List Label) → code ≡ row_code t widths width block → labels ≡ row_labels I t widths width block → widths ≡ tap_widths h → width ≡ pixel_bytes h.out_ty → text_of h code labels ≡ row_text I t h block
+pub text_is : (I O : Type 0) (t : Table O) (h : Head) (block : List (Item O)) (widths : List ℕ) (width : ℕ) (code : List (Line I O)) (labels : List Label)
+    → code ≡ row_code t widths width block → labels ≡ row_labels I t widths width block → widths ≡ tap_widths h → width ≡ pixel_bytes h.out_ty
+    → text_of h code labels ≡ row_text I t h block
 text_is I O t h block widths width code labels one two three four =
     let code_is : code ≡ row_code t (tap_widths h) (pixel_bytes h.out_ty) block = one ∙ ap (λ ws. row_code t ws width block) three ∙ ap (λ w. row_code t (tap_widths h) w block) four in
     let labels_is : labels ≡ row_labels I t (tap_widths h) (pixel_bytes h.out_ty) block = two ∙ ap (λ ws. row_labels I t ws width block) three ∙ ap (λ w. row_labels I t (tap_widths h) w block) four in

@@ -57,7 +57,8 @@ module _ (I O : Type 0) (t : Table O) where
   work_kept (suc (suc width)) rest = omega arith
 
   module _ (is_op : O → Type 0) (laws : IsTable t is_op) where
-    work_item : (width : ℕ) (widths : List ℕ) (item : Item O) → All (λ w. w ≤ 2) widths → width ≤ 2 → IsBlockItem widths width item → W (item_lines t widths width item) ≡ item_cost t item
+    work_item : (width : ℕ) (widths : List ℕ) (item : Item O) → All (λ w. w ≤ 2) widths → width ≤ 2 → IsBlockItem widths width item
+        → W (item_lines t widths width item) ≡ item_cost t item
     work_item width widths (Operation op) few low step = omega arith
     work_item width widths (TapLoad to tap part) few low step =
         let by = get_or widths tap 0 in
@@ -85,7 +86,8 @@ module _ (I O : Type 0) (t : Table O) where
         let free = laws.store_cost from 0 in
         omega arith
 
-    work_block : (width : ℕ) (widths : List ℕ) (block : List (Item O)) → All (λ w. w ≤ 2) widths → width ≤ 2 → All (IsBlockItem widths width) block → W (block_lines t widths width block) ≡ block_cost t block
+    work_block : (width : ℕ) (widths : List ℕ) (block : List (Item O)) → All (λ w. w ≤ 2) widths → width ≤ 2 → All (IsBlockItem widths width) block
+        → W (block_lines t widths width block) ≡ block_cost t block
     work_block width widths [] few low steps = refl
     work_block width widths (item ∷ block) few low steps =
         let one = work_item width widths item few low (All-head (IsBlockItem widths width) item block steps) in
@@ -158,7 +160,8 @@ module _ (I O : Type 0) (t : Table O) where
       let all_of : W (back_lines vector taps width) ≡ W (turn ++ end) = refl in
       all_of ∙ omega arith
 
-  pub row_work : (is_op : O → Type 0) → IsTable t is_op → (width : ℕ) (widths : List ℕ) (block : List (Item O)) → All (λ w. w ≤ 2) widths → width ≤ 2 → All (IsBlockItem widths width) block → Work t (row_code {I = I} t widths width block) ≡ block_cost t block
+  pub row_work : (is_op : O → Type 0) → IsTable t is_op → (width : ℕ) (widths : List ℕ) (block : List (Item O)) → All (λ w. w ≤ 2) widths → width ≤ 2
+      → All (IsBlockItem widths width) block → Work t (row_code {I = I} t widths width block) ≡ block_cost t block
   row_work is_op laws width widths block few low steps =
       let back : List (Line I O) = back_lines t.vector (length widths) width in
       let narrow : List (Line I O) = narrow_lines t.vector widths in

@@ -3,7 +3,7 @@ use Rattle.std.proofs.Common.{◌≡◌, ℕ, zero, suc, ◌+◌, ◌*◌, ◌^�
 use Rattle.std.proofs.lemmas.List.{get_or-set_same, get_or-set_other, length-set}
 use Rattle.std.specs.List.{list_any}
 use Rattle.std.proofs.lemmas.Bool.{cases_eq, eqb-true, or_cases}
-use Rattle.std.proofs.lemmas.List.Elements.{All-head, All-tail, All-set, All-get_or}
+use Rattle.std.proofs.lemmas.List.Elements.{All-head, All-tail, All-take, All-drop, All-get_or}
 use Rattle.pf_machine.specs.declared.registers.Reg.TheVariants.{V}
 use Rattle.pf_machine.specs.declared.registers.RegFile.{RegFile}
 use Rattle.pf_machine.specs.declared.memory.Region.{Region}
@@ -13,12 +13,13 @@ use Rattle.pf_machine.specs.declared.code.Line.TheVariants.{Vector, Control as C
 use Rattle.pf_machine.specs.declared.code.Label.{Label}
 use Rattle.pf_machine.specs.declared.block.Item.{Item}
 use Rattle.pf_machine.specs.declared.block.Item.TheVariants.{Vector as Operation, TapLoad, OutStore, SlotLoad, SlotStore}
-use Rattle.pf_machine.specs.Meaning.Bytes.{number}
+use Rattle.pf_machine.specs.Meaning.Bytes.{AreBytes, number}
 use Rattle.pf_machine.specs.Meaning.RegisterFiles.{read, write}
 use Rattle.pf_machine.specs.Meaning.Memory.{loaded, stored}
 use Rattle.pf_machine.specs.Meaning.Tables.{Table, IsTable, IsFile, CanRun, after}
-use Rattle.pf_machine.specs.Meaning.Blocks.{Bench, item_step, items_run, IsWithin}
+use Rattle.pf_machine.specs.Meaning.Blocks.{Bench, item_step, items_run, IsWithin, AreTaps}
 use Rattle.pf_machine.specs.Meaning.MachineSteps.{State, register_wrapped, pointer_bytes}
+use Rattle.pf_machine.proofs.FileLaws.{vector_are, file_with}
 use Rattle.pf_machine.proofs.StepLaws.{wrapped_small}
 use Rattle.pf_rows.specs.Meaning.Scratch.{slot_at}
 use Rattle.pf_rows.specs.Meaning.BlockRows.{IsBlockItem, stores_part}
@@ -31,32 +32,26 @@ use Rattle.pf_rows.proofs.Pointers.{length-pixel_lines, scratch_count, length-sc
 pub record Desk {O : Type 0} (t : Table O) (tb s x : ℕ) (widths : List ℕ) (width slots : ℕ) (address : ℕ → ℕ) (taps : List (List ℕ)) (Holds : List (List ℕ) → List (List ℕ) → List Region → Type 0) : Type 0 where
   pub few : All (λ w. w ≤ 2) widths
   pub narrow : width ≤ 2
-  pub sizes : (k : ℕ) → k < length widths → length (get_or taps k []) ≡ get_or widths k 0 * t.vector
+  pub taps_are : AreTaps t.vector widths taps
   pub low : (k : ℕ) → k < length widths → address k + x * get_or widths k 0 + get_or widths k 0 * t.vector < 2 ^ 32
   pub low_out : address (length widths) + x * width + width * t.vector < 2 ^ 32
   pub low_slots : (slot : ℕ) → slot < slots → s + slot_at t.vector (length widths) slot + t.vector < 2 ^ 32
-  pub entry : (kept output : List (List ℕ)) (rs : List Region) → Holds kept output rs → (k : ℕ) → k ≤ length widths → (held : List ℕ) × (loaded rs (register_wrapped t.target (tb + 8 * k)) (pointer_bytes t.target) ≡ Some held) × (number held ≡ address k)
+  pub entry : (kept output : List (List ℕ)) (rs : List Region) → Holds kept output rs → (k : ℕ) → k ≤ length widths
+      → (held : List ℕ) × (loaded rs (register_wrapped t.target (tb + 8 * k)) (pointer_bytes t.target) ≡ Some held) × (number held ≡ address k)
   pub tap : (kept output : List (List ℕ)) (rs : List Region) → Holds kept output rs → (k part : ℕ) → k < length widths → part < get_or widths k 0
       → loaded rs (address k + x * get_or widths k 0 + part * t.vector) t.vector ≡ Some (take t.vector (drop (t.vector * part) (get_or taps k [])))
-  pub out : (kept output : List (List ℕ)) (rs : List Region) → Holds kept output rs → (part : ℕ) (new : List ℕ) → part < width → length new ≡ t.vector
+  pub out : (kept output : List (List ℕ)) (rs : List Region) → Holds kept output rs → (part : ℕ) (new : List ℕ) → part < width → AreBytes t.vector new
       → (next : List Region) × (stored rs (address (length widths) + x * width + part * t.vector) new ≡ Some next) × Holds kept (set output part new) next
   pub slot : (kept output : List (List ℕ)) (rs : List Region) → Holds kept output rs → (k : ℕ) → k < slots
-      → (loaded rs (s + slot_at t.vector (length widths) k) t.vector ≡ Some (get_or kept k [])) × (length (get_or kept k []) ≡ t.vector)
-  pub keep : (kept output : List (List ℕ)) (rs : List Region) → Holds kept output rs → (k : ℕ) (new : List ℕ) → k < slots → length new ≡ t.vector
+      → (loaded rs (s + slot_at t.vector (length widths) k) t.vector ≡ Some (get_or kept k [])) × AreBytes t.vector (get_or kept k [])
+  pub keep : (kept output : List (List ℕ)) (rs : List Region) → Holds kept output rs → (k : ℕ) (new : List ℕ) → k < slots → AreBytes t.vector new
       → (next : List Region) × (stored rs (s + slot_at t.vector (length widths) k) new ≡ Some next) × Holds (set kept k new) output next
 
--- a file with another vector of the same size
-pub file_with : {O : Type 0} (t : Table O) (many to : ℕ) (f : RegFile) (held : List ℕ) → IsFile t many f → length held ≡ t.vector → IsFile t many (write f (V to) held)
-file_with t many to f held is long = record {
-  count = length-set f.vectors to held ∙ is.count;
-  vectors = All-set (λ v. length v ≡ t.vector) f.vectors to held long is.vectors;
-  predicate = is.predicate;
-}
+read_are : {O : Type 0} (t : Table O) (many from : ℕ) (f : RegFile) → IsFile t many f → from < many → AreBytes t.vector (read f (V from))
+read_are t many from f is known = let count = is.count in vector_are t many f is from (omega arith)
 
-pub length-read : {O : Type 0} (t : Table O) (many from : ℕ) (f : RegFile) → IsFile t many f → from < many → length (read f (V from)) ≡ t.vector
-length-read t many from f is known = let count = is.count in All-get_or (λ v. length v ≡ t.vector) f.vectors from [] (omega arith) is.vectors
-
-length-part : (vector part whole : ℕ) (held : List ℕ) → length held ≡ whole * vector → part < whole → whole ≤ 2 → length (take vector (drop (vector * part) held)) ≡ vector
+length-part : (vector part whole : ℕ) (held : List ℕ) → length held ≡ whole * vector → part < whole → whole ≤ 2
+    → length (take vector (drop (vector * part) held)) ≡ vector
 length-part vector part zero held long inside few = absurd (omega arith)
 length-part vector part (suc zero) held long inside few =
     let none : part ≡ 0 = omega arith in
@@ -74,6 +69,13 @@ length-part vector (suc zero) (suc (suc zero)) held long inside few =
 length-part vector (suc (suc part)) (suc (suc zero)) held long inside few = absurd (omega arith)
 length-part vector part (suc (suc (suc whole))) held long inside few = absurd (omega arith)
 
+bytes-part : (vector part whole : ℕ) (held : List ℕ) → AreBytes (whole * vector) held → part < whole → whole ≤ 2
+    → AreBytes vector (take vector (drop (vector * part) held))
+bytes-part vector part whole held are inside few = record {
+  size = length-part vector part whole held are.size inside few;
+  small = All-take (λ b. b < 256) vector (drop (vector * part) held) (All-drop (λ b. b < 256) (vector * part) held are.small);
+}
+
 -- a part lies within the whole
 part_low : (vector part whole base : ℕ) → part < whole → whole ≤ 2 → base + whole * vector < 2 ^ 32 → base + part * vector < 2 ^ 32
 part_low vector part zero base inside few low = absurd (omega arith)
@@ -83,7 +85,8 @@ part_low vector (suc zero) (suc (suc zero)) base inside few low = omega arith
 part_low vector (suc (suc part)) (suc whole) base inside few low = absurd (omega arith)
 part_low vector part (suc (suc (suc whole))) base inside few low = absurd (omega arith)
 
-kept_same : {vector width : ℕ} (output : List (List ℕ)) (part k : ℕ) (new : List ℕ) → length new ≡ vector → k ≡ part → length output ≡ width → part < width → length (get_or (set output part new) k []) ≡ vector
+kept_same : {vector width : ℕ} (output : List (List ℕ)) (part k : ℕ) (new : List ℕ) → length new ≡ vector → k ≡ part → length output ≡ width → part < width
+    → length (get_or (set output part new) k []) ≡ vector
 kept_same output part k new size same wide inside = ap (λ i. length (get_or (set output part new) i [])) same ∙ ap length (get_or-set_same output part new [] (omega arith)) ∙ size
 
 module _ {I O : Type 0} (t : Table O) (is_op : O → Type 0) (laws : IsTable t is_op) (code : List (Line I O)) (labels : List Label) (tb s x : ℕ) (widths : List ℕ) (width slots : ℕ) (address : ℕ → ℕ) (taps : List (List ℕ)) (Holds : List (List ℕ) → List (List ℕ) → List Region → Type 0) (desk : Desk t tb s x widths width slots address taps Holds) (n u v e : ℕ) (flag : Bool) where
@@ -103,7 +106,8 @@ module _ {I O : Type 0} (t : Table O) (is_op : O → Type 0) (laws : IsTable t i
     pub fills : (part : ℕ) → part < width → stored_by part ≡ true → length (get_or b'.output part []) ≡ t.vector
 
   -- p becomes the address of a tap's pixel x, or the output's
-  to_pixel : (a p k by : ℕ) (f : RegFile) (rs : List Region) (held : List ℕ) → Stands code a (Controls (LoadPtr 5 0 k) ∷ pixel_lines 5 by) → loaded rs (register_wrapped t.target (tb + 8 * k)) (pointer_bytes t.target) ≡ Some held → number held ≡ address k → address k + x * by < 2 ^ 32
+  to_pixel : (a p k by : ℕ) (f : RegFile) (rs : List Region) (held : List ℕ) → Stands code a (Controls (LoadPtr 5 0 k) ∷ pixel_lines 5 by)
+      → loaded rs (register_wrapped t.target (tb + 8 * k)) (pointer_bytes t.target) ≡ Some held → number held ≡ address k → address k + x * by < 2 ^ 32
       → Comes t code labels (1 + by) (at_desk a p f rs) (at_desk (a + 1 + by) (address k + x * by) f rs)
   to_pixel a p k by f rs held there load is small =
       let one : Comes t code labels 1 (at_desk a p f rs) (at_desk (a + 1) (number held) f rs) = comes-one t code labels (Controls (LoadPtr 5 0 k)) (at_desk a p f rs) (at_desk (a + 1) (number held) f rs) there.0 (rw load refl) in
@@ -112,7 +116,8 @@ module _ {I O : Type 0} (t : Table O) (is_op : O → Type 0) (laws : IsTable t i
       comes-on t code labels 1 by _ _ _ one' two
 
   -- an operation
-  operation_takes : (op : O) (a p : ℕ) (rs : List Region) (b : Bench) → Stands code a (Vector op ∷ []) → is_op op → IsWithin t t.vectors slots (Operation op) → IsFile t t.vectors b.file → length b.output ≡ width → Holds b.slots b.output rs
+  operation_takes : (op : O) (a p : ℕ) (rs : List Region) (b : Bench) → Stands code a (Vector op ∷ []) → is_op op → IsWithin t t.vectors slots (Operation op)
+      → IsFile t t.vectors b.file → length b.output ≡ width → Holds b.slots b.output rs
       → Takes (λ _. false) 1 a p rs b (item_step t taps (Operation op) b)
   operation_takes op a p rs b there known within file wide holds =
       let count = file.count in
@@ -135,7 +140,8 @@ module _ {I O : Type 0} (t : Table O) (is_op : O → Type 0) (laws : IsTable t i
       }
 
   -- a part of a tap
-  load_takes : (to k part a p : ℕ) (rs : List Region) (b : Bench) → Stands code a (item_lines t widths width (TapLoad to k part)) → to < t.vectors → k < length widths → part < get_or widths k 0 → IsFile t t.vectors b.file → length b.output ≡ width → Holds b.slots b.output rs
+  load_takes : (to k part a p : ℕ) (rs : List Region) (b : Bench) → Stands code a (item_lines t widths width (TapLoad to k part)) → to < t.vectors
+      → k < length widths → part < get_or widths k 0 → IsFile t t.vectors b.file → length b.output ≡ width → Holds b.slots b.output rs
       → Takes (λ _. false) (2 + get_or widths k 0) a p rs b (item_step t taps (TapLoad to k part) b)
   load_takes to k part a p rs b there known tap_in part_in file wide holds =
       let by = get_or widths k 0 in
@@ -165,14 +171,15 @@ module _ {I O : Type 0} (t : Table O) (is_op : O → Type 0) (laws : IsTable t i
         left = rs;
         comes = subst (λ c. Comes t code labels c (at_desk a p b.file rs) (at_desk (a + (2 + by)) pointer file' rs)) steps (subst (λ m. Comes t code labels (1 + by + 1) (at_desk a p b.file rs) (at_desk m pointer file' rs)) end all);
         holds = holds;
-        file = file_with t t.vectors to b.file held file (length-part t.vector part by (get_or taps k []) (desk.sizes k tap_in) part_in few);
+        file = let found = desk.taps_are in file_with t t.vectors b.file file to held (bytes-part t.vector part by (get_or taps k []) (found.each k tap_in) part_in few);
         wide = wide;
         kept = λ part there. there;
         fills = λ part inside stored. absurd (cc);
       }
 
   -- a part of the output
-  store_takes : (from part a p : ℕ) (rs : List Region) (b : Bench) → Stands code a (item_lines t widths width (OutStore from part)) → from < t.vectors → part < width → IsFile t t.vectors b.file → length b.output ≡ width → Holds b.slots b.output rs
+  store_takes : (from part a p : ℕ) (rs : List Region) (b : Bench) → Stands code a (item_lines t widths width (OutStore from part)) → from < t.vectors
+      → part < width → IsFile t t.vectors b.file → length b.output ≡ width → Holds b.slots b.output rs
       → Takes (λ k. eqb part k) (2 + width) a p rs b (item_step t taps (OutStore from part) b)
   store_takes from part a p rs b there known part_in file wide holds =
       let low = desk.low_out in
@@ -190,8 +197,9 @@ module _ {I O : Type 0} (t : Table O) (is_op : O → Type 0) (laws : IsTable t i
       let access = laws.store_access from part (omega arith) in
       let there_low : pointer + part * t.vector < 2 ^ 32 = part_low t.vector part width pointer part_in few low in
       let small : register_wrapped t.target (pointer + part * t.vector) ≡ pointer + part * t.vector = wrapped_small t.target (pointer + part * t.vector) there_low in
-      let size : length new ≡ t.vector = length-read t t.vectors from b.file file known in
-      let put = desk.out b.slots b.output rs holds part new part_in size in
+      let new_are : AreBytes t.vector new = read_are t t.vectors from b.file file known in
+      let size = new_are.size in
+      let put = desk.out b.slots b.output rs holds part new part_in new_are in
       let next = put.0 in
       let store = put.1 in
       let two : Comes t code labels 1 (at_desk (a + 1 + width) pointer b.file rs) (at_desk (a + 1 + width + 1) pointer b.file next) =
@@ -220,7 +228,8 @@ module _ {I O : Type 0} (t : Table O) (is_op : O → Type 0) (laws : IsTable t i
       let low = desk.low_slots k inside in
       comes-scratch t code labels a 5 s (slot_at t.vector (length widths) k) (tb ∷ n ∷ s ∷ x ∷ u ∷ p ∷ v ∷ e ∷ []) flag f rs there (omega arith) refl (omega arith)
 
-  slot_load_takes : (to k a p : ℕ) (rs : List Region) (b : Bench) → Stands code a (item_lines t widths width (SlotLoad to k)) → to < t.vectors → k < slots → IsFile t t.vectors b.file → length b.output ≡ width → Holds b.slots b.output rs
+  slot_load_takes : (to k a p : ℕ) (rs : List Region) (b : Bench) → Stands code a (item_lines t widths width (SlotLoad to k)) → to < t.vectors → k < slots
+      → IsFile t t.vectors b.file → length b.output ≡ width → Holds b.slots b.output rs
       → Takes (λ _. false) (scratch_count (slot_at t.vector (length widths) k) + 1) a p rs b (item_step t taps (SlotLoad to k) b)
   slot_load_takes to k a p rs b there known inside file wide holds =
       let offset = slot_at t.vector (length widths) k in
@@ -246,13 +255,14 @@ module _ {I O : Type 0} (t : Table O) (is_op : O → Type 0) (laws : IsTable t i
         left = rs;
         comes = subst (λ m. Comes t code labels (many + 1) (at_desk a p b.file rs) (at_desk m (s + offset) file' rs)) end all;
         holds = holds;
-        file = file_with t t.vectors to b.file held file load.1;
+        file = file_with t t.vectors b.file file to held load.1;
         wide = wide;
         kept = λ part there. there;
         fills = λ part inside stored. absurd (cc);
       }
 
-  slot_store_takes : (from k a p : ℕ) (rs : List Region) (b : Bench) → Stands code a (item_lines t widths width (SlotStore from k)) → from < t.vectors → k < slots → IsFile t t.vectors b.file → length b.output ≡ width → Holds b.slots b.output rs
+  slot_store_takes : (from k a p : ℕ) (rs : List Region) (b : Bench) → Stands code a (item_lines t widths width (SlotStore from k)) → from < t.vectors
+      → k < slots → IsFile t t.vectors b.file → length b.output ≡ width → Holds b.slots b.output rs
       → Takes (λ _. false) (scratch_count (slot_at t.vector (length widths) k) + 1) a p rs b (item_step t taps (SlotStore from k) b)
   slot_store_takes from k a p rs b there known inside file wide holds =
       let offset = slot_at t.vector (length widths) k in
@@ -265,7 +275,7 @@ module _ {I O : Type 0} (t : Table O) (is_op : O → Type 0) (laws : IsTable t i
       let access = laws.store_access from 0 (omega arith) in
       let none : s + offset + 0 * t.vector ≡ s + offset = omega arith in
       let small : register_wrapped t.target (s + offset) ≡ s + offset = wrapped_small t.target (s + offset) (omega arith) in
-      let put = desk.keep b.slots b.output rs holds k (read b.file (V from)) inside (length-read t t.vectors from b.file file known) in
+      let put = desk.keep b.slots b.output rs holds k (read b.file (V from)) inside (read_are t t.vectors from b.file file known) in
       let next = put.0 in
       let store = put.1 in
       let two : Comes t code labels 1 (at_desk (a + many) (s + offset) b.file rs) (at_desk (a + many + 1) (s + offset) b.file next) =
@@ -287,7 +297,8 @@ module _ {I O : Type 0} (t : Table O) (is_op : O → Type 0) (laws : IsTable t i
   resized by c d a p rs b b' same takes = subst (λ m. Takes by m a p rs b b') same takes
 
   -- one item
-  item_takes : (item : Item O) (a p : ℕ) (rs : List Region) (b : Bench) → Stands code a (item_lines t widths width item) → IsOne is_op item → IsWithin t t.vectors slots item → IsBlockItem widths width item → IsFile t t.vectors b.file → length b.output ≡ width → Holds b.slots b.output rs
+  item_takes : (item : Item O) (a p : ℕ) (rs : List Region) (b : Bench) → Stands code a (item_lines t widths width item) → IsOne is_op item
+      → IsWithin t t.vectors slots item → IsBlockItem widths width item → IsFile t t.vectors b.file → length b.output ≡ width → Holds b.slots b.output rs
       → Takes (λ part. stores_part part item) (length (item_lines {I = I} t widths width item)) a p rs b (item_step t taps item b)
   item_takes (Operation op) a p rs b there one within step file wide holds = operation_takes op a p rs b there one within file wide holds
   item_takes (TapLoad to k part) a p rs b there one within step file wide holds =
@@ -313,7 +324,9 @@ module _ {I O : Type 0} (t : Table O) (is_op : O → Type 0) (laws : IsTable t i
       resized (λ _. false) (scratch_count offset + 1) _ a p rs b _ size (slot_store_takes from k a p rs b there within.0 within.1 file wide holds)
 
   -- the whole block
-  pub block_takes : (block : List (Item O)) (a p : ℕ) (rs : List Region) (b : Bench) → Stands code a (block_lines t widths width block) → All (IsOne is_op) block → All (IsWithin t t.vectors slots) block → All (IsBlockItem widths width) block → IsFile t t.vectors b.file → length b.output ≡ width → Holds b.slots b.output rs
+  pub block_takes : (block : List (Item O)) (a p : ℕ) (rs : List Region) (b : Bench) → Stands code a (block_lines t widths width block)
+      → All (IsOne is_op) block → All (IsWithin t t.vectors slots) block → All (IsBlockItem widths width) block → IsFile t t.vectors b.file
+      → length b.output ≡ width → Holds b.slots b.output rs
       → Takes (λ part. list_any (λ item. stores_part part item) block) (length (block_lines {I = I} t widths width block)) a p rs b (items_run t taps block b)
   block_takes [] a p rs b there ones within steps file wide holds =
       let here : a ≡ a + 0 = omega arith in

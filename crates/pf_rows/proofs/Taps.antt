@@ -35,10 +35,12 @@ highest_above (n ∷ ns) (suc k) within =
     omega (arith, ints, int_max_is n (highest ns))
 
 -- a place that is between two reaches, at pixel x of so many
-column_at : (low high d : ℤ) (width x : ℕ) → low ≤ℤ pos 0 → low ≤ℤ d → d ≤ℤ high → pos 1 ≤ℤ (pos width -ℤ (high -ℤ low)) → unsigned_abs ((pos x -ℤ low) +ℤ d) ≡ unsigned_abs ((pos 0 -ℤ low) +ℤ d) + x
+column_at : (low high d : ℤ) (width x : ℕ) → low ≤ℤ pos 0 → low ≤ℤ d → d ≤ℤ high → pos 1 ≤ℤ (pos width -ℤ (high -ℤ low))
+    → unsigned_abs ((pos x -ℤ low) +ℤ d) ≡ unsigned_abs ((pos 0 -ℤ low) +ℤ d) + x
 column_at low high d width x reach before behind some = omega (arith, ints)
 
-column_inside : (low high d : ℤ) (width : ℕ) → low ≤ℤ pos 0 → low ≤ℤ d → d ≤ℤ high → pos 1 ≤ℤ (pos width -ℤ (high -ℤ low)) → unsigned_abs ((pos 0 -ℤ low) +ℤ d) + unsigned_abs (pos width -ℤ (high -ℤ low)) ≤ width
+column_inside : (low high d : ℤ) (width : ℕ) → low ≤ℤ pos 0 → low ≤ℤ d → d ≤ℤ high → pos 1 ≤ℤ (pos width -ℤ (high -ℤ low))
+    → unsigned_abs ((pos 0 -ℤ low) +ℤ d) + unsigned_abs (pos width -ℤ (high -ℤ low)) ≤ width
 column_inside low high d width reach before behind some = omega (arith, ints)
 
 -- a tap's columns and rows, which lie in the image

@@ -103,7 +103,8 @@ module _ {I O : Type 0} (t : Table O) (code : List (Line I O)) (labels : List La
       comes-on t code labels 5 1 _ _ _ start six
 
   -- behind the block, the choice between the two kinds of rows
-  parted : (tb n s x u p v e : ℕ) (flag : Bool) (f : RegFile) (rs : List Region) → Comes t code labels 2 (now b (tb ∷ n ∷ s ∷ x ∷ u ∷ p ∷ v ∷ e ∷ []) flag f rs) (now (b + 1 + 1) (tb ∷ n ∷ s ∷ x ∷ u ∷ p ∷ v ∷ t.vector ∷ []) (ltb n t.vector) f rs)
+  parted : (tb n s x u p v e : ℕ) (flag : Bool) (f : RegFile) (rs : List Region)
+      → Comes t code labels 2 (now b (tb ∷ n ∷ s ∷ x ∷ u ∷ p ∷ v ∷ e ∷ []) flag f rs) (now (b + 1 + 1) (tb ∷ n ∷ s ∷ x ∷ u ∷ p ∷ v ∷ t.vector ∷ []) (ltb n t.vector) f rs)
   parted tb n s x u p v e flag f rs =
       let there = laid.next in
       let one : Comes t code labels 1 (now b (tb ∷ n ∷ s ∷ x ∷ u ∷ p ∷ v ∷ e ∷ []) flag f rs) (now (b + 1) (tb ∷ n ∷ s ∷ x ∷ u ∷ p ∷ v ∷ t.vector ∷ []) flag f rs) = comes-one t code labels (Controls (Imm 7 t.vector)) _ _ there.0 refl in
@@ -166,7 +167,8 @@ module _ {I O : Type 0} (t : Table O) (code : List (Line I O)) (labels : List La
       comes-on t code labels 6 2 _ _ _ (chosen tb n s x u p v e flag f rs wide (omega arith)) (comes-on t code labels 1 1 _ _ _ seven eight)
 
   -- fewer pixels are left than a block has
-  pub goes_last : (tb n s x u p v e : ℕ) (flag : Bool) (f : RegFile) (rs : List Region) → t.vector ≤ n → x + t.vector < n → n < x + t.vector + t.vector → n < 2 ^ 31 → 1 ≤ t.vector
+  pub goes_last : (tb n s x u p v e : ℕ) (flag : Bool) (f : RegFile) (rs : List Region) → t.vector ≤ n → x + t.vector < n → n < x + t.vector + t.vector
+      → n < 2 ^ 31 → 1 ≤ t.vector
       → Comes t code labels 11 (now b (tb ∷ n ∷ s ∷ x ∷ u ∷ p ∷ v ∷ e ∷ []) flag f rs) (now 7 (tb ∷ n ∷ s ∷ (n - t.vector) ∷ u ∷ p ∷ v ∷ (x + t.vector + t.vector) ∷ []) true f rs)
   goes_last tb n s x u p v e flag f rs wide within less low some =
       let tail = laid.tail in
@@ -192,12 +194,14 @@ module _ {I O : Type 0} (t : Table O) (code : List (Line I O)) (labels : List La
   pub comes-ends : (count budget : ℕ) (s s' : State) (rs : List Region) → Comes t code labels count s s' → Ends budget s' rs → Ends (count + budget) s rs
   comes-ends count budget s s' rs comes ends = record { last = ends.last; ends = comes.by budget ∙ ends.ends; regions = ends.regions }
 
-  pub returns : (a : ℕ) (g : List ℕ) (flag : Bool) (f : RegFile) (rs : List Region) → Rattle.std.specs.Prelude.slice_get code a ≡ Some (Controls Return) → Ends 1 (now a g flag f rs) rs
+  pub returns : (a : ℕ) (g : List ℕ) (flag : Bool) (f : RegFile) (rs : List Region) → Rattle.std.specs.Prelude.slice_get code a ≡ Some (Controls Return)
+      → Ends 1 (now a g flag f rs) rs
   returns a g flag f rs there =
       let here : step t code labels (now a g flag f rs) ≡ Returned = rw there refl in
       record { last = now a g flag f rs; ends = run_returned t code labels 0 (now a g flag f rs) here; regions = refl }
 
-  pub ends_wide : (tb n s x u p v e : ℕ) (flag : Bool) (f : RegFile) (rs : List Region) → t.vector ≤ n → x + t.vector ≡ n → n < 2 ^ 31 → 1 ≤ t.vector → Ends 10 (now b (tb ∷ n ∷ s ∷ x ∷ u ∷ p ∷ v ∷ e ∷ []) flag f rs) rs
+  pub ends_wide : (tb n s x u p v e : ℕ) (flag : Bool) (f : RegFile) (rs : List Region) → t.vector ≤ n → x + t.vector ≡ n → n < 2 ^ 31 → 1 ≤ t.vector
+      → Ends 10 (now b (tb ∷ n ∷ s ∷ x ∷ u ∷ p ∷ v ∷ e ∷ []) flag f rs) rs
   ends_wide tb n s x u p v e flag f rs wide all low some =
       let tail = laid.tail in
       let test : ltb (x + t.vector) n ≡ false = le-ltb (x + t.vector) n (omega arith) in

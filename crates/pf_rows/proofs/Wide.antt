@@ -1,5 +1,5 @@
 -- A block over a row in place.
-use Rattle.std.proofs.Common.{◌≡◌, ℕ, ◌+◌, ◌*◌, ◌^◌, ◌<◌, ◌≤◌, List, [], length, map, take, drop, set, get_or, Some, refl, arith, ap, sym, ◌∙◌, ⊎_elim}
+use Rattle.std.proofs.Common.{◌≡◌, ℕ, ◌+◌, ◌*◌, ◌^◌, ◌<◌, ◌≤◌, List, [], length, map, take, drop, set, get_or, Some, refl, arith, ap, sym, subst, ◌∙◌, ⊎_elim}
 use Rattle.std.specs.List.{range_with_len}
 use Rattle.std.proofs.Math.Nat.{mul_comm}
 use Rattle.std.proofs.lemmas.List.{length-set}
@@ -8,12 +8,15 @@ use Rattle.std.proofs.lemmas.List.FromFn.{get_or-map-range_with_len}
 use Rattle.std.proofs.lemmas.Bool.{cases_lt}
 use Rattle.pf_ints.specs.Meaning.Images.{Picture}
 use Rattle.pf_machine.specs.declared.memory.Region.{Region}
+use Rattle.pf_machine.specs.Meaning.Blocks.{AreTaps}
+use Rattle.pf_machine.specs.Meaning.Bytes.{AreBytes}
 use Rattle.pf_machine.specs.Meaning.Memory.{loaded, stored}
 use Rattle.pf_machine.specs.Meaning.Runs.{Places}
 use Rattle.pf_machine.specs.Meaning.Tables.{Table}
 use Rattle.pf_machine.proofs.MemoryLaws.{image_bytes, overwritten, length-overwritten, take-drop-part}
+use Rattle.pf_machine.proofs.FileLaws.{part_are, image_bytes_below}
 use Rattle.pf_rows.specs.Meaning.Scratch.{slot_at}
-use Rattle.pf_rows.proofs.Cells.{part, length-part, Agree, agree-trans, agree-before, agree-behind, Cells, cells-set}
+use Rattle.pf_rows.proofs.Cells.{part, Agree, agree-trans, agree-before, agree-behind, Cells, cells-set}
 use Rattle.pf_rows.proofs.Steps.{Desk}
 use Rattle.pf_rows.proofs.RowPlaces.{RowPlace, span, holding, entry-given, tap-given, row-stored, Slots, slot-given, slot-stored}
 
@@ -34,12 +37,21 @@ module _ {O : Type 0} (t : Table O) (pictures : List Picture) (at : Places) (ent
   abbrev pub SlotsIn : List (List ℕ) → List ℕ → Type 0
   SlotsIn kept scratch = Slots t.vector pictures at entries widths width slots n scratch_size output_size row image place placed kept scratch
 
+  pub wide_taps_are : (x : ℕ) → x + t.vector ≤ n → AreTaps t.vector widths (wide_taps x)
+  wide_taps_are x within = record {
+    each = λ k known.
+        let by = get_or widths k 0 in
+        let room : by * x + by * t.vector ≤ by * n = span by x t.vector n within in
+        let inside = placed.inside k known in
+        subst (λ l. AreBytes (by * t.vector) l) (sym (wide_tap x k known)) (part_are (place k + by * x) (by * t.vector) (image_bytes pictures (image k)) (omega arith) (image_bytes_below pictures (image k)));
+  }
+
   -- memory with these slots and these parts of the block at pixel x; else the output is as before
   pub record Wide (x : ℕ) (before : List ℕ) (kept output : List (List ℕ)) (rs : List Region) : Type 0 where
     pub scratch : List ℕ
     pub held : List ℕ
     pub is : rs ≡ mem scratch held
-    pub scratch_long : length scratch ≡ scratch_size
+    pub scratch_are : AreBytes scratch_size scratch
     pub held_long : length held ≡ output_size
     pub in_slots : SlotsIn kept scratch
     pub count : length output ≡ width
@@ -65,7 +77,7 @@ module _ {O : Type 0} (t : Table O) (pictures : List Picture) (at : Places) (ent
     wide_entry kept output rs w k inside =
         let size = placed.size in
         let low = entry_low k inside in
-        let given = entry-given t.vector pictures at entries widths width slots n scratch_size output_size row image place placed t.target k w.scratch w.held (omega arith) (omega arith) w.scratch_long w.held_long in
+        let given = entry-given t.vector pictures at entries widths width slots n scratch_size output_size row image place placed t.target k w.scratch w.held (omega arith) (omega arith) w.scratch_are.size w.held_long in
         (given.0, ap (λ r. loaded r (Rattle.pf_machine.specs.Meaning.MachineSteps.register_wrapped t.target (at.table + 8 * k)) (Rattle.pf_machine.specs.Meaning.MachineSteps.pointer_bytes t.target)) w.is ∙ given.1, given.2)
 
     wide_load : (kept output : List (List ℕ)) (rs : List Region) → Wide x before kept output rs → (k j : ℕ) → k < length widths → j < get_or widths k 0
@@ -77,15 +89,16 @@ module _ {O : Type 0} (t : Table O) (pictures : List Picture) (at : Places) (ent
         let whole : by * t.vector ≡ t.vector * by = mul_comm by t.vector in
         let room : t.vector * j + t.vector * 1 ≤ t.vector * by = span t.vector j 1 by (omega arith) in
         let all : by * x + by * t.vector ≤ by * n = span by x t.vector n within in
-        let given = tap-given t.vector pictures at entries widths width slots n scratch_size output_size row image place placed k x (j * t.vector) t.vector w.scratch w.held known (omega arith) (omega arith) w.scratch_long w.held_long in
+        let given = tap-given t.vector pictures at entries widths width slots n scratch_size output_size row image place placed k x (j * t.vector) t.vector w.scratch w.held known (omega arith) (omega arith) w.scratch_are.size w.held_long in
         let sub : part (t.vector * j) t.vector (tap_block x k) ≡ part (place k + by * x + t.vector * j) t.vector (image_bytes pictures (image k)) =
         take-drop-part (image_bytes pictures (image k)) (place k + by * x) (by * t.vector) (t.vector * j) t.vector (omega arith) in
         ap (λ r. loaded r (get_or entries k 0 + x * by + j * t.vector) t.vector) w.is ∙ given
         ∙ ap Some (ap (λ m. part (place k + by * x + m) t.vector (image_bytes pictures (image k))) turned ∙ sym sub ∙ ap (λ l. part (t.vector * j) t.vector l) (sym (wide_tap x k known)))
 
-    wide_store : (kept output : List (List ℕ)) (rs : List Region) → Wide x before kept output rs → (j : ℕ) (new : List ℕ) → j < width → length new ≡ t.vector
+    wide_store : (kept output : List (List ℕ)) (rs : List Region) → Wide x before kept output rs → (j : ℕ) (new : List ℕ) → j < width → AreBytes t.vector new
         → (next : List Region) × (stored rs (get_or entries (length widths) 0 + x * width + j * t.vector) new ≡ Some next) × Wide x before kept (set output j new) next
-    wide_store kept output rs w j new inside size =
+    wide_store kept output rs w j new inside new_are =
+        let size = new_are.size in
         let some = placed.some in
         let room_row = placed.inside_out in
         let turned : j * t.vector ≡ t.vector * j = mul_comm j t.vector in
@@ -100,14 +113,14 @@ module _ {O : Type 0} (t : Table O) (pictures : List Picture) (at : Places) (ent
         let base = row + width * x in
         let address : get_or entries (length widths) 0 + x * width + j * t.vector ≡ get_or entries (length widths) 0 + off = omega arith in
         let spot : row + off ≡ base + t.vector * j = omega arith in
-        let put = row-stored t.vector pictures at entries widths width slots n scratch_size output_size row image place placed off new w.scratch w.held (omega arith) (omega arith) w.scratch_long w.held_long in
+        let put = row-stored t.vector pictures at entries widths width slots n scratch_size output_size row image place placed off new w.scratch w.held (omega arith) (omega arith) w.scratch_are.size w.held_long in
         let after = overwritten w.held (base + t.vector * j) new in
         let fits : base + t.vector * j + length new ≤ length w.held = omega arith in
         let next : Wide x before kept (set output j new) (mem w.scratch after) = record {
           scratch = w.scratch;
           held = after;
           is = refl;
-          scratch_long = w.scratch_long;
+          scratch_are = w.scratch_are;
           held_long = length-overwritten w.held (base + t.vector * j) new fits ∙ held_long;
           in_slots = w.in_slots;
           count = length-set output j new ∙ count;
@@ -121,21 +134,21 @@ module _ {O : Type 0} (t : Table O) (pictures : List Picture) (at : Places) (ent
         )
 
     wide_slot : (kept output : List (List ℕ)) (rs : List Region) → Wide x before kept output rs → (k : ℕ) → k < slots
-        → (loaded rs (at.scratch + slot_at t.vector (length widths) k) t.vector ≡ Some (get_or kept k [])) × (length (get_or kept k []) ≡ t.vector)
+        → (loaded rs (at.scratch + slot_at t.vector (length widths) k) t.vector ≡ Some (get_or kept k [])) × AreBytes t.vector (get_or kept k [])
     wide_slot kept output rs w k inside =
-        let given = slot-given t.vector pictures at entries widths width slots n scratch_size output_size row image place placed k kept w.scratch w.held inside w.in_slots w.scratch_long w.held_long in
+        let given = slot-given t.vector pictures at entries widths width slots n scratch_size output_size row image place placed k kept w.scratch w.held inside w.in_slots w.scratch_are w.held_long in
         (ap (λ r. loaded r (at.scratch + slot_at t.vector (length widths) k) t.vector) w.is ∙ given.0, given.1)
 
-    wide_keep : (kept output : List (List ℕ)) (rs : List Region) → Wide x before kept output rs → (k : ℕ) (new : List ℕ) → k < slots → length new ≡ t.vector
+    wide_keep : (kept output : List (List ℕ)) (rs : List Region) → Wide x before kept output rs → (k : ℕ) (new : List ℕ) → k < slots → AreBytes t.vector new
         → (next : List Region) × (stored rs (at.scratch + slot_at t.vector (length widths) k) new ≡ Some next) × Wide x before (set kept k new) output next
-    wide_keep kept output rs w k new inside size =
-        let put = slot-stored t.vector pictures at entries widths width slots n scratch_size output_size row image place placed k new kept w.scratch w.held inside size w.in_slots w.scratch_long w.held_long in
+    wide_keep kept output rs w k new inside new_are =
+        let put = slot-stored t.vector pictures at entries widths width slots n scratch_size output_size row image place placed k new kept w.scratch w.held inside new_are w.in_slots w.scratch_are w.held_long in
         let after = overwritten w.scratch (slot_at t.vector (length widths) k) new in
         let next : Wide x before (set kept k new) output (mem after w.held) = record {
           scratch = after;
           held = w.held;
           is = refl;
-          scratch_long = put.2;
+          scratch_are = put.2;
           held_long = w.held_long;
           in_slots = put.1;
           count = w.count;
@@ -155,11 +168,7 @@ module _ {O : Type 0} (t : Table O) (pictures : List Picture) (at : Places) (ent
         record {
           few = All-weaker (λ w. (1 ≤ w) × (w ≤ 2)) (λ w. w ≤ 2) (λ w both. both.1) widths placed.wide;
           narrow = out.1;
-          sizes = λ k known.
-              let by = get_or widths k 0 in
-              let room : by * x + by * t.vector ≤ by * n = span by x t.vector n within in
-              let inside = placed.inside k known in
-              ap length (wide_tap x k known) ∙ length-part (place k + by * x) (by * t.vector) (image_bytes pictures (image k)) (omega arith);
+          taps_are = wide_taps_are x within;
           low = λ k known.
               let by = get_or widths k 0 in
               let turned : x * by ≡ by * x = mul_comm x by in

@@ -1,9 +1,9 @@
 ghost use Rattle.std.specs.Prelude.{◌≡◌, ◌+◌, ◌*◌, ◌/◌, ◌%◌, ◌^◌, ◌<◌, ◌≤◌, ◌++◌, [], ◌∷◌, length, take, IsTrue, OnOk, All, codes, false, List, ℕ};
 ghost use Rattle.pf_text.specs.Meaning.Words.{is_name};
 ghost use Rattle.pf_rows.specs.Meaning.Scratch.{buffer_at};
-ghost use Rattle.pf_rows.specs.Steps.RowCode.{copy_label, copy_labels, label, copy_turn, copy_end, load_value, narrow_lines, back_lines, scratch_lines, store_value, tap_copy, tap_copies, IsPixel};
+ghost use Rattle.pf_rows.specs.Steps.RowCode.{copy_label, copy_labels, label, copy_turn, copy_end, load_value, pixel_lines, narrow_lines, back_lines, scratch_lines, store_value, tap_copy, tap_copies, IsPixel};
 ghost use Rattle.pf_machine.specs.declared.code.Line.{Line};
-ghost use Rattle.pf_machine.specs.Meaning.Roles.{scratch_role, end_role};
+ghost use Rattle.pf_machine.specs.Meaning.Roles.{scratch_role, end_role, pointer_role, kept_role};
 
 use crate::lines::{
     add, back_name, below, block_name, compare, control, copy_name, loop_name, pixels, pointer,
@@ -37,6 +37,16 @@ fn store_pixel<I: Isa>(code: &mut Code<I>, width: u8) -> Result<(), Memory>
     } else {
         control(code, Control::StoreHalf { at, from })
     }
+}
+
+/// Appends that the pointer goes on by x pixels, and the load of the pixel there.
+fn fetch<I: Isa>(code: &mut Code<I>, width: u8) -> Result<(), Memory>
+    requires { IsPixel width }
+    ensures { OnOk result
+        (code.new ≡ code.old ++ (pixel_lines pointer_role width ++ load_value width ∷ [])) }
+{
+    pixels(code, role::POINTER, width)?;
+    load_pixel(code, width)
 }
 
 /// Appends the store of a copied pixel, and the way back to the label while pixels are left.
@@ -77,6 +87,25 @@ pub fn mark<I: Isa>(labels: &mut LabelList, code: &Code<I>, name: Name) -> Resul
     })
 }
 
+/// Appends the loop that copies tap number `k`, of so many, into its buffer.
+fn tap_turn<I: Isa>(code: &mut Code<I>, taps: usize, k: u8, width: u8) -> Result<(), Memory>
+    requires vector { I.table.vector ≤ 128 }
+    requires taps { taps ≤ 64 }
+    requires known { k < taps }
+    requires pixel { IsPixel width }
+    ensures { OnOk result (code.new ≡ code.old ++ copy_turn (Line.Control (Control.LoadPtr pointer_role kept_role k) ∷ [])
+        (scratch_lines end_role (buffer_at I.table.vector taps k)) width (copy_label k)) }
+{
+    pointer(code, role::POINTER, role::KEPT, k)?;
+    fetch(code, width)?;
+    scratch(
+        code,
+        role::END,
+        buffer_offset(I::VECTOR, taps, usize::from(k)),
+    )?;
+    copy_end(code, width, copy_name(k))
+}
+
 /// Appends the copy of tap number `k`, of so many, and the label in it.
 fn tap<I: Isa>(
     code: &mut Code<I>,
@@ -96,13 +125,23 @@ fn tap<I: Isa>(
     let buffer = buffer_offset(I::VECTOR, taps, usize::from(k));
     set(code, role::PIXEL, 0)?;
     mark(labels, code, copy_name(k))?;
-    pointer(code, role::POINTER, role::KEPT, k)?;
-    pixels(code, role::POINTER, width)?;
-    load_pixel(code, width)?;
-    scratch(code, role::END, buffer)?;
-    copy_end(code, width, copy_name(k))?;
+    tap_turn(code, taps, k, width)?;
     scratch(code, role::END, buffer)?;
     keep(code, k)
+}
+
+/// Appends the loop that copies a narrow row back to its place.
+fn back_turn<I: Isa>(code: &mut Code<I>, taps: usize, width: u8) -> Result<(), Memory>
+    requires vector { I.table.vector ≤ 128 }
+    requires taps { taps ≤ 64 }
+    requires pixel { IsPixel width }
+    ensures { OnOk result (code.new ≡ code.old ++ copy_turn (scratch_lines pointer_role (buffer_at I.table.vector taps taps))
+        (Line.Control (Control.LoadPtr end_role kept_role taps) ∷ []) width (codes "loop")) }
+{
+    scratch(code, role::POINTER, buffer_offset(I::VECTOR, taps, taps))?;
+    fetch(code, width)?;
+    pointer(code, role::END, role::KEPT, taps as u8)?;
+    copy_end(code, width, loop_name())
 }
 
 /// Appends the copy of a narrow row back to its place, and the row's end, with their labels.
@@ -122,11 +161,7 @@ pub fn back<I: Isa>(
     mark(labels, code, back_name())?;
     set(code, role::PIXEL, 0)?;
     mark(labels, code, loop_name())?;
-    scratch(code, role::POINTER, buffer_offset(I::VECTOR, taps, taps))?;
-    pixels(code, role::POINTER, width)?;
-    load_pixel(code, width)?;
-    pointer(code, role::END, role::KEPT, taps as u8)?;
-    copy_end(code, width, loop_name())?;
+    back_turn(code, taps, width)?;
     control(code, Control::Return)
 }
 

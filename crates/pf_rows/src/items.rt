@@ -1,11 +1,25 @@
 ghost use Rattle.std.specs.Prelude.{◌≡◌, ◌+◌, ◌*◌, ◌/◌, ◌^◌, ◌<◌, ◌≤◌, ◌++◌, [], ◌∷◌, length, OnOk, All};
 ghost use Rattle.pf_rows.specs.Meaning.BlockRows.{IsBlockItem};
-ghost use Rattle.pf_rows.specs.Steps.RowCode.{item_lines, block_lines, IsOne, SlotEndsBelow, IsPixel};
+ghost use Rattle.pf_rows.specs.Steps.RowCode.{pixel_lines, item_lines, block_lines, IsOne, SlotEndsBelow, IsPixel};
+ghost use Rattle.pf_machine.specs.declared.control.Control.{Control};
+ghost use Rattle.pf_machine.specs.declared.code.Line.{Line};
+ghost use Rattle.pf_machine.specs.Meaning.Roles.{pointer_role, table_role};
 
 use crate::lines::{pixels, pointer, scratch};
 use crate::scratch::slot_offset;
 use pf_ints::Memory;
 use pf_machine::{Block, Code, Isa, Item, Line, role};
+
+/// Appends that the pointer goes to pixel x of an entry of the table, whose pixels have so many
+/// bytes.
+fn at_entry<I: Isa>(code: &mut Code<I>, entry: u8, width: u8) -> Result<(), Memory>
+    requires { IsPixel width }
+    ensures { OnOk result (code.new
+        ≡ code.old ++ Line.Control (Control.LoadPtr pointer_role table_role entry) ∷ pixel_lines pointer_role width) }
+{
+    pointer(code, role::POINTER, role::TABLE, entry)?;
+    pixels(code, role::POINTER, width)
+}
 
 /// Appends the instructions of a step of a block, over taps and an output whose pixels have so
 /// many bytes.
@@ -30,13 +44,11 @@ fn item<I: Isa>(
             code.push(Line::Vector(op))
         }
         Item::TapLoad { to, tap, part } => {
-            pointer(code, role::POINTER, role::TABLE, tap)?;
-            pixels(code, role::POINTER, widths[usize::from(tap)])?;
+            at_entry(code, tap, widths[usize::from(tap)])?;
             code.push(Line::Vector(I::load(to, part)))
         }
         Item::OutStore { from, part } => {
-            pointer(code, role::POINTER, role::TABLE, widths.len() as u8)?;
-            pixels(code, role::POINTER, width)?;
+            at_entry(code, widths.len() as u8, width)?;
             code.push(Line::Vector(I::store(from, part)))
         }
         Item::SlotLoad { to, slot } => {

@@ -1,4 +1,4 @@
-ghost use Rattle.std.specs.Prelude.{◌≡◌, ◌+◌, ◌*◌, ◌/◌, ◌^◌, ◌<◌, ◌≤◌, ◌++◌, [], ◌∷◌, length, map, take, All, IfOk, OnOk, codes, slice_index_or, ℕ};
+ghost use Rattle.std.specs.Prelude.{◌≡◌, ◌+◌, ◌*◌, ◌/◌, ◌^◌, ◌<◌, ◌≤◌, ◌++◌, [], ◌∷◌, length, map, take, drop, All, IfOk, OnOk, codes, slice_index_or, ℕ};
 ghost use Rattle.pf_ints.specs.Meaning.Images.{IsPixelType};
 ghost use Rattle.pf_machine.specs.Meaning.Heads.{IsHead};
 ghost use Rattle.pf_machine.specs.Meaning.Moved.{Moved, Work};
@@ -53,6 +53,14 @@ fn next<I: Isa>(code: &mut Code<I>) -> Result<(), Memory>
     set(code, role::END, I::VECTOR as u16)?;
     compare(code, role::COUNT, role::END)?;
     below(code, back_name())?;
+    go_on(code)
+}
+
+/// Appends what goes on to the next block, where a whole one is left.
+fn go_on<I: Isa>(code: &mut Code<I>) -> Result<(), Memory>
+    requires { I.table.vector ≤ 128 }
+    ensures { OnOk result (code.new ≡ code.old ++ drop 3 (next_lines I.table.vector)) }
+{
     add(code, role::PIXEL, role::PIXEL, I::VECTOR)?;
     add(code, role::END, role::PIXEL, I::VECTOR)?;
     compare(code, role::COUNT, role::END)?;
@@ -97,6 +105,41 @@ fn last<I: Isa>(code: &mut Code<I>) -> Result<(), Memory>
     )
 }
 
+/// Appends the code of a row and its labels, before which there are none.
+fn fill<I: Isa>(
+    code: &mut Code<I>,
+    labels: &mut LabelList,
+    widths: &[u8],
+    width: u8,
+    block: Block<I::Op>,
+) -> Result<(), Memory>
+    requires no_code { code.old ≡ [] }
+    requires no_labels { labels.old ≡ [] }
+    requires some { 1 ≤ I.table.vector }
+    requires most { I.table.vector ≤ 128 }
+    requires taps { length widths.now ≤ 64 }
+    requires pixels { All IsPixel widths.now }
+    requires pixel { IsPixel width }
+    requires steps { All (λ i. IsBlockItem widths.now width i) block }
+    requires near { All (λ i. SlotEndsBelow I.table.vector (length widths.now) (2 ^ 30) i) block }
+    ensures code { OnOk result (code.new ≡ row_code I.table widths.now width block) }
+    ensures labels { OnOk result (labels.new ≡ row_labels I I.table widths.now width block) }
+    ensures known { OnOk result (All (λ i. IsOne I.is_op i) block) }
+{
+    begin(code, widths.len())?;
+    mark(labels, code, block_name())?;
+    items(code, widths, width, block)?;
+    next(code)?;
+    mark(labels, code, tail_name())?;
+    tail(code)?;
+    mark(labels, code, last_name())?;
+    last(code)?;
+    mark(labels, code, narrow_name())?;
+    narrow(code, labels, widths)?;
+    back(code, labels, widths.len(), width)?;
+    Ok(())
+}
+
 /// The code of a row and its labels.
 fn lines<I: Isa>(
     alloc: Global,
@@ -117,17 +160,7 @@ fn lines<I: Isa>(
 {
     let mut code = Sequence::new(alloc);
     let mut labels = Sequence::new(alloc);
-    begin(&mut code, widths.len())?;
-    mark(&mut labels, &code, block_name())?;
-    items(&mut code, widths, width, block)?;
-    next(&mut code)?;
-    mark(&mut labels, &code, tail_name())?;
-    tail(&mut code)?;
-    mark(&mut labels, &code, last_name())?;
-    last(&mut code)?;
-    mark(&mut labels, &code, narrow_name())?;
-    narrow(&mut code, &mut labels, widths)?;
-    back(&mut code, &mut labels, widths.len(), width)?;
+    fill(&mut code, &mut labels, widths, width, block)?;
     Ok((code, labels))
 }
 

@@ -22,6 +22,7 @@ use Rattle.pf_machine.specs.Meaning.Runs.{IsPlaced, IsAligned, pixel_bytes, pixe
 use Rattle.pf_machine.proofs.ByteLaws.{length-packed}
 use Rattle.pf_values.specs.declared.reach.Axis.{Axis}
 use Rattle.pf_values.specs.Meaning.Reach.{offset_along, least_offset, greatest_offset, extent}
+use Rattle.pf_machine.proofs.FileLaws.{zeros_are}
 use Rattle.pf_run.specs.Meaning.Placement.{start_behind, image_size, starts_from, start_after, run_places, blank_scratch, blank_output}
 
 -- the regions lie one behind the other, from an address on and up to another
@@ -203,8 +204,8 @@ module _ (h : Head) (is : IsHead h) (pictures : List Picture) (are : All IsPictu
   pub placed : IsPlaced h pictures (run_places h pictures) (blank_scratch h) (blank_output h pictures)
   placed = record {
     image_count = length-starts third pictures;
-    scratch_size = length-replicate h.scratch 0;
-    output_bytes = length-replicate (output_size h pictures) 0;
+    scratch_bytes = zeros_are h.scratch;
+    output_bytes = zeros_are (output_size h pictures);
     apart = apart 65536 2147483647 begun between;
     low = All-weaker (λ r. r.start + length r.bytes ≤ 2147483647) (λ r. r.start + length r.bytes < 2 ^ 31) (λ r below. omega arith) begun (ends_below 65536 2147483647 begun between);
     aligned = images_aligned third pictures (whole_behind (second + h.scratch));

@@ -21,7 +21,7 @@ use Rattle.pf_values.specs.Meaning.NamedTerms.{no_tap}
 use Rattle.pf_values.specs.Meaning.Kernels.{Keeps, KeepsRange, no_picture, out_value, tap_value, tap_values, no_decl}
 use Rattle.pf_machine.specs.declared.program.Head.{Head}
 use Rattle.pf_machine.specs.declared.registers.RegFile.{RegFile}
-use Rattle.pf_machine.specs.Meaning.Blocks.{BVal, IsClean, IsWithin}
+use Rattle.pf_machine.specs.Meaning.Blocks.{BVal, IsClean, IsWithin, pixel_part, IsLanewise}
 use Rattle.pf_machine.specs.Meaning.Bytes.{bytes, number, lanes, packed, map2}
 use Rattle.pf_machine.specs.Meaning.Heads.{IsTap}
 use Rattle.pf_machine.specs.Meaning.Programs.{ProgramOf}
@@ -32,7 +32,7 @@ use Rattle.pf_neon.specs.declared.op.Instruction.{Instruction}
 use Rattle.pf_neon.specs.declared.op.Lanes.TheVariants.{Bytes}
 use Rattle.pf_neon.specs.Meaning.Instructions.{lanewise}
 use Rattle.pf_neon.specs.Meaning.Neon.{table}
-use Rattle.pf_rows.specs.Meaning.BlockRows.{tap_widths, tap_pixel, pixel_part, IsLanewise, IsRowBlock, IsBlockItem, LeavesLanes, StoresEach}
+use Rattle.pf_rows.specs.Meaning.BlockRows.{tap_widths, tap_pixel, IsRowBlock, IsBlockItem, LeavesLanes, StoresEach}
 use Rattle.pf_select.specs.Meaning.MinOfTaps.{byte_type, min_term, min_source, min_block, HasTaps, LeavesMin}
 
 -- ---- what the block stores
@@ -92,10 +92,10 @@ stored_at blocks first second j m n inside left right =
     ∙ ap (λ r. bytes 1 (min m r)) right
 
 -- ---- a row's program may have the block
-clean : (first second : ℕ) → IsClean table 32 0 1 (min_block first second)
-clean first second = record {
+clean : (widths : List ℕ) (first second : ℕ) → IsClean table widths 32 0 1 (min_block first second)
+clean widths first second = record {
   within = All-from_recursion (IsWithin table 32 0) (min_block first second) (search rules);
-  same = λ blocks f g kept other f_is g_is kept_long other_long. made f.vectors f.k f.q first second blocks kept f_is.count ∙ sym (made g.vectors g.k g.q first second blocks other g_is.count);
+  same = λ blocks f g kept other taps f_is g_is kept_are other_are. made f.vectors f.k f.q first second blocks kept f_is.count ∙ sym (made g.vectors g.k g.q first second blocks other g_is.count);
 }
 
 steps_of : (widths : List ℕ) (first second : ℕ) → first < length widths → second < length widths → get_or widths first 0 ≡ 1 → get_or widths second 0 ≡ 1 → All (IsBlockItem widths 1) (min_block first second)
@@ -136,14 +136,14 @@ module _ (h : Head) (first second : ℕ) (has : HasTaps h first second) where
       record {
         head = has.head;
         scratch = has.scratch;
-        clean = subst (λ w. IsClean table 32 0 w (min_block first second)) one (clean first second);
+        clean = subst (λ w. IsClean table (tap_widths h) 32 0 w (min_block first second)) one (clean (tap_widths h) first second);
         steps = subst (λ w. All (IsBlockItem (tap_widths h) w) (min_block first second)) one (steps_of (tap_widths h) first second (omega arith) (omega arith) (tap_width first left) (tap_width second right));
         stores = subst (λ w. StoresEach w (min_block first second)) one (stores_each first second);
       }
 
-  lanewise_one : IsLanewise table 0 (min_block first second) (tap_widths h) 1 (lesser_of first second)
+  lanewise_one : IsLanewise table (tap_widths h) 32 0 1 (min_block first second) (lesser_of first second)
   lanewise_one = record {
-    each = λ blocks numbers file kept j is kept_long inside count sizes pixels.
+    each = λ blocks numbers file kept j taps is kept_are inside count pixels.
         let widths = length-widths in
         let one : (k : ℕ) → k < length h.taps → get_or (tap_lanes blocks k) j 0 ≡ get_or numbers k 0 % 256 = λ k known.
         let there : k < length (tap_widths h) = omega arith in
@@ -152,8 +152,8 @@ module _ (h : Head) (first second : ℕ) (has : HasTaps h first second) where
         ∙ stored_at blocks first second j (get_or numbers first 0 % 256) (get_or numbers second 0 % 256) inside (one first has.first_tap) (one second has.second_tap);
   }
 
-  pub is_lanewise : IsLanewise table 0 (min_block first second) (tap_widths h) (pixel_bytes h.out_ty) (lesser_of first second)
-  is_lanewise = subst (λ w. IsLanewise table 0 (min_block first second) (tap_widths h) w (lesser_of first second)) (sym one_byte) lanewise_one
+  pub is_lanewise : IsLanewise table (tap_widths h) 32 0 (pixel_bytes h.out_ty) (min_block first second) (lesser_of first second)
+  is_lanewise = subst (λ w. IsLanewise table (tap_widths h) 32 0 w (min_block first second) (lesser_of first second)) (sym one_byte) lanewise_one
 
 -- ---- what the kernel says of a pixel
 Val-tap : (env : Env) (n : ℕ) → Val env (Leaf (TapLeaf n) byte_type) ≡ get_or env.taps n (pos 0)

@@ -1,6 +1,6 @@
 -- What follows where a syntax tree has a meaning, and where it has none.
-use Rattle.std.proofs.Common.{◌≡◌, sym, ap, ◌∙◌, subst, ℕ, ◌+◌, ◌-◌, ◌<◌, ◌≤◌, arith, true, List, [], ◌∷◌, length, get_or, drop, take, length-drop, inl, inr}
-use Rattle.std.specs.Prelude.{◌⊎◌, All, Option, Some, None, Result, Ok, Err, IfOk, IfErr, OnOk, OnErr, slice_get}
+use Rattle.std.proofs.Common.{◌≡◌, refl, sym, ap, ◌∙◌, subst, ℕ, ◌+◌, ◌-◌, ◌<◌, ◌≤◌, arith, Bool, true, false, ltb-true, ltb-false, List, [], ◌∷◌, length, get_or, drop, take, length-drop, inl, inr}
+use Rattle.std.specs.Prelude.{◌⊎◌, ℤ, pos, if◌then◌else◌, nat_lt, All, Option, Some, None, Result, Ok, Err, IfOk, IfErr, OnOk, OnErr, slice_get}
 use Rattle.std.proofs.lemmas.Option.{slice_get_cases}
 use Rattle.pf_terms.specs.declared.parse.syntax_tree.SyntaxTree.{SyntaxTree}
 use Rattle.pf_terms.specs.declared.parse.syntax_tree.TreeFault.{TreeFault}
@@ -16,7 +16,7 @@ use Rattle.pf_values.specs.declared.term.Term.{Term}
 use Rattle.pf_terms.specs.declared.token.TokenKind.{TokenKind}
 use Rattle.pf_terms.specs.declared.token.Token.{Token}
 use Rattle.std.proofs.lemmas.List.{take_all}
-use Rattle.pf_terms.specs.Steps.Building.{is_formed_tree, with_these, HasNearOffsets, IsFaultOrMemory, IsNodeFault, told_as}
+use Rattle.pf_terms.specs.Steps.Building.{is_formed_tree, with_these, HasNearOffsets, IsFaultOrMemory, IsNodeFault, past_limit, past_offset, told_as}
 use Rattle.pf_terms.specs.Meaning.SyntaxTrees.{IsTreeText, IsTreeOr, IsRefusal, IsSyntaxFault, IsFaultPlace, at_minus, first}
 use Rattle.pf_terms.specs.Meaning.KernelNames.{IsNames, IsNearTap}
 use Rattle.pf_terms.specs.Meaning.Meanings.{Means, IsTermOr, IsTermText, IsTyped, names_after, with_taps, tap_uses, first_far, first_unknown, term_of}
@@ -76,6 +76,30 @@ pub node_fault : (names : Names) (d : SyntaxTree) (f : NodeFault) → first_unkn
 node_fault names d (TypesOf want got) known h = (known, h)
 node_fault names d (AmountOf k) known h = (known, h)
 node_fault names d MemoryOf known h = tt
+
+-- a limit that is passed is the syntax tree's fault
+pub limit_fault : (names : Names) (d : SyntaxTree) (f : ReadFault) → first_unknown names d ≡ None → IsTyped names d → past_limit (length (names_after names d).taps) (first_far d) ≡ Some f → IsFaultOrMemory names d f
+limit_fault names d f known typed h = by (nat_lt 64 (length (names_after names d).taps)) refl h where
+  far : (o : Option ℤ) → first_far d ≡ o → length (names_after names d).taps ≤ 64 → past_offset o ≡ Some f → IsFaultOrMemory names d f
+  far (Some n) is few e = let same : Limit Offset n ≡ f = cc in subst (IsFaultOrMemory names d) same (known, typed, few, is)
+  far None is few e = absurd (cc)
+
+  by : (b : Bool) → nat_lt 64 (length (names_after names d).taps) ≡ b → (if b then Some (Limit Taps (pos (length (names_after names d).taps))) else past_offset (first_far d)) ≡ Some f
+      → IsFaultOrMemory names d f
+  by true is e =
+      let same : Limit Taps (pos (length (names_after names d).taps)) ≡ f = cc in
+      subst (IsFaultOrMemory names d) same (known, typed, ltb-true 64 (length (names_after names d).taps) is, refl)
+  by false is e = far (first_far d) refl (ltb-false 64 (length (names_after names d).taps) is) e
+
+pub within_limits : (n : ℕ) (o : Option ℤ) → past_limit n o ≡ None → (n ≤ 64) × (o ≡ None)
+within_limits n o h = by (nat_lt 64 n) refl h where
+  far : (p : Option ℤ) → past_offset p ≡ None → p ≡ None
+  far (Some k) e = absurd (cc)
+  far None e = refl
+
+  by : (b : Bool) → nat_lt 64 n ≡ b → (if b then Some (Limit Taps (pos n)) else past_offset o) ≡ None → (n ≤ 64) × (o ≡ None)
+  by true is e = absurd (cc)
+  by false is e = (ltb-false 64 n is, far o e)
 
 -- what has a meaning has no fault
 no_fault : (names : Names) (d : SyntaxTree) (t : Term) (after now : Names) (f : ReadFault) → Means names d t after → IsFaultOrMemory names d f → IsTermOr t after (Err f) now
@@ -160,17 +184,21 @@ pub typed_after : (names : Names) (d : SyntaxTree) (t : Term) → typing (term_o
 typed_after names d t h = h ∙ ap (λ u. Ok u) (sym (typing_stated (term_of (names_after names d) d) (stated_type t) h))
 
 -- what is built is what the syntax tree means
-pub meant : (names : Names) (d : SyntaxTree) (t : Term) (wide_taps taps : List Tap) (m : ℕ) → first_unknown names d ≡ None → typing (term_of (names_after names d) d) ≡ Ok (stated_type t) → first_far d ≡ None →
-    wide_taps ≡ (names_after names d).taps → length wide_taps ≤ 64 → length wide_taps ≤ m → t ≡ term_of (with_these names (take m wide_taps)) d → taps ≡ wide_taps → Means names d t (with_these names taps)
-meant names d t wide_taps taps m known typed near is few most made same =
+pub meant : (names : Names) (d : SyntaxTree) (t : Term) (wide_taps taps : List Tap) → first_unknown names d ≡ None → IsTyped names d → first_far d ≡ None →
+    wide_taps ≡ (names_after names d).taps → length wide_taps ≤ 64 → t ≡ term_of (with_these names wide_taps) d → taps ≡ wide_taps → Means names d t (with_these names taps)
+meant names d t wide_taps taps known typed near is few made same =
     record {
       known = known;
-      typed = typed_after names d t typed;
+      typed = typed;
       few = subst (λ us. length us ≤ 64) is few;
       near = near;
-      term = made ∙ ap (λ us. term_of (with_these names us) d) (take_all m wide_taps most ∙ sym same);
+      term = made ∙ ap (λ us. term_of (with_these names us) d) (sym same);
       made = ap (with_these names) (same ∙ is);
     }
+
+-- so many first taps are all
+pub made_whole : (names : Names) (d : SyntaxTree) (t : Term) (wide_taps : List Tap) (m : ℕ) → length wide_taps ≤ m → t ≡ term_of (with_these names (take m wide_taps)) d → t ≡ term_of (with_these names wide_taps) d
+made_whole names d t wide_taps m most made = made ∙ ap (λ us. term_of (with_these names us) d) (take_all m wide_taps most)
 
 -- the text that a meaning is of has no other syntax tree
 pub only_meant : (names : Names) (text : List ℕ) (d : SyntaxTree) (t : Term) (after now : Names) (r : Result Term ReadFault) → ((e : SyntaxTree) → IsTreeText text e → d ≡ e) → IsTermText names text t after →

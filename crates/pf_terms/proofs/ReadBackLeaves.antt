@@ -21,7 +21,7 @@ use Rattle.pf_terms.specs.Meaning.SyntaxTrees.{IsShallow}
 use Rattle.pf_terms.specs.Meaning.Grammar.{literal, negated, plain_name, placed, IsInteger, plain, minus}
 use Rattle.pf_terms.specs.Meaning.KernelNames.{IsNames, IsTapOffset, all_names}
 use Rattle.pf_terms.proofs.ReadBack.{leaf_tree}
-use Rattle.pf_values.specs.Steps.Small.{IsSmall}
+use Rattle.pf_values.specs.Meaning.Small.{IsSmall}
 use Rattle.pf_values.specs.Meaning.Terms.{is_formed_leaf}
 use Rattle.pf_terms.specs.Meaning.TermTexts.{leaf_text, placed_text, type_word}
 use Rattle.pf_values.specs.Meaning.NamedTerms.{is_named_leaf, is_named_tap, no_image, no_tap, no_def}

@@ -11,7 +11,7 @@ mod token;
 mod wide_taps;
 
 pub use lexer::{tokens, type_of_word};
-pub use lookup::{is_def, is_image};
+pub use lookup::{def_number, image_number, is_def, is_image};
 pub use meaning::{ReadFault, read_term};
 pub use parse::read::read_draft;
 pub use parse::syntax_tree::{SyntaxTree, SyntaxTrees, TreeFault};
@@ -21,4 +21,5 @@ pub use pf_values::{
     TermFault, Terms, depth, extent, least_offset, nodes, type_of, value, weight,
 };
 pub use print::{print_term, write_term, write_type};
+pub use resolve::{def_type, image_type, stated_type};
 pub use token::{LineWord, Token, TokenKind};

@@ -1,10 +1,10 @@
-ghost use Rattle.std.specs.Prelude.{◌≡◌, ◌≢◌, ◌≤◌, ◌+◌, length, true, IfOk, IfErr, OnOk, OnErr};
+ghost use Rattle.std.specs.Prelude.{◌≡◌, ◌≢◌, ◌<◌, ◌≤◌, ◌+◌, ◌^◌, length, true, None, IfOk, IfErr, OnOk, OnErr};
 ghost use Rattle.pf_terms.specs.declared.meaning.ReadFault.{ReadFault};
 ghost use Rattle.pf_values.specs.declared.names.Names.{Names};
 ghost use Rattle.pf_values.specs.declared.term.Term.{Term};
-ghost use Rattle.pf_terms.specs.Steps.Building.{is_formed_tree, IsFaultOrMemory};
+ghost use Rattle.pf_terms.specs.Steps.Building.{is_formed_tree, with_these, past_limit, IsFaultOrMemory};
 ghost use Rattle.pf_terms.specs.Meaning.KernelNames.{IsNames};
-ghost use Rattle.pf_terms.specs.Meaning.Meanings.{IsTermText, IsTermOr, IsReadFault, IsReadFaultOr, Means, names_after};
+ghost use Rattle.pf_terms.specs.Meaning.Meanings.{IsTermText, IsTermOr, IsReadFault, IsReadFaultOr, IsKnown, IsTyped, Means, first_far, names_after, term_of};
 ghost use Rattle.pf_values.specs.Meaning.Terms.{IsWellTyped, depth_of};
 ghost use Rattle.pf_terms.specs.Meaning.TermTexts.{term_text};
 ghost use Rattle.pf_values.specs.Meaning.NamedTerms.{is_named};
@@ -13,7 +13,7 @@ use crate::lookup::{first_far, first_unknown};
 use crate::parse::read::read_draft;
 use crate::parse::syntax_tree::{SyntaxTree, TreeFault};
 use crate::resolve::{NodeFault, resolved};
-use crate::wide_taps::{WideTaps, add_uses, taps_of, wide_taps_of};
+use crate::wide_taps::{WideTap, WideTaps, add_uses, taps_of, wide_taps_of};
 use pf_ints::{LaneType, Name};
 use pf_values::{LimitKind, Names, Term};
 use std::alloc::{AllocError, AllocFailed, Global};
@@ -128,26 +128,51 @@ fn meaning_of(alloc: Global, tree: &SyntaxTree, names: &mut Names) -> Result<Ter
     }
     let wide_taps = all_wide_taps(alloc, tree, names)?;
     let wide_taps = wide_taps.as_slice();
-    let term = resolved(
-        alloc,
-        tree,
-        names,
-        &wide_taps[..wide_taps.len().min(MOST_TAPS)],
-    )?;
-    if MOST_TAPS < wide_taps.len() {
-        return Err(ReadFault::Limit {
-            what: LimitKind::Taps,
-            count: wide_taps.len() as i64,
-        });
-    }
-    if let Some(offset) = first_far(tree) {
-        return Err(ReadFault::Limit {
-            what: LimitKind::Offset,
-            count: offset,
-        });
-    }
+    let term = known_term(alloc, tree, names, wide_taps)?;
     names.taps = taps_of(alloc, wide_taps)?;
     Ok(term)
+}
+
+// The term of an expression whose names are known, where the taps with its new ones are these.
+fn known_term(
+    alloc: Global,
+    tree: &SyntaxTree,
+    names: &Names,
+    wide_taps: &[WideTap],
+) -> Result<Term, ReadFault>
+    requires names { IsNames names.now }
+    requires formed { is_formed_tree tree.now ≡ true }
+    requires known { IsKnown names.now tree.now }
+    requires taps { wide_taps.now ≡ (names_after names.now tree.now).taps }
+    ensures made { IfOk result (λ t. t ≡ term_of (with_these names.now wide_taps.now) tree.now) }
+    ensures typed { OnOk result (IsTyped names.now tree.now) }
+    ensures few { OnOk result (length wide_taps.now ≤ 64) }
+    ensures near { OnOk result (first_far tree.now ≡ None) }
+    ensures fault { IfErr result (IsFaultOrMemory names.now tree.now) }
+{
+    let count = wide_taps.len();
+    let term = resolved(alloc, tree, names, &wide_taps[..count.min(MOST_TAPS)])?;
+    match past_limit(tree, count) {
+        Some(fault) => Err(fault),
+        None => Ok(term),
+    }
+}
+
+fn past_limit(tree: &SyntaxTree, taps: usize) -> Option<ReadFault>
+    requires { taps < 2 ^ 63 }
+    ensures { result ≡ past_limit taps (first_far tree.now) }
+{
+    if MOST_TAPS < taps {
+        return Some(ReadFault::Limit {
+            what: LimitKind::Taps,
+            count: taps as i64,
+        });
+    }
+    let offset = first_far(tree)?;
+    Some(ReadFault::Limit {
+        what: LimitKind::Offset,
+        count: offset,
+    })
 }
 
 // The taps of the names with all new ones of the syntax tree, whatever their number and offsets.

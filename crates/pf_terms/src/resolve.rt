@@ -17,7 +17,7 @@ use sqlite_items::Items;
 use std::alloc::{AllocError, AllocFailed, Global};
 
 /// Why a node has no type.
-#[derive(Clone, Copy, Debug)]
+#[derive(Clone, Copy)]
 pub enum NodeFault {
     Types { want: LaneType, got: LaneType },
     Amount { amount: u64 },
@@ -178,8 +178,9 @@ fn tap(images: &ImageNames, taps: &[WideTap], name: &Name, dx: i64, dy: i64) -> 
     }
 }
 
+/// The type of definition n, or u8 where there is none.
 #[tactic(auto, using(crate::proofs::Lookups::past_end))]
-fn def_type(defs: &DefNames, n: usize) -> LaneType
+pub fn def_type(defs: &DefNames, n: usize) -> LaneType
     ensures { result ≡ (slice_index_or defs.now n no_def).ty }
 {
     match defs.get(n) {
@@ -188,8 +189,9 @@ fn def_type(defs: &DefNames, n: usize) -> LaneType
     }
 }
 
+/// The type of image n, or u8 where there is none.
 #[tactic(auto, using(crate::proofs::Lookups::past_end))]
-fn image_type(images: &ImageNames, n: usize) -> LaneType
+pub fn image_type(images: &ImageNames, n: usize) -> LaneType
     ensures { result ≡ (slice_index_or images.now n no_image).ty }
 {
     match images.get(n) {
@@ -198,7 +200,8 @@ fn image_type(images: &ImageNames, n: usize) -> LaneType
     }
 }
 
-fn stated_type(term: &Term) -> LaneType
+/// The type that stands with the term.
+pub fn stated_type(term: &Term) -> LaneType
     ensures { result ≡ stated_type term.now }
 {
     match term {

@@ -2,7 +2,7 @@ use pf_ints::{LaneType, Name};
 use pf_values::Op;
 
 /// A word that begins a line of a kernel.
-#[derive(Clone, Copy, Debug, PartialEq, Eq)]
+#[derive(Clone, Copy)]
 pub enum LineWord {
     Kernel,
     Image,
@@ -11,7 +11,7 @@ pub enum LineWord {
 }
 
 /// What a token is.
-#[derive(Clone, Copy, Debug)]
+#[derive(Clone, Copy)]
 pub enum TokenKind {
     Name(Name),
     TypeWord(LaneType),
@@ -47,7 +47,7 @@ pub enum TokenKind {
 }
 
 /// A token: the places of its first byte and behind its last one, counted from 0, and what it is.
-#[derive(Clone, Copy, Debug)]
+#[derive(Clone, Copy)]
 pub struct Token {
     pub start: usize,
     pub end: usize,

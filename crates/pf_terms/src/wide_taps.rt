@@ -11,7 +11,7 @@ use std::alloc::{AllocError, Global};
 use std::marker::Model;
 
 /// A tap with offsets as they are written, of any size.
-#[derive(Clone, Copy, Debug)]
+#[derive(Clone, Copy)]
 pub struct WideTap {
     image: u8,
     dx: i64,

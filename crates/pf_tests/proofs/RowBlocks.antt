@@ -45,12 +45,12 @@ least_fixed taps (a ∷ b ∷ c ∷ d ∷ more) k q (_ ∷ []) long two = absurd
 least_fixed taps (a ∷ b ∷ c ∷ d ∷ more) k q (s ∷ t ∷ []) long two = refl
 least_fixed taps (a ∷ b ∷ c ∷ d ∷ more) k q (_ ∷ _ ∷ _ ∷ _) long two = absurd (omega arith)
 
-clean : (slots parts : ℕ) (block : List (Item Instruction)) → IsFixed slots parts block
-    → All (IsWithin table 32 slots) block → IsClean table 32 slots parts block
-clean slots parts block fixed within = record {
+clean : (widths : List ℕ) (slots parts : ℕ) (block : List (Item Instruction)) → IsFixed slots parts block
+    → All (IsWithin table 32 slots) block → IsClean table widths 32 slots parts block
+clean widths slots parts block fixed within = record {
   within = within;
-  same = λ taps f g kept other f_is g_is kept_long other_long.
-      fixed taps f.vectors f.k f.q kept f_is.count kept_long ∙ sym (fixed taps g.vectors g.k g.q other g_is.count other_long);
+  same = λ taps f g kept other taps_are f_is g_is kept_are other_are.
+      fixed taps f.vectors f.k f.q kept f_is.count kept_are.count ∙ sym (fixed taps g.vectors g.k g.q other g_is.count other_are.count);
 }
 
 copy_within : All (IsWithin table 32 0) copy_block
@@ -97,7 +97,7 @@ copy_is_row_block h head one scratch out wide =
       record {
         head = head;
         scratch = rw (one, scratch) refl;
-        clean = rw out (clean 0 2 copy_block copy_fixed copy_within);
+        clean = rw out (clean (tap_widths h) 0 2 copy_block copy_fixed copy_within);
         steps = rw out (copy_steps (tap_widths h) (omega arith) (omega arith));
         stores = rw out copy_stores;
       },
@@ -112,7 +112,7 @@ least_is_row_block h head many scratch out first second third =
       record {
         head = head;
         scratch = rw (many, scratch) refl;
-        clean = rw out (clean 2 1 least_block least_fixed least_within);
+        clean = rw out (clean (tap_widths h) 2 1 least_block least_fixed least_within);
         steps = rw out (least_steps (tap_widths h) (omega arith) (omega arith) (omega arith) (omega arith));
         stores = rw out least_stores;
       },

@@ -2,9 +2,11 @@
 #![tactic(auto)]
 
 #[cfg(test)]
+mod axioms;
+#[cfg(test)]
 mod faults;
 #[cfg(test)]
-mod forms_and_axioms;
+mod forms;
 #[cfg(test)]
 mod images;
 #[cfg(test)]

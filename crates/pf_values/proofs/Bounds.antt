@@ -2,7 +2,7 @@
 use Rattle.std.proofs.Common.{◌≡◌, ap, ◌∙◌, ℕ, ◌*◌, ◌^◌, ◌≤◌, suc, ℤ, pos, negsuc, neg_ℤ, ◌*ℤ◌, ◌≤ℤ◌, List, [], ◌∷◌, length, get_or, arith}
 use Rattle.std.proofs.lemmas.Int.{ints}
 use Rattle.std.proofs.Math.Nat.{mul-le-mul_left}
-use Rattle.pf_values.specs.Steps.Small.{IsSmall, IsLong}
+use Rattle.pf_values.specs.Meaning.Small.{IsSmall, IsLong}
 use Rattle.pf_values.proofs.OperandLists.{by_two, by_four}
 
 mul_le : (m a n b : ℕ) → m ≤ a → n ≤ b → m * n ≤ a * b

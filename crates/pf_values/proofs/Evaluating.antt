@@ -17,7 +17,7 @@ use Rattle.pf_values.specs.declared.term.Term.{Term}
 use Rattle.pf_values.specs.declared.term.Term.TheVariants.{Leaf, Node}
 use Rattle.pf_values.specs.declared.term.Leaf.{Leaf as LeafOf}
 use Rattle.pf_values.specs.Meaning.Operators.{row_of}
-use Rattle.pf_values.specs.Steps.Small.{IsSmall}
+use Rattle.pf_values.specs.Meaning.Small.{IsSmall}
 use Rattle.pf_values.specs.Meaning.Terms.{all_true, stated_type, Val, IsWellTyped, is_env_of, operand_count, is_amount, least_amount, greatest_amount, first_width, leaf_value, is_env_leaf}
 use Rattle.pf_values.proofs.Typing.{and_left, and_right, all_true_at}
 use Rattle.pf_values.proofs.Ranges.{small_member}

@@ -9,7 +9,7 @@ use Rattle.pf_ints.specs.declared.lane.Bits.TheVariants.{Eight, Sixteen, ThirtyT
 use Rattle.pf_ints.specs.Meaning.Whole.{floor_div}
 use Rattle.pf_ints.specs.Meaning.Lanes.{least, greatest, IsIn, wrapped, clamped}
 use Rattle.pf_ints.proofs.LaneLaws.{spans, member, nearest}
-use Rattle.pf_values.specs.Steps.Small.{IsSmall}
+use Rattle.pf_values.specs.Meaning.Small.{IsSmall}
 use Rattle.pf_values.specs.Meaning.Terms.{typed_as, doubled}
 use Rattle.pf_values.proofs.Bounds.{IsWithin, within_product}
 use Rattle.pf_values.proofs.Floors.{floor_least, floor_greatest, floor_toward}

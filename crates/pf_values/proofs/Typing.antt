@@ -54,28 +54,25 @@ chain true false r x y z = refl
 chain false q r x y z = refl
 
 -- the types of a choice are judged one after another
-pub choice_difference : (ts : List LaneType) (d : LaneType) → length ts ≡ 4 →
-    option_or (first_difference (get_or ts 0 d ∷ []) (get_or ts 1 d ∷ []))
-    (option_or (first_difference (typed_as (get_or ts 2 d).signed (get_or ts 0 d).bits ∷ []) (get_or ts 2 d ∷ [])) (first_difference (get_or ts 2 d ∷ []) (get_or ts 3 d ∷ [])))
-    ≡ first_difference (wanted Choice ts) ts
-choice_difference [] d h = absurd (omega arith)
-choice_difference (a ∷ []) d h = absurd (omega arith)
-choice_difference (a ∷ b ∷ []) d h = absurd (omega arith)
-choice_difference (a ∷ b ∷ x ∷ []) d h = absurd (omega arith)
-choice_difference (a ∷ b ∷ x ∷ y ∷ []) d h =
-    rw (same_self a) (chain (same_type a b) (same_type (typed_as x.signed a.bits) x) (same_type x y) (a, b) (typed_as x.signed a.bits, x) (x, y))
-choice_difference (a ∷ b ∷ x ∷ y ∷ z ∷ more) d h = absurd (omega arith)
+pub choice_difference : (a b x y w : LaneType) (first second third later all : Option (LaneType × LaneType)) →
+    first ≡ first_difference (a ∷ []) (b ∷ []) → w ≡ typed_as x.signed a.bits →
+    second ≡ first_difference (w ∷ []) (x ∷ []) → third ≡ first_difference (x ∷ []) (y ∷ []) →
+    later ≡ option_or second third → all ≡ option_or first later →
+    all ≡ first_difference (wanted Choice (a ∷ b ∷ x ∷ y ∷ [])) (a ∷ b ∷ x ∷ y ∷ [])
+choice_difference a b x y w first second third later all one wide two three e f =
+    rw (f, e, one, two, three, wide, same_self a)
+    (chain (same_type a b) (same_type (typed_as x.signed a.bits) x) (same_type x y) (a, b) (typed_as x.signed a.bits, x) (x, y))
 
--- the same of what was found step by step
-pub choice_found : (o : Operands) (ts : List LaneType) (d w : LaneType) (first second third later all : Option (LaneType × LaneType)) →
-    o ≡ Choice → length ts ≡ 4 →
-    first ≡ first_difference (get_or ts 0 d ∷ []) (get_or ts 1 d ∷ []) →
-    w ≡ typed_as (get_or ts 2 d).signed (get_or ts 0 d).bits →
-    second ≡ first_difference (w ∷ []) (get_or ts 2 d ∷ []) →
-    third ≡ first_difference (get_or ts 2 d ∷ []) (get_or ts 3 d ∷ []) →
-    later ≡ option_or second third → all ≡ option_or first later → all ≡ first_difference (wanted o ts) ts
-choice_found o ts d w first second third later all is four a wide b c e f =
-    rw (is, f, e, a, b, c, wide) (choice_difference ts d four)
+-- a choice has four operands
+pub choice_found : (o : Operands) (ts : List LaneType) (d : LaneType) (found : Option (LaneType × LaneType)) → o ≡ Choice → length ts ≡ 4 →
+    found ≡ first_difference (wanted Choice (get_or ts 0 d ∷ get_or ts 1 d ∷ get_or ts 2 d ∷ get_or ts 3 d ∷ []))
+    (get_or ts 0 d ∷ get_or ts 1 d ∷ get_or ts 2 d ∷ get_or ts 3 d ∷ []) → found ≡ first_difference (wanted o ts) ts
+choice_found o [] d found is h same = absurd (omega arith)
+choice_found o (a ∷ []) d found is h same = absurd (omega arith)
+choice_found o (a ∷ b ∷ []) d found is h same = absurd (omega arith)
+choice_found o (a ∷ b ∷ x ∷ []) d found is h same = absurd (omega arith)
+choice_found o (a ∷ b ∷ x ∷ y ∷ []) d found is h same = rw is same
+choice_found o (a ∷ b ∷ x ∷ y ∷ z ∷ more) d found is h same = absurd (omega arith)
 
 -- one more type is found
 pub gather : (ts : List LaneType) (t : LaneType) (n : ℕ) (rs : List (Result LaneType TermFault)) (all : Result (List LaneType) TermFault) →

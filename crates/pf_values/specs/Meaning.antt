@@ -5,3 +5,4 @@ pub mod Reach
 pub mod NamedTerms
 pub mod Spellings
 pub mod Limits
+pub mod Small

@@ -5,7 +5,7 @@ use pf_ints::{Duplicate, LaneType, Name, Sequence};
 use std::alloc::{AllocError, Global};
 
 /// An image of a kernel: its name, the type of its pixels, and the range that they lie in.
-#[derive(Clone, Copy, Debug, PartialEq, Eq)]
+#[derive(Clone, Copy, PartialEq, Eq)]
 pub struct ImageDecl {
     pub name: Name,
     pub ty: LaneType,
@@ -17,7 +17,7 @@ pub struct ImageDecl {
 pub type ImageList = Sequence<ImageDecl>;
 
 /// A named term.
-#[derive(Debug, Drop)]
+#[derive(Drop)]
 pub struct Definition {
     pub name: Name,
     pub ty: LaneType,

@@ -24,5 +24,5 @@ pub use row::{Amounts, Gives, Operands, Spelling};
 pub use sizes::{depth, nodes};
 pub use term::{Env, Leaf, Term, Terms};
 pub use types::{is_amount, result_type, type_fault, type_of};
-pub use values::value;
+pub use values::{applied_to_one, applied_to_two, half_step, product, shifted, value};
 pub use weights::weight;

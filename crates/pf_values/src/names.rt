@@ -4,7 +4,7 @@ use pf_ints::{Duplicate, LaneType, Name, Sequence};
 use std::alloc::{AllocError, Global};
 
 /// An image's name and the type of its pixels.
-#[derive(Clone, Copy, Debug, PartialEq, Eq)]
+#[derive(Clone, Copy, PartialEq, Eq)]
 pub struct ImageName {
     pub name: Name,
     pub ty: LaneType,
@@ -25,7 +25,7 @@ pub struct Tap {
 pub type TapList = Sequence<Tap>;
 
 /// A definition's name and type.
-#[derive(Clone, Copy, Debug, PartialEq, Eq)]
+#[derive(Clone, Copy, PartialEq, Eq)]
 pub struct DefName {
     pub name: Name,
     pub ty: LaneType,
@@ -35,7 +35,7 @@ pub struct DefName {
 pub type DefNames = Sequence<DefName>;
 
 /// What the leaves of a term stand for.
-#[derive(Debug, Drop)]
+#[derive(Drop)]
 pub struct Names {
     pub images: ImageNames,
     pub taps: TapList,

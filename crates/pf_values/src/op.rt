@@ -5,7 +5,7 @@ ghost use Rattle.pf_values.specs.Meaning.Spellings.{op_word, spelling_of};
 use crate::row::{Amounts, Gives, Operands, Spelling};
 
 /// The operators of terms.
-#[derive(Clone, Copy, Debug, PartialEq, Eq)]
+#[derive(Clone, Copy, PartialEq, Eq)]
 pub enum Op {
     /// The operand wrapped to the stated type.
     Cast,

@@ -1,5 +1,5 @@
 /// Which types an operator's operands have.
-#[derive(Clone, Copy, Debug, PartialEq, Eq)]
+#[derive(Clone, Copy)]
 pub enum Operands {
     /// One, of any type.
     One,
@@ -16,7 +16,7 @@ pub enum Operands {
 }
 
 /// Which type an operator's result has.
-#[derive(Clone, Copy, Debug, PartialEq, Eq)]
+#[derive(Clone, Copy)]
 pub enum Gives {
     /// The one that is written with it, any.
     Stated,
@@ -33,7 +33,7 @@ pub enum Gives {
 }
 
 /// Which amounts an operator takes, for a first operand of w bits.
-#[derive(Clone, Copy, Debug, PartialEq, Eq)]
+#[derive(Clone, Copy)]
 pub enum Amounts {
     /// It has none.
     Without,
@@ -48,7 +48,7 @@ pub enum Amounts {
 }
 
 /// How an operator is written around its operands.
-#[derive(Clone, Copy, Debug, PartialEq, Eq)]
+#[derive(Clone, Copy)]
 pub enum Spelling {
     /// As a call of the stated type: `u8(x)`.
     TypeCall,

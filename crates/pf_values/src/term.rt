@@ -6,7 +6,7 @@ use sqlite_items::Items;
 use std::alloc::{AllocError, Global};
 
 /// What a term stands on.
-#[derive(Clone, Copy, Debug, PartialEq, Eq)]
+#[derive(Clone, Copy, PartialEq, Eq)]
 pub enum Leaf {
     /// A tap, by its number in the list of taps.
     Tap(u8),
@@ -16,7 +16,7 @@ pub enum Leaf {
 }
 
 /// An expression at one pixel.
-#[derive(Debug, Drop)]
+#[derive(Drop)]
 pub enum Term {
     Leaf {
         leaf: Leaf,
@@ -36,7 +36,7 @@ pub enum Term {
 pub type Terms = Items<Term>;
 
 /// The numbers of the taps and of the definitions at one pixel.
-#[derive(Debug, Drop)]
+#[derive(Drop)]
 pub struct Env {
     pub taps: NumberList,
     pub defs: NumberList,

@@ -1,5 +1,6 @@
 ghost use Rattle.std.specs.Prelude.{◌≡◌, ◌∷◌, ◌≤◌, length, true, [], Result, Err, IfOk};
 ghost use Rattle.std.specs.Option.{option_or};
+ghost use Rattle.pf_values.specs.declared.row.Operands.TheVariants.{Narrow, WideFirst, Choice};
 ghost use Rattle.pf_values.specs.Meaning.Operators.{row_of};
 ghost use Rattle.pf_values.specs.Meaning.Terms.{is_well_formed, typing, fault_below, TypesAs, operand_count, node_type, type_fault, wanted, first_difference, result_type, is_amount, same_type, typed_as, doubled, halved, at_most_sixteen, at_least_sixteen};
 
@@ -99,19 +100,33 @@ fn operand_fault(operands: Operands, types: &[LaneType]) -> Option<(LaneType, La
     match (operands, types) {
         (Operands::OneSigned, [x]) => difference(of_bits(true, x.bits), *x),
         (Operands::Alike, [x, y]) => difference(*x, *y),
-        (Operands::Narrow, [x, y]) => difference(of_bits(x.signed, at_most_sixteen(x.bits)), *x).or(
-            difference(*x, *y),
-        ),
-        (Operands::WideFirst, [x, y]) => difference(
-            of_bits(x.signed, at_least_sixteen(x.bits)),
-            *x,
-        ).or(difference(of_bits(x.signed, halved(x.bits)), *y)),
-        (Operands::Choice, [a, b, x, y]) => difference(*a, *b).or(difference(
-            of_bits(x.signed, a.bits),
-            *x,
-        ).or(difference(*x, *y))),
+        (Operands::Narrow, [x, y]) => narrow_fault(*x, *y),
+        (Operands::WideFirst, [x, y]) => wide_first_fault(*x, *y),
+        (Operands::Choice, [a, b, x, y]) => choice_fault(*a, *b, *x, *y),
         _ => None,
     }
+}
+
+fn narrow_fault(x: LaneType, y: LaneType) -> Option<(LaneType, LaneType)>
+    ensures { result ≡ first_difference (wanted Narrow (x ∷ y ∷ [])) (x ∷ y ∷ []) }
+{
+    difference(of_bits(x.signed, at_most_sixteen(x.bits)), x).or(difference(x, y))
+}
+
+fn wide_first_fault(x: LaneType, y: LaneType) -> Option<(LaneType, LaneType)>
+    ensures { result ≡ first_difference (wanted WideFirst (x ∷ y ∷ [])) (x ∷ y ∷ []) }
+{
+    difference(of_bits(x.signed, at_least_sixteen(x.bits)), x).or(difference(
+        of_bits(x.signed, halved(x.bits)),
+        y,
+    ))
+}
+
+#[tactic(auto, using(crate::proofs::Typing::choice_difference))]
+fn choice_fault(a: LaneType, b: LaneType, x: LaneType, y: LaneType) -> Option<(LaneType, LaneType)>
+    ensures { result ≡ first_difference (wanted Choice (a ∷ b ∷ x ∷ y ∷ [])) (a ∷ b ∷ x ∷ y ∷ []) }
+{
+    difference(a, b).or(difference(of_bits(x.signed, a.bits), x).or(difference(x, y)))
 }
 
 fn difference(want: LaneType, got: LaneType) -> Option<(LaneType, LaneType)>

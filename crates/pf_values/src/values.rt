@@ -2,7 +2,7 @@ ghost use Rattle.std.specs.Prelude.{◌≡◌, ◌<◌, ◌≤◌, ◌^◌, ◌�
 ghost use Rattle.pf_ints.specs.Meaning.Lanes.{IsIn};
 ghost use Rattle.pf_values.specs.Meaning.Operators.{row_of, half_step, shifted};
 ghost use Rattle.pf_values.specs.Meaning.Terms.{Val, IsWellTyped, is_env_of, is_env_leaf, leaf_value, operand_count, stated_type};
-ghost use Rattle.pf_values.specs.Steps.Small.{IsSmall, IsLong};
+ghost use Rattle.pf_values.specs.Meaning.Small.{IsSmall, IsLong};
 
 use crate::op::Op;
 use crate::term::{Env, Leaf, Term};
@@ -47,15 +47,16 @@ fn applied(op: Op, ty: LaneType, k: u8, xs: &[i128]) -> i128
     ensures { result ≡ (row_of op).value ty k xs.now }
 {
     match xs {
-        [x] => of_one(op, ty, k, *x),
-        [x, y] => of_two(op, ty, k, *x, *y),
+        [x] => applied_to_one(op, ty, k, *x),
+        [x, y] => applied_to_two(op, ty, k, *x, *y),
         [a, b, x, y] => of_four(op, ty, k, [*a, *b, *x, *y]),
         _ => unreachable!(),
     }
 }
 
-fn of_one(op: Op, ty: LaneType, k: u8, x: i128) -> i128
-    requires count { operand_count (row_of op).operands ≡ 1 }
+/// What an operator makes of one number: its value at the type `ty` of the result and the amount
+/// `k`, or 0 where it has more operands than one.
+pub fn applied_to_one(op: Op, ty: LaneType, k: u8, x: i128) -> i128
     requires small { IsSmall x }
     requires amount { k < 64 }
     ensures { result ≡ (row_of op).value ty k (x ∷ []) }
@@ -67,12 +68,13 @@ fn of_one(op: Op, ty: LaneType, k: u8, x: i128) -> i128
         Op::Abs => x.abs(),
         Op::SaturatingCast => sat(ty, x),
         Op::RoundingShr => shifted(x + half_step(k), k),
-        _ => unreachable!(),
+        _ => 0,
     }
 }
 
-fn of_two(op: Op, ty: LaneType, k: u8, x: i128, y: i128) -> i128
-    requires count { operand_count (row_of op).operands ≡ 2 }
+/// What an operator makes of two numbers: its value at the type `ty` of the result and the amount
+/// `k`. An operator of one operand takes the first number, and one of four makes 0.
+pub fn applied_to_two(op: Op, ty: LaneType, k: u8, x: i128, y: i128) -> i128
     requires first { IsSmall x }
     requires second { IsSmall y }
     requires amount { k < 64 }
@@ -95,7 +97,8 @@ fn of_two(op: Op, ty: LaneType, k: u8, x: i128, y: i128) -> i128
         Op::Absd => (x - y).abs(),
         Op::MulShr => sat(ty, shifted(product(x, y), k)),
         Op::RoundingMulShr => sat(ty, shifted(product(x, y) + half_step(k), k)),
-        _ => unreachable!(),
+        Op::SelectGreater | Op::SelectEqual => 0,
+        _ => applied_to_one(op, ty, k, x),
     }
 }
 
@@ -120,21 +123,24 @@ fn power(k: u8) -> i128
     1 << k
 }
 
-fn half_step(k: u8) -> i128
+/// Half a step of a division by 2 to the power of `k`, or 1 where `k` is 0.
+pub fn half_step(k: u8) -> i128
     requires { k < 64 }
     ensures { result ≡ half_step k }
 {
     power(k.saturating_sub(1))
 }
 
-fn shifted(x: i128, k: u8) -> i128
+/// The quotient by 2 to the power of `k`, rounded down.
+pub fn shifted(x: i128, k: u8) -> i128
     requires { k < 64 }
     ensures { result ≡ shifted x k }
 {
     x >> k
 }
 
-fn product(x: i128, y: i128) -> i128
+/// The product of two numbers that aren't large.
+pub fn product(x: i128, y: i128) -> i128
     requires first { IsSmall x }
     requires second { IsLong y }
     ensures value { result ≡ x *ℤ y }

@@ -1,111 +1,97 @@
 -- The table of the axioms.
-use Rattle.std.specs.Prelude.{ℤ, pos, negsuc, neg_ℤ, Bool, true, false, ◌&&◌, nat_le}
-use Rattle.std.specs.Int.Signed.{le_z}
-use Rattle.pf_ints.specs.declared.lane.LaneType.{LaneType}
-use Rattle.pf_ints.specs.Meaning.Lanes.{lane_width}
-use Rattle.pf_ints.specs.Meaning.Ranges.{Range, furthest, lane_range, lies_in}
+use Rattle.std.specs.Prelude.{pos, negsuc}
+use Rattle.pf_templates.specs.declared.template.Letter.TheVariants.{X, Y, Z}
+use Rattle.pf_templates.specs.declared.template.Which.TheVariants.{T, U}
+use Rattle.pf_templates.specs.declared.template.Exponent.TheVariants.{Fixed, A, B, Sum, Rest}
+use Rattle.pf_templates.specs.declared.template.Numeral.TheVariants as numeral
+use Rattle.pf_templates.specs.Meaning.Templates.{Tree, Leaf, Num, Pow, Add, Sub, Mul, FloorDiv, Min, Max, Abs, Sel, Wrap, Sat}
 use Rattle.pf_forms.specs.declared.axioms.Axiom.{Axiom}
-use Rattle.pf_forms.specs.declared.axioms.Axiom.TheVariants.{AddComm, AddAssoc, AddBack, AddZero, SubAdd, Cancel, MulComm, MulAssoc, MulBack, MulOne, Distribute, Fold, DropWrap, WrapWrap, WrapAdd, WrapMul}
-use Rattle.pf_forms.specs.Meaning.Shapes.{Shape, Var, Num, Pow, Add, Sub, Mul, FloorDiv, Min, Max, Abs, Sel, Wrap, Sat}
-use Rattle.pf_forms.specs.Meaning.Values.{FVal}
+use Rattle.pf_forms.specs.declared.axioms.Axiom.TheVariants.{AddComm, AddAssoc, AddBack, AddZero, SubAdd, Cancel, MulComm, MulAssoc, MulBack, MulOne, Distribute, Fold, DropWrap, WrapWrap, WrapAdd, WrapMul, MulZero, Factor, PowNum, NumPow, PowAdd, DivOne, DivDiv, DivScale, DivOut, DivIn, DivInner, NegDiv, DivZero, DivNeg, DropSat, SatClamp, SatSat, SatHigh, SatLow, MinComm, MaxComm, MinLeft, MaxLeft, MinAdd, MaxAdd, MinDiv, MaxDiv, SelMax, SelMin, SelSame, MaxMinAbs, AbsPos, AbsNeg}
+use Rattle.pf_axioms.specs.declared.needs.Needs.{Needs}
+use Rattle.pf_axioms.specs.declared.needs.Needs.TheVariants.{Free, Wider, Covered, Ordered, InT, FromLeast, ToGreatest, BelowPower, AbovePower, Positive, Negative, UnderY, OverY}
 
--- what the letters of a row stand for
-pub record Letters : Type 0 where
-  pub x : Shape
-  pub y : Shape
-  pub z : Shape
-  pub t : LaneType
-  pub u : LaneType
+-- the left form, the right form, and what is asked for; or the value of an operation on numbers alone
+pub data AxiomRow : Type 0 where
+  Law : Tree → Tree → Needs → AxiomRow
+  Folding : AxiomRow
 
--- what a row asks of intervals: nothing, or a test of the interval of x
-pub data Condition : Type 0 where
-  Free : Condition
-  If : (Range → Bool) → Condition
+abbrev x : Tree
+x = Leaf X
 
--- a row rewrites its left form to its right one, where the letters suit it and its condition is met
-pub record AxiomRow : Type 0 where
-  pub left : Letters → Shape
-  pub right : Letters → Shape
-  pub suits : Letters → Bool
-  pub condition : Letters → Condition
-  -- whether the numbers that the right form makes are within the limits
-  pub room : Letters → Bool
+abbrev y : Tree
+y = Leaf Y
 
--- a row that asks for nothing
-abbrev always : (Letters → Shape) → (Letters → Shape) → AxiomRow
-always left right = record { left = left; right = right; suits = λ l. true; condition = λ l. Free; room = λ l. true }
+abbrev z : Tree
+z = Leaf Z
 
--- a row that asks for a test of the interval of x
-abbrev where_x : (Letters → Range → Bool) → (Letters → Shape) → (Letters → Shape) → AxiomRow
-where_x test left right = record { left = left; right = right; suits = λ l. true; condition = λ l. If (test l); room = λ l. true }
+abbrev zero : Tree
+zero = Num (numeral.Fixed (pos 0))
 
--- a row whose u is at least as wide as its t
-abbrev where_wider : (Letters → Shape) → (Letters → Shape) → AxiomRow
-where_wider left right = record {
-  left = left;
-  right = right;
-  suits = λ l. nat_le (lane_width l.t) (lane_width l.u);
-  condition = λ l. Free;
-  room = λ l. true;
-}
+abbrev one : Tree
+one = Num (numeral.Fixed (pos 1))
 
-abbrev pub zero_form : Shape
-zero_form = Num (pos 0)
+abbrev minus_one : Tree
+minus_one = Num (numeral.Fixed (negsuc 0))
 
-abbrev pub one_form : Shape
-one_form = Num (pos 1)
+abbrev two_to_a : Tree
+two_to_a = Num numeral.TwoToA
 
-abbrev pub minus_one : Shape
-minus_one = Num (negsuc 0)
+abbrev below_two_to_a : Tree
+below_two_to_a = Num numeral.BelowTwoToA
 
--- the number is within the limits
-abbrev pub is_within_forms : ℤ → Bool
-is_within_forms n = le_z (neg_ℤ furthest) n && le_z n furthest
+abbrev least_t : Tree
+least_t = Num numeral.LeastT
 
-abbrev pub is_number : Shape → Bool
-is_number (Num n) = true
-is_number _ = false
-
--- an operation on numbers alone
-abbrev pub is_foldable : Shape → Bool
-is_foldable (Var n) = false
-is_foldable (Num n) = false
-is_foldable (Pow e) = false
-is_foldable (Add x y) = is_number x && is_number y
-is_foldable (Sub x y) = is_number x && is_number y
-is_foldable (Mul x y) = is_number x && is_number y
-is_foldable (FloorDiv x e) = is_number x
-is_foldable (Min x y) = is_number x && is_number y
-is_foldable (Max x y) = is_number x && is_number y
-is_foldable (Abs x) = is_number x
-is_foldable (Sel a b x y) = is_number a && (is_number b && (is_number x && is_number y))
-is_foldable (Wrap t x) = is_number x
-is_foldable (Sat t x) = is_number x
-
--- the value of a form without variables
-abbrev pub closed_value : Shape → ℤ
-closed_value f = FVal (λ n. pos 0) f
+abbrev greatest_t : Tree
+greatest_t = Num numeral.GreatestT
 
 abbrev pub axiom_row : Axiom → AxiomRow
-axiom_row AddComm = always (λ l. Add l.x l.y) (λ l. Add l.y l.x)
-axiom_row AddAssoc = always (λ l. Add (Add l.x l.y) l.z) (λ l. Add l.x (Add l.y l.z))
-axiom_row AddBack = always (λ l. Add l.x (Add l.y l.z)) (λ l. Add (Add l.x l.y) l.z)
-axiom_row AddZero = always (λ l. Add l.x zero_form) (λ l. l.x)
-axiom_row SubAdd = always (λ l. Sub l.x l.y) (λ l. Add l.x (Mul minus_one l.y))
-axiom_row Cancel = always (λ l. Add l.x (Mul minus_one l.x)) (λ l. zero_form)
-axiom_row MulComm = always (λ l. Mul l.x l.y) (λ l. Mul l.y l.x)
-axiom_row MulAssoc = always (λ l. Mul (Mul l.x l.y) l.z) (λ l. Mul l.x (Mul l.y l.z))
-axiom_row MulBack = always (λ l. Mul l.x (Mul l.y l.z)) (λ l. Mul (Mul l.x l.y) l.z)
-axiom_row MulOne = always (λ l. Mul one_form l.x) (λ l. l.x)
-axiom_row Distribute = always (λ l. Mul l.x (Add l.y l.z)) (λ l. Add (Mul l.x l.y) (Mul l.x l.z))
-axiom_row Fold = record {
-  left = λ l. l.x;
-  right = λ l. Num (closed_value l.x);
-  suits = λ l. is_foldable l.x;
-  condition = λ l. Free;
-  room = λ l. is_within_forms (closed_value l.x);
-}
-axiom_row DropWrap = where_x (λ l r. lies_in r (lane_range l.t)) (λ l. Wrap l.t l.x) (λ l. l.x)
-axiom_row WrapWrap = where_wider (λ l. Wrap l.t (Wrap l.u l.x)) (λ l. Wrap l.t l.x)
-axiom_row WrapAdd = where_wider (λ l. Wrap l.t (Add (Wrap l.u l.x) l.y)) (λ l. Wrap l.t (Add l.x l.y))
-axiom_row WrapMul = where_wider (λ l. Wrap l.t (Mul (Wrap l.u l.x) l.y)) (λ l. Wrap l.t (Mul l.x l.y))
+axiom_row AddComm = Law (Add x y) (Add y x) Free
+axiom_row AddAssoc = Law (Add (Add x y) z) (Add x (Add y z)) Free
+axiom_row AddBack = Law (Add x (Add y z)) (Add (Add x y) z) Free
+axiom_row AddZero = Law (Add x zero) x Free
+axiom_row SubAdd = Law (Sub x y) (Add x (Mul minus_one y)) Free
+axiom_row Cancel = Law (Add x (Mul minus_one x)) zero Free
+axiom_row MulComm = Law (Mul x y) (Mul y x) Free
+axiom_row MulAssoc = Law (Mul (Mul x y) z) (Mul x (Mul y z)) Free
+axiom_row MulBack = Law (Mul x (Mul y z)) (Mul (Mul x y) z) Free
+axiom_row MulOne = Law (Mul one x) x Free
+axiom_row Distribute = Law (Mul x (Add y z)) (Add (Mul x y) (Mul x z)) Free
+axiom_row Fold = Folding
+axiom_row DropWrap = Law (Wrap T x) x InT
+axiom_row WrapWrap = Law (Wrap T (Wrap U x)) (Wrap T x) Wider
+axiom_row WrapAdd = Law (Wrap T (Add (Wrap U x) y)) (Wrap T (Add x y)) Wider
+axiom_row WrapMul = Law (Wrap T (Mul (Wrap U x) y)) (Wrap T (Mul x y)) Wider
+axiom_row MulZero = Law (Mul zero x) zero Free
+axiom_row Factor = Law (Add (Mul x y) (Mul x z)) (Mul x (Add y z)) Free
+axiom_row PowNum = Law (Pow A) two_to_a Free
+axiom_row NumPow = Law two_to_a (Pow A) Free
+axiom_row PowAdd = Law (Mul (Pow A) (Pow B)) (Pow Sum) Free
+axiom_row DivOne = Law (FloorDiv x (Fixed 0)) x Free
+axiom_row DivDiv = Law (FloorDiv (FloorDiv x A) B) (FloorDiv x Sum) Free
+axiom_row DivScale = Law (FloorDiv (Mul (Pow A) x) B) (FloorDiv x Rest) Ordered
+axiom_row DivOut = Law (FloorDiv (Add x (Mul (Pow A) y)) A) (Add (FloorDiv x A) y) Free
+axiom_row DivIn = Law (Add (FloorDiv x A) y) (FloorDiv (Add x (Mul (Pow A) y)) A) Free
+axiom_row DivInner = Law (FloorDiv (Add (FloorDiv x A) y) B) (FloorDiv (Add x (Mul (Pow A) y)) Sum) Free
+axiom_row NegDiv = Law (Mul minus_one (FloorDiv x A)) (FloorDiv (Add (Mul minus_one x) below_two_to_a) A) Free
+axiom_row DivZero = Law (FloorDiv x A) zero BelowPower
+axiom_row DivNeg = Law (FloorDiv x A) minus_one AbovePower
+axiom_row DropSat = Law (Sat T x) x InT
+axiom_row SatClamp = Law (Sat T x) (Min (Max x least_t) greatest_t) Free
+axiom_row SatSat = Law (Sat T (Sat U x)) (Sat T x) Covered
+axiom_row SatHigh = Law (Sat T x) (Min x greatest_t) FromLeast
+axiom_row SatLow = Law (Sat T x) (Max x least_t) ToGreatest
+axiom_row MinComm = Law (Min x y) (Min y x) Free
+axiom_row MaxComm = Law (Max x y) (Max y x) Free
+axiom_row MinLeft = Law (Min x y) x UnderY
+axiom_row MaxLeft = Law (Max x y) x OverY
+axiom_row MinAdd = Law (Add (Min x y) z) (Min (Add x z) (Add y z)) Free
+axiom_row MaxAdd = Law (Add (Max x y) z) (Max (Add x z) (Add y z)) Free
+axiom_row MinDiv = Law (FloorDiv (Min x y) A) (Min (FloorDiv x A) (FloorDiv y A)) Free
+axiom_row MaxDiv = Law (FloorDiv (Max x y) A) (Max (FloorDiv x A) (FloorDiv y A)) Free
+axiom_row SelMax = Law (Sel x y x y) (Max x y) Free
+axiom_row SelMin = Law (Sel x y y x) (Min x y) Free
+axiom_row SelSame = Law (Sel x y z z) z Free
+axiom_row MaxMinAbs = Law (Sub (Max x y) (Min x y)) (Abs (Sub x y)) Free
+axiom_row AbsPos = Law (Abs x) x Positive
+axiom_row AbsNeg = Law (Abs x) (Mul minus_one x) Negative

@@ -1,6 +1,11 @@
 -- Numbers as bytes, the lowest byte first, and vectors as their lanes.
-use Rattle.std.specs.Prelude.{ℕ, zero, suc, ◌+◌, ◌*◌, ◌/◌, ◌%◌, List, [], ◌∷◌, take, drop}
+use Rattle.std.specs.Prelude.{◌≡◌, ℕ, zero, suc, ◌+◌, ◌*◌, ◌/◌, ◌%◌, ◌<◌, List, [], ◌∷◌, length, take, drop, All}
 use Rattle.std.specs.List.{flat_map}
+
+-- they are bytes, so many of them
+pub record AreBytes (count : ℕ) (bs : List ℕ) : Type 0 where
+  pub size : length bs ≡ count
+  pub small : All (λ b. b < 256) bs
 
 -- the number of some bytes
 abbrev pub number : List ℕ → ℕ

@@ -3,7 +3,7 @@ use Rattle.std.specs.Prelude.{◌≡◌, ℕ, ◌+◌, ◌*◌, ◌<◌, List, �
 use Rattle.std.specs.List.{range_with_len, flat_map}
 use Rattle.pf_ints.specs.Meaning.Images.{Picture}
 use Rattle.pf_machine.specs.declared.program.Head.{Head}
-use Rattle.pf_machine.specs.Meaning.Bytes.{packed}
+use Rattle.pf_machine.specs.Meaning.Bytes.{AreBytes, packed}
 use Rattle.pf_machine.specs.Meaning.Tables.{Table}
 use Rattle.pf_machine.specs.Meaning.Programs.{ProgramOf}
 use Rattle.pf_machine.specs.Meaning.MachineSteps.{State, Ended, run, started}
@@ -21,14 +21,15 @@ with_row output size y row = take (size * y) output ++ (row ++ drop (size * y + 
 pub record RowDone {I O : Type 0} (t : Table O) (p : ProgramOf I O) (pictures : List Picture) (at : Places) (y : ℕ) (row scratch output : List ℕ) : Type 0 where
   pub last : State
   pub kept : List ℕ
-  pub kept_size : length kept ≡ length scratch
+  pub kept_bytes : AreBytes (length scratch) kept
   pub ends : run t p.code p.labels (row_budget (length p.code) (length p.head.taps) (columns p.head pictures)) (started t at.table (memory pictures at (packed 8 (row_entries p.head pictures at y)) scratch output)) ≡ Ended last
   pub regions : last.regions ≡ memory pictures at (packed 8 (row_entries p.head pictures at y)) kept (with_row output (row_size p.head pictures) y row)
 
--- so does each row, from whatever contents of the scratch and the output
+-- so does each row, from whatever bytes of the scratch and the output
 pub record RowsDone {I O : Type 0} (t : Table O) (p : ProgramOf I O) (pictures : List Picture) (at : Places) (row : ℕ → List ℕ) : Type 0 where
-  pub size : (y : ℕ) → y < rows p.head pictures → length (row y) ≡ row_size p.head pictures
-  pub each : (y : ℕ) → y < rows p.head pictures → (scratch output : List ℕ) → length scratch ≡ p.head.scratch → length output ≡ output_size p.head pictures → RowDone t p pictures at y (row y) scratch output
+  pub bytes : (y : ℕ) → y < rows p.head pictures → AreBytes (row_size p.head pictures) (row y)
+  pub each : (y : ℕ) → y < rows p.head pictures → (scratch output : List ℕ) → AreBytes p.head.scratch scratch → AreBytes (output_size p.head pictures) output
+      → RowDone t p pictures at y (row y) scratch output
 
 -- the numbers of a row and of all rows, each by its column and its row
 abbrev pub row_values : (ℕ → ℕ → ℕ) → ℕ → ℕ → List ℕ

@@ -8,7 +8,7 @@ use Rattle.pf_values.specs.declared.names.Tap.{Tap}
 use Rattle.pf_values.specs.Meaning.Kernels.{out_width, out_height, tap_column, tap_row, no_picture}
 use Rattle.pf_machine.specs.declared.memory.Region.{Region}
 use Rattle.pf_machine.specs.declared.program.Head.{Head}
-use Rattle.pf_machine.specs.Meaning.Bytes.{packed}
+use Rattle.pf_machine.specs.Meaning.Bytes.{AreBytes, packed}
 use Rattle.pf_machine.specs.Meaning.Memory.{Apart}
 use Rattle.pf_machine.specs.Meaning.Tables.{Table}
 use Rattle.pf_machine.specs.Meaning.Programs.{ProgramOf}
@@ -69,11 +69,11 @@ output_size h pictures = pixel_bytes h.out_ty * (columns h pictures * rows h pic
 abbrev pub IsAligned : LaneType → ℕ → Type 0
 IsAligned ty start = start % pixel_bytes ty ≡ 0
 
--- a placement that a program may be run under: regions of the right sizes that are apart, end below 2^31 and are aligned
+-- a placement that a program may be run under: regions of bytes of the right sizes that are apart, end below 2^31 and are aligned
 pub record IsPlaced (h : Head) (pictures : List Picture) (at : Places) (scratch output : List ℕ) : Type 0 where
   pub image_count : length at.images ≡ length pictures
-  pub scratch_size : length scratch ≡ h.scratch
-  pub output_bytes : length output ≡ output_size h pictures
+  pub scratch_bytes : AreBytes h.scratch scratch
+  pub output_bytes : AreBytes (output_size h pictures) output
   pub apart : AllPairs Apart (memory pictures at (replicate (table_size h) 0) scratch output)
   pub low : All (λ r. r.start + length r.bytes < 2 ^ 31) (memory pictures at (replicate (table_size h) 0) scratch output)
   pub aligned : All (λ p. IsAligned p.1.ty p.0) (zip at.images pictures)

@@ -7,6 +7,7 @@ use Rattle.pf_machine.specs.declared.registers.Reg.TheVariants.{V, K, Q}
 use Rattle.pf_machine.specs.declared.registers.RegFile.{RegFile}
 use Rattle.pf_machine.specs.declared.access.Access.{Access}
 use Rattle.pf_machine.specs.declared.control.Control.{Control}
+use Rattle.pf_machine.specs.Meaning.Bytes.{AreBytes}
 use Rattle.pf_machine.specs.Meaning.RegisterFiles.{reads, writes, IsRegisterOf, renamed_vector, renamed_register}
 use Rattle.pf_machine.specs.Meaning.Control.{IsControl}
 use Rattle.pf_text.specs.Meaning.Lines.{IsLine, IsInstruction}
@@ -46,10 +47,10 @@ pub record IsOver {O : Type 0} (t : Table O) (op : O) : Type 0 where
   pub uses : All (λ r. IsRegisterOf t.vectors r) (t.uses op)
   pub defs : All (λ r. IsRegisterOf t.vectors r) (t.defs op)
 
--- the file has so many vectors, each of the table's size, and a truth value for each byte
+-- the file has so many vectors, each of as many bytes as the table's, and a truth value for each byte
 pub record IsFile {O : Type 0} (t : Table O) (many : ℕ) (f : RegFile) : Type 0 where
   pub count : length f.vectors ≡ many
-  pub vectors : All (λ v. length v ≡ t.vector) f.vectors
+  pub vectors : All (λ v. AreBytes t.vector v) f.vectors
   pub predicate : length f.q ≡ t.vector
 
 -- an operation may take effect on a file: it is no load or store, and the file has what it names
@@ -96,7 +97,7 @@ vector_count (Q ∷ rs) = vector_count rs
 
 -- the laws, over the values that are operations
 pub record IsTable {O : Type 0} (t : Table O) (is_op : O → Type 0) : Type 0 where
-  -- an operation that runs keeps the sizes of the file
+  -- an operation that runs leaves bytes of the same sizes in the file
   pub sized : (op : O) (f : RegFile) → is_op op → CanRun t op f → IsFile t (length f.vectors) (after t op f)
   -- there is a result for each of its defs
   pub whole : (op : O) (held : List (List ℕ)) → is_op op → t.access op ≡ None → length held ≡ length (t.uses op) → length (t.outcome op held) ≡ length (t.defs op)

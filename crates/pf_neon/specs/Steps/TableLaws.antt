@@ -4,8 +4,7 @@ use Rattle.std.specs.Prelude.{codes, slice_index_or}
 use Rattle.std.specs.Fmt.{decimal}
 use Rattle.std.specs.Option.{option_map}
 use Rattle.std.proofs.lemmas.Bool.{cases_Bool}
-use Rattle.std.proofs.lemmas.List.{length-set}
-use Rattle.std.proofs.lemmas.List.Elements.{All-set, All-get_or, All-from_recursion}
+use Rattle.std.proofs.lemmas.List.Elements.{All-from_recursion}
 use Rattle.std.proofs.lemmas.List.Folds.{list_all-append}
 use Rattle.pf_machine.specs.declared.registers.RegFile.{RegFile}
 use Rattle.pf_machine.specs.declared.registers.Reg.TheVariants.{V}
@@ -15,13 +14,15 @@ use Rattle.pf_machine.specs.Meaning.Control.{IsControl}
 use Rattle.pf_machine.specs.Meaning.RegisterFiles.{IsRegisterOf, renamed_register}
 use Rattle.pf_text.specs.Meaning.Lines.{tight, IsInstruction}
 use Rattle.pf_machine.specs.Meaning.Tables.{IsTable, IsOver, IsFile, CanRun, IsSpelling, MeansOp, MeansControl, Accesses, renamed_access, vector_count, after}
+use Rattle.pf_machine.proofs.ByteLaws.{packed_below}
+use Rattle.pf_machine.proofs.FileLaws.{vector_are, file_with}
 use Rattle.pf_text.proofs.QuietLaws.{is_quiet, are_quiet, quiet_number, quiet_before, quiet_label, instruction}
 use Rattle.pf_neon.specs.declared.op.Instruction.{Instruction}
 use Rattle.pf_neon.specs.declared.op.Instruction.TheVariants.{Load, Store, Copy, Lanewise}
 use Rattle.pf_neon.specs.declared.op.Lanes.{Lanes}
 use Rattle.pf_neon.specs.declared.op.Lanes.TheVariants.{Bytes, Halves, Words}
 use Rattle.pf_neon.specs.declared.op.Mnemonic.TheVariants.{Umin}
-use Rattle.pf_neon.specs.Meaning.Instructions.{IsNeonInstruction, width, lane_function, uses, defs, outcome, access, cost, renamed}
+use Rattle.pf_neon.specs.Meaning.Instructions.{IsNeonInstruction, width, lane_function, lanewise, uses, defs, outcome, access, cost, renamed}
 use Rattle.pf_neon.specs.Meaning.Lines.{suffix, vector_text, place_text, offset_text, text, control_text}
 use Rattle.pf_neon.specs.Meaning.Neon.{table}
 use Rattle.pf_neon.specs.Steps.Reads.{instruction_read}
@@ -33,17 +34,14 @@ sized : (op : Instruction) (f : RegFile) → IsNeonInstruction op → CanRun tab
 sized (Load to base j) f is c = absurd (let e = c.computes in cc)
 sized (Store from base j) f is c = absurd (let e = c.computes in cc)
 sized (Copy to from) f is c =
-    record {
-      count = length-set f.vectors to _;
-      vectors = All-set (λ v. length v ≡ 16) f.vectors to (slice_index_or f.vectors from []) (All-get_or (λ v. length v ≡ 16) f.vectors from [] (c.uses 0 (V from) (omega arith)) c.file.vectors) c.file.vectors;
-      predicate = c.file.predicate;
-    }
+    let many = length f.vectors in
+    file_with table many f c.file to (slice_index_or f.vectors from []) (vector_are table many f c.file from (c.uses 0 (V from) (omega arith)))
 sized (Lanewise name lanes to left right) f is c =
-    record {
-      count = length-set f.vectors to _;
-      vectors = All-set (λ v. length v ≡ 16) f.vectors to _ (length-lanewise lanes (lane_function name (width lanes)) (slice_index_or f.vectors left []) (slice_index_or f.vectors right [])) c.file.vectors;
-      predicate = c.file.predicate;
-    }
+    let made = lanewise lanes (lane_function name (width lanes)) (slice_index_or f.vectors left []) (slice_index_or f.vectors right []) in
+    file_with table (length f.vectors) f c.file to made (record {
+      size = length-lanewise lanes (lane_function name (width lanes)) (slice_index_or f.vectors left []) (slice_index_or f.vectors right []);
+      small = packed_below (width lanes) _;
+    })
 
 rename_uses : (op : Instruction) (from to : ℕ) → uses (renamed op from to) ≡ map (λ r. renamed_register from to r) (uses op)
 rename_uses (Load r base j) from to = refl

@@ -10,7 +10,7 @@ use Rattle.pf_machine.specs.declared.block.Item.TheVariants.{Vector as Operation
 use Rattle.pf_machine.specs.declared.program.Head.{Head}
 use Rattle.pf_machine.specs.declared.registers.RegFile.{RegFile}
 use Rattle.pf_machine.specs.Meaning.Bytes.{bytes}
-use Rattle.pf_machine.specs.Meaning.Blocks.{BVal, IsClean}
+use Rattle.pf_machine.specs.Meaning.Blocks.{BVal, AreTaps, AreSlots, IsClean, pixel_part, IsLanewise}
 use Rattle.pf_machine.specs.Meaning.Heads.{IsHead}
 use Rattle.pf_machine.specs.Meaning.Programs.{ProgramOf}
 use Rattle.pf_machine.specs.Meaning.Runs.{Places, IsPlaced, Leaves, pixel_bytes, columns, rows}
@@ -26,39 +26,28 @@ tap_widths h = map (λ t. pixel_bytes (slice_index_or h.images t.image no_decl).
 abbrev pub start_of : (vector n q : ℕ) → ℕ
 start_of vector n q = if nat_lt q (n - vector) then vector * (q / vector) else n - vector
 
--- the bytes of pixel k
-abbrev pub pixel_part : (width k : ℕ) → List ℕ → List ℕ
-pixel_part width k held = take width (drop (width * k) held)
-
 -- the number of tap k in column x of row y of the output
 abbrev pub tap_pixel : List Tap → List Picture → ℕ → ℕ → Tap → ℕ
 tap_pixel taps pictures x y t = pixel (slice_index_or pictures t.image no_picture) (tap_column taps x t) (tap_row taps y t)
 
--- the taps' pixels of row y from column x on, for a block; past the row's end they may be anything
+-- the taps' pixels of row y from column x on, for a block; past the row's end they may be any bytes
 pub record AreBlocks (vector : ℕ) (h : Head) (pictures : List Picture) (y x : ℕ) (blocks : List (List ℕ)) : Type 0 where
-  pub sizes : (k : ℕ) → k < length h.taps → length (slice_index_or blocks k []) ≡ slice_index (tap_widths h) k * vector
+  pub taps : AreTaps vector (tap_widths h) blocks
   pub each : (k j : ℕ) → k < length h.taps → j < vector → x + j < columns h pictures
       → pixel_part (slice_index (tap_widths h) k) j (slice_index_or blocks k []) ≡ bytes (slice_index (tap_widths h) k) (tap_pixel h.taps pictures (x + j) y (slice_index_or h.taps k no_tap))
 
--- the bytes are those that a block from column x on gives at pixel q, where these are bytes
+-- the bytes are those that a block from column x on gives at pixel q
 pub record IsGiven {O : Type 0} (t : Table O) (slots : ℕ) (block : List (Item O)) (h : Head) (pictures : List Picture) (y x q : ℕ) (held : List ℕ) : Type 0 where
   pub blocks : List (List ℕ)
   pub taps : AreBlocks t.vector h pictures y x blocks
-  pub given : (file : RegFile) (kept : List (List ℕ)) → IsFile t t.vectors file → length kept ≡ slots
-      → All (λ b. b < 256) (pixel_part (pixel_bytes h.out_ty) (q - x) (concat (BVal t (pixel_bytes h.out_ty) block blocks file kept)))
+  pub given : (file : RegFile) (kept : List (List ℕ)) → IsFile t t.vectors file → AreSlots t.vector slots kept
       → held ≡ pixel_part (pixel_bytes h.out_ty) (q - x) (concat (BVal t (pixel_bytes h.out_ty) block blocks file kept))
 
 -- a row of the output: each pixel is the one that the last block gives that begins at it or before it
 pub record IsBlockRow {O : Type 0} (t : Table O) (slots : ℕ) (block : List (Item O)) (h : Head) (pictures : List Picture) (y : ℕ) (row : List ℕ) : Type 0 where
   pub size : length row ≡ row_size h pictures
-  pub each : (q : ℕ) → q < columns h pictures → IsGiven t slots block h pictures y (start_of t.vector (columns h pictures) q) q (pixel_part (pixel_bytes h.out_ty) q row)
-
--- each pixel that a block gives is a function of the taps' numbers at that pixel alone
-pub record IsLanewise {O : Type 0} (t : Table O) (slots : ℕ) (block : List (Item O)) (widths : List ℕ) (width : ℕ) (value : List ℕ → ℕ) : Type 0 where
-  pub each : (blocks : List (List ℕ)) (numbers : List ℕ) (file : RegFile) (kept : List (List ℕ)) (j : ℕ) → IsFile t t.vectors file → length kept ≡ slots → j < t.vector → length numbers ≡ length widths
-      → ((k : ℕ) → k < length widths → length (slice_index_or blocks k []) ≡ slice_index widths k * t.vector)
-      → ((k : ℕ) → k < length widths → pixel_part (slice_index widths k) j (slice_index_or blocks k []) ≡ bytes (slice_index widths k) (slice_index numbers k))
-      → pixel_part width j (concat (BVal t width block blocks file kept)) ≡ bytes width (value numbers)
+  pub each : (q : ℕ) → q < columns h pictures
+      → IsGiven t slots block h pictures y (start_of t.vector (columns h pictures) q) q (pixel_part (pixel_bytes h.out_ty) q row)
 
 -- a step of a block is one that a program over these pixels may have: its tap and its part are there
 abbrev pub IsBlockItem : (widths : List ℕ) (width : ℕ) {O : Type 0} → Item O → Type 0
@@ -81,7 +70,7 @@ StoresEach width block = (part : ℕ) → part < width → list_any (λ item. st
 pub record IsRowBlock {O : Type 0} (t : Table O) (h : Head) (slots : ℕ) (block : List (Item O)) : Type 0 where
   pub head : IsHead h
   pub scratch : h.scratch ≡ scratch_bytes t.vector (length h.taps) slots
-  pub clean : IsClean t t.vectors slots (pixel_bytes h.out_ty) block
+  pub clean : IsClean t (tap_widths h) t.vectors slots (pixel_bytes h.out_ty) block
   pub steps : All (IsBlockItem (tap_widths h) (pixel_bytes h.out_ty)) block
   pub stores : StoresEach (pixel_bytes h.out_ty) block
 
@@ -92,13 +81,14 @@ KeepsHead h pictures = KeepsSet h.images h.taps pictures
 -- under every placement and in every row, the program ends within its steps and without a trap, and has then written a row of the block's pixels and nothing else of the output
 abbrev pub RunsBlock : {I O : Type 0} → Table O → ℕ → List (Item O) → ProgramOf I O → Type 0
 RunsBlock t slots block p =
-    (pictures : List Picture) → KeepsHead p.head pictures → (at : Places) (scratch output : List ℕ) → IsPlaced p.head pictures at scratch output → (y : ℕ) → y < rows p.head pictures
+    (pictures : List Picture) → KeepsHead p.head pictures → (at : Places) (scratch output : List ℕ) → IsPlaced p.head pictures at scratch output → (y : ℕ)
+    → y < rows p.head pictures
     → (row : List ℕ) × IsBlockRow t slots block p.head pictures y row × RowDone t p pictures at y row scratch output
 
 -- where each of the block's pixels is a function of the taps' numbers there, and the function gives the values of a kernel's output, the program's runs leave the kernel's output
 abbrev pub LeavesLanes : {I O : Type 0} → Table O → ℕ → List (Item O) → ProgramOf I O → Type 0
 LeavesLanes t slots block p =
-    (value : List ℕ → ℕ) → IsLanewise t slots block (tap_widths p.head) (pixel_bytes p.head.out_ty) value
+    (value : List ℕ → ℕ) → IsLanewise t (tap_widths p.head) t.vectors slots (pixel_bytes p.head.out_ty) block value
     → (s : Source) (pictures : List Picture) → s.images ≡ p.head.images → s.taps ≡ p.head.taps → s.out_ty ≡ p.head.out_ty → Keeps s pictures
     → ((x y : ℕ) → x < columns p.head pictures → y < rows p.head pictures → pos (value (map (tap_pixel p.head.taps pictures x y) p.head.taps)) ≡ out_value s pictures x y)
     → (o : Picture) × Out s pictures o × ((at : Places) (scratch output : List ℕ) → IsPlaced p.head pictures at scratch output → Leaves t p pictures at scratch output o)

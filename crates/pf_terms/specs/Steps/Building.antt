@@ -1,5 +1,5 @@
 -- What the steps between a syntax tree and its term say.
-use Rattle.std.specs.Prelude.{◌≡◌, ℕ, ◌<◌, ℤ, pos, Bool, true, false, ◌&&◌, ◌||◌, not, nat_le, unsigned_abs, List, length, slice_index_or, zero, suc, Option, Result, Ok, Err}
+use Rattle.std.specs.Prelude.{◌≡◌, ℕ, ◌<◌, ℤ, pos, Bool, true, false, ◌&&◌, ◌||◌, not, nat_le, unsigned_abs, List, length, slice_index_or, zero, suc, Option, Some, None, if◌then◌else◌, nat_lt, Result, Ok, Err}
 use Rattle.pf_ints.specs.declared.lane.LaneType.{LaneType}
 use Rattle.pf_ints.specs.Meaning.Lanes.{is_in}
 use Rattle.pf_terms.specs.declared.parse.syntax_tree.SyntaxTree.{SyntaxTree}
@@ -10,7 +10,8 @@ use Rattle.pf_terms.specs.declared.parse.syntax_tree.SyntaxTree.TheFolds.{fold-S
 use Rattle.pf_values.specs.declared.fault.TermFault.{TermFault}
 use Rattle.pf_values.specs.declared.fault.TermFault.TheVariants.{Types as TypesAt, Amount as AmountAt}
 use Rattle.pf_terms.specs.declared.meaning.ReadFault.{ReadFault}
-use Rattle.pf_terms.specs.declared.meaning.ReadFault.TheVariants.{Types as TypesRead, Amount as AmountRead, Memory as MemoryRead}
+use Rattle.pf_terms.specs.declared.meaning.ReadFault.TheVariants.{Types as TypesRead, Amount as AmountRead, Limit as LimitRead, Memory as MemoryRead}
+use Rattle.pf_values.specs.declared.limit.LimitKind.TheVariants.{Taps, Offset}
 use Rattle.pf_terms.specs.declared.resolve.NodeFault.{NodeFault}
 use Rattle.pf_terms.specs.declared.resolve.NodeFault.TheVariants.{Types, Amount, Memory}
 use Rattle.pf_values.specs.declared.names.Names.{Names}
@@ -84,6 +85,14 @@ abbrev pub told_as : NodeFault → ReadFault
 told_as (Types want got) = TypesRead want got
 told_as (Amount k) = AmountRead (pos k)
 told_as Memory = MemoryRead
+
+-- the limit of taps or of offsets that is passed first
+abbrev pub past_offset : Option ℤ → Option ReadFault
+past_offset (Some n) = Some (LimitRead Offset n)
+past_offset None = None
+
+abbrev pub past_limit : ℕ → Option ℤ → Option ReadFault
+past_limit taps far = if nat_lt 64 taps then Some (LimitRead Taps (pos taps)) else past_offset far
 
 -- what is found at a node is its type or its fault, unless memory was wanting
 abbrev pub IsFound : Result LaneType TermFault → Result LaneType NodeFault → Type 0

@@ -1,5 +1,5 @@
 /// A part of an expression that is to come.
-#[derive(Clone, Copy, Debug, PartialEq, Eq)]
+#[derive(Clone, Copy)]
 pub enum ParserSymbol {
     /// An expression without operators outside of brackets.
     Atom,
@@ -36,7 +36,7 @@ pub enum ParserSymbol {
 }
 
 /// What stands in the round brackets behind an operator's word.
-#[derive(Clone, Copy, Debug, PartialEq, Eq)]
+#[derive(Clone, Copy)]
 pub enum CallShape {
     One,
     Two,

@@ -4,7 +4,7 @@ use sqlite_items::Items;
 use std::alloc::{AllocError, AllocFailed};
 
 /// An expression as it is written, before its names are looked up.
-#[derive(Debug, Drop)]
+#[derive(Drop)]
 pub enum SyntaxTree {
     Number(i64, LaneType),
     /// A definition's name.
@@ -27,7 +27,7 @@ pub enum SyntaxTree {
 pub type SyntaxTrees = Items<SyntaxTree>;
 
 /// Why a text is no expression.
-#[derive(Clone, Copy, Debug, PartialEq, Eq)]
+#[derive(Clone, Copy, Debug)]
 pub enum TreeFault {
     /// The place of the first fault, counted from 0.
     Syntax { at: usize },

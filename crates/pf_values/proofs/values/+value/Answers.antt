@@ -3,7 +3,7 @@ use Rattle.std.specs.Prelude.{ℤ}
 use Rattle.std.proofs.lemmas.Int.{to_z-of_z}
 use Rattle.std.proofs.lemmas.List.{length-set}
 use Rattle.pf_values.specs.Meaning.Operators.{row_of}
-use Rattle.pf_values.specs.Steps.Small.{IsSmall}
+use Rattle.pf_values.specs.Meaning.Small.{IsSmall}
 use Rattle.pf_values.specs.Meaning.Terms.{Val}
 use Rattle.pf_values.proofs.Evaluating.{ready, found_more, found_all, value_told, member_told, count_most}
 use Rattle.pf_values.proofs.values.+value.Goals as goal

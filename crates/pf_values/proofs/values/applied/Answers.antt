@@ -6,8 +6,8 @@ use Rattle.pf_values.proofs.values.applied.Goals as goal
 
 pub returns-in-len2 : goal.returns-in-len2
 returns-in-len2 c =
-    let told : c.of_two.result ≡ (row_of c.args.op).value c.args.ty c.args.k c.args.xs.now =
-    two_told c.args.xs.now ((row_of c.args.op).value c.args.ty c.args.k) c.of_two.result _ _ c.of_two.ensures (omega arith) (search (rules, to_z-of_z)) (search (rules, to_z-of_z)) in
+    let told : c.applied_to_two.result ≡ (row_of c.args.op).value c.args.ty c.args.k c.args.xs.now =
+    two_told c.args.xs.now ((row_of c.args.op).value c.args.ty c.args.k) c.applied_to_two.result _ _ c.applied_to_two.ensures (omega arith) (search (rules, to_z-of_z)) (search (rules, to_z-of_z)) in
     search (rules, to_z-of_z)
 
 pub returns-in-len4 : goal.returns-in-len4

@@ -1,0 +1,4 @@
+pub mod Frames
+pub mod LineTables
+pub mod FrameTests
+pub mod Laws

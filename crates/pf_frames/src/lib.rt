@@ -1,0 +1,10 @@
+//! Lines of instructions as frames with operands: a target's table of lines, printed and read back.
+#![tactic(auto)]
+
+mod frame;
+mod line;
+mod lines;
+mod register;
+
+pub use line::{Numbers, Spelling, TableLine};
+pub use lines::{Lines, Parts};

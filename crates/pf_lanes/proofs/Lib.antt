@@ -1,0 +1,6 @@
+pub mod LaneLaws
+mod FillLaws
+mod ResidueLaws
+pub mod PlaceLaws
+mod WorkLaws
+pub mod Columns
