@@ -91,7 +91,7 @@ module _ (r : Run) (source : Source) (text : List ℕ) (h : Headline Neon table 
       let ran : RanAny p pictures (Ok q) = subst (λ ps. RanAny p ps (Ok q)) all (subst (λ (x : AnyProgram). RanAny x ends.1 (Ok q)) same ends.3) in
       leaves_output table IsNeonInstruction source text h pictures keeps o q out picture ran
 
-  abbrev pub Answer : Store → Store → Output → Output → ℕ → Type 0
+  abbrev Answer : Store → Store → Output → Output → ℕ → Type 0
   Answer b a ob oa answer =
       ((Rose b.faults a.faults → ⊥) → (Rose ob.faults oa.faults → ⊥) → (answer ≡ 0) ⊎ (answer ≡ 13))
       × (answer ≡ 0 → (new : Contents) × (a.held ≡ Some new) × (new r.out ≡ Some (pgm_text o)))

@@ -1,9 +1,6 @@
 use Rattle.std.proofs.Common.{◌≡◌, ℕ, ◌≤◌, ◌⊎◌, inl, inr, length, sym, rules}
-use Rattle.std.specs.Str.Lines.{lines}
-use Rattle.pf_ints.specs.declared.target.Target.{Target}
 use Rattle.pf_isa.specs.declared.fault.TextFault.TheVariants.{At, Memory}
-use Rattle.pf_isa.specs.Meaning.TextFaults.{IsFor}
-use Rattle.pf_run.specs.Meaning.AnyPrograms.{IsRunTarget}
+use Rattle.pf_isa.specs.declared.fault.TextKind.{TextKind}
 use Rattle.pf_top.specs.Meaning.TextFiles.{text_limit}
 use Rattle.pf_top.proofs.TextFiles.{limit_low, other_text}
 use Rattle.pf_top.proofs.text_file.program_of.Goals as goal
@@ -28,6 +25,6 @@ returns-in-Err-At-clause-found c =
     let refused = rw c.in-Err-At.field-0-is at c.in-Err-At.ensures.found in
     told_at _ _ _ refused (λ here. (most, here.1, c.in_default.ensures, here.0))
   where
-    told_at : {A B : Type 0} (line : ℕ) (kind : _) (h : A ⊎ (At line kind ≡ Memory)) → (A → B) → B
+    told_at : {A B : Type 0} (line : ℕ) (kind : TextKind) (h : A ⊎ (At line kind ≡ Memory)) → (A → B) → B
     told_at line kind (inl here) f = f here
     told_at line kind (inr wanting) f = absurd (cc)
