@@ -95,7 +95,7 @@ same_in_memory o q first other ty wide high same =
 
 -- ---- the runs
 
-bytes_of : RunEnd → List Region
+abbrev bytes_of : RunEnd → List Region
 bytes_of (Finished regions) = regions
 bytes_of _ = []
 

@@ -14,3 +14,5 @@ pub mod Telling
 pub mod SameWords
 pub mod Promising
 pub mod Agreement
+pub mod OneCommand
+pub mod Calls

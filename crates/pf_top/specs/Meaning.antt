@@ -4,6 +4,7 @@ pub mod KernelFiles
 pub mod KernelStatuses
 pub mod Running
 pub mod Completeness
+pub mod Commands
 pub mod RunStatuses
 pub mod Selections
 pub mod SelectStatuses
