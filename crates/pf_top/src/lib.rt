@@ -2,6 +2,7 @@
 #![tactic(auto)]
 
 mod command;
+mod dispatch;
 mod eval;
 mod image_files;
 mod judging;

@@ -16,43 +16,12 @@ ghost use Rattle.pf_top.specs.Meaning.Selections.{Select, IsSelect, OfJudged};
 ghost use Rattle.pf_top.specs.Meaning.Statuses.{usage, ReportsLine, seen_output};
 ghost use Rattle.pf_top.specs.Meaning.StoreCalls.{seen};
 ghost use Rattle.pf_top.specs.Meaning.TextFiles.{text_limit};
-ghost use Rattle.pf_top.specs.Steps.CommandSteps.{the_command};
 
-use crate::command::{Command, command_of};
-use crate::eval::eval;
+use crate::command::command_of;
+use crate::dispatch::do_command;
 use crate::report::tell_usage;
-use crate::run::run;
-use crate::run_report::tell_run_verdict;
-use crate::select::select;
-use crate::select_report::tell_verdict;
 use pf_images::{Files, Sink};
 use std::alloc::Global;
-
-/// Does the command, puts its lines, and answers the status.
-fn do_command<F: Files, S: Sink>(
-    alloc: Global,
-    command: &Command<'_>,
-    files: &mut F,
-    out: &mut S,
-) -> u8
-    ensures { Does (the_command command.now) (seen F.held F.faults F.calls files.old) (seen F.held F.faults F.calls files.new)
-        (seen_output S.written S.faults S.calls out.old) result (seen_output S.written S.faults S.calls out.new) }
-{
-    match command {
-        Command::Select(words) => {
-            let verdict = select(alloc, words, files);
-            tell_verdict(alloc, words, verdict, out)
-        }
-        Command::Run(words) => {
-            let verdict = run(alloc, words, files);
-            tell_run_verdict(alloc, words, verdict, out)
-        }
-        Command::Eval(words) => {
-            let verdict = eval(alloc, words, files);
-            tell_run_verdict(alloc, words, verdict, out)
-        }
-    }
-}
 
 /// Does what the words ask for over the store of files, puts its lines to the output, and answers
 /// the status. `select T KERNEL LIFT LOWER OUT` writes the text of the kernel to OUT. `run TEXT
