@@ -43,6 +43,6 @@ fn readers_and_writers_in_memory(rt: HostRuntime) -> Result<(), Fail> {
     }
     let mut held = Vec::from_slice(alloc, b"x")?;
     write_whole(&mut held, b"yz")?;
-    assert!(rt; held.as_slice() == b"xyz");
+    assert!(rt; held.as_slice() == b"xyz".as_slice());
     Ok(())
 }
