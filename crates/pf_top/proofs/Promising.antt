@@ -23,25 +23,25 @@ told_after R None b m is change = absurd (cc)
 told_after R (Some x) None m is change = absurd change
 told_after R (Some x) (Some n) m is change = let same : x ≡ m = cc in (n, refl, subst (λ y. R y n) same change)
 
-pub not_nought : (d : Report) (b a : Output) → 0 < d.status → 0 < d.poor_status → ReportsLine d b 0 a → ⊥
-not_nought d b a some poor (inl said) = let is : 0 ≡ d.status = said.status in omega (arith, some, is)
-not_nought d b a some poor (inr (inl failed)) = let is : 0 ≡ 4 = failed.status in omega (arith, is)
-not_nought d b a some poor (inr (inr wanted)) = let is : 0 ≡ d.poor_status = wanted.status in omega (arith, poor, is)
+pub not_nought : (d : Report) (b a : Output) → ReportsLine d b 0 a → 0 < d.status → 0 < d.poor_status → ⊥
+not_nought d b a (inl said) some poor = let is : 0 ≡ d.status = said.status in omega (arith, some, is)
+not_nought d b a (inr (inl failed)) some poor = let is : 0 ≡ 4 = failed.status in omega (arith, is)
+not_nought d b a (inr (inr wanted)) some poor = let is : 0 ≡ d.poor_status = wanted.status in omega (arith, poor, is)
 
 -- status 0 is told of success alone
 is_done : (s : Select) (v : Verdict) (b a : Output) → Reports (report_of_select s v) b 0 a → v ≡ Done
 unfolding wanting write_failed
 is_done s Done b a told = refl
-is_done s TargetNotBuilt b a told = absurd (not_nought _ b a (omega arith) (omega arith) told)
-is_done s (KernelRefused (Syntax line column)) b a told = absurd (not_nought _ b a (omega arith) (omega arith) told)
-is_done s (KernelRefused (Name line name)) b a told = absurd (not_nought _ b a (omega arith) (omega arith) told)
-is_done s (KernelRefused (Types line want got)) b a told = absurd (not_nought _ b a (omega arith) (omega arith) told)
-is_done s (KernelRefused (Limit what count)) b a told = absurd (not_nought _ b a (omega arith) (omega arith) told)
-is_done s (NotBuilt w) b a told = absurd (not_nought _ b a (omega arith) (omega arith) told)
-is_done s (Missing w) b a told = absurd (not_nought _ b a (omega arith) (omega arith) told)
-is_done s (ReadFailed w) b a told = absurd (not_nought _ b a (omega arith) (omega arith) told)
-is_done s WriteFailed b a told = absurd (not_nought _ b a (omega arith) (omega arith) told)
-is_done s Memory b a told = absurd (not_nought _ b a (omega arith) (omega arith) told)
+is_done s TargetNotBuilt b a told = absurd (not_nought _ b a told (omega arith) (omega arith))
+is_done s (KernelRefused (Syntax line column)) b a told = absurd (not_nought _ b a told (omega arith) (omega arith))
+is_done s (KernelRefused (Name line name)) b a told = absurd (not_nought _ b a told (omega arith) (omega arith))
+is_done s (KernelRefused (Types line want got)) b a told = absurd (not_nought _ b a told (omega arith) (omega arith))
+is_done s (KernelRefused (Limit what count)) b a told = absurd (not_nought _ b a told (omega arith) (omega arith))
+is_done s (NotBuilt w) b a told = absurd (not_nought _ b a told (omega arith) (omega arith))
+is_done s (Missing w) b a told = absurd (not_nought _ b a told (omega arith) (omega arith))
+is_done s (ReadFailed w) b a told = absurd (not_nought _ b a told (omega arith) (omega arith))
+is_done s WriteFailed b a told = absurd (not_nought _ b a told (omega arith) (omega arith))
+is_done s Memory b a told = absurd (not_nought _ b a told (omega arith) (omega arith))
 
 -- a call that is done was for neon
 on_neon : (t : Target) → (Done ≡ TargetNotBuilt) ↔ (t ≢ Neon) → t ≡ Neon
