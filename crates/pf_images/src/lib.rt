@@ -10,6 +10,7 @@ mod reading;
 mod real_files;
 mod real_sink;
 mod sink;
+mod streams;
 mod writing;
 
 pub use fault::{ImageFault, PgmKind};
@@ -21,4 +22,5 @@ pub use reading::read_pgm;
 pub use real_files::RealFiles;
 pub use real_sink::RealSink;
 pub use sink::Sink;
+pub use streams::{read_up_to, write_whole};
 pub use writing::write_pgm;

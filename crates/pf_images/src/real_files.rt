@@ -1,14 +1,13 @@
-ghost use Rattle.std.specs.Prelude.{◌≡◌, ◌≢◌, Err, None};
-ghost use Rattle.pf_images.specs.Meaning.Outside.{counted_after};
+ghost use Rattle.std.specs.Prelude.{◌≡◌, ◌≢◌, ◌≤◌, Err, None, IfOk, IsErrOf};
+ghost use Rattle.pf_images.specs.Meaning.Counts.{raised};
+ghost use Rattle.pf_images.specs.Meaning.Outside.{SameContents, Changes, IsFrontOfFile, Lacks, HasCause, Writes, counted_after};
 
 use crate::files::{Files, FilesFault};
+use crate::streams::{read_up_to, write_whole};
 use std::alloc::Global;
-use std::io::{ErrorKind, Read, Write};
+use std::io::ErrorKind;
 use std::rt::Files as HostFiles;
 use std::{fs, io};
-
-/// How many bytes are read at once.
-const PIECE: usize = 4096;
 
 /// The files of the machine. It tells nothing of what they hold.
 #[derive(Drop)]
@@ -41,75 +40,22 @@ fn fault_of(error: io::Error) -> FilesFault {
     }
 }
 
-/// Whether a call of the machine was cut short before it did anything.
-fn is_interrupted(error: &io::Error) -> bool {
-    error.kind() == ErrorKind::Interrupted
-}
-
-/// Reads a piece of at most `room` bytes behind those so far, and answers how many. No byte is the
-/// end of the file.
-fn read_piece<R: Read>(
-    file: &mut R,
-    room: usize,
-    bytes: &mut Vec<u8>,
-) -> Result<usize, FilesFault> {
-    let mut piece = [0; PIECE];
-    let piece = &mut piece[..room.min(PIECE)];
-    for _ in 0..u64::MAX {
-        match file.read(piece) {
-            Ok(count) => {
-                bytes.extend_from_slice(&piece[..count])?;
-                return Ok(count);
-            }
-            Err(error) if is_interrupted(&error) => {}
-            Err(_) => return Err(FilesFault::Failed),
-        }
-    }
-    Err(FilesFault::Failed)
-}
-
 /// Reads up to `most` bytes of the file.
-fn read_front<H: HostFiles>(
+fn read_file<H: HostFiles>(
     host: &H,
     alloc: Global,
     name: &str,
     most: u64,
 ) -> Result<Vec<u8>, FilesFault> {
-    let mut file = fs::open(host, name).map_err(fault_of)?;
-    let mut bytes = Vec::new(alloc);
-    for _ in 0..u64::MAX {
-        let room = most.saturating_sub(bytes.len() as u64) as usize;
-        if room == 0 || read_piece(&mut file, room, &mut bytes)? == 0 {
-            return Ok(bytes);
-        }
-    }
-    Err(FilesFault::Failed)
-}
-
-/// Writes all the bytes, piece by piece. A write that takes no byte is a failure.
-pub(crate) fn write_pieces<W: Write>(to: &mut W, bytes: &[u8]) -> Result<(), FilesFault>
-    ensures there { result ≢ Err FilesFault.Missing }
-{
-    let mut rest = bytes;
-    for _ in 0..u64::MAX {
-        if rest.is_empty() {
-            return Ok(());
-        }
-        match to.write(rest) {
-            Ok(0) => return Err(FilesFault::Failed),
-            Ok(count) => rest = &rest[count..],
-            Err(error) if is_interrupted(&error) => {}
-            Err(_) => return Err(FilesFault::Failed),
-        }
-    }
-    Err(FilesFault::Failed)
+    let file = fs::open(host, name).map_err(fault_of)?;
+    read_up_to(alloc, file, most)
 }
 
 fn write_file<H: HostFiles>(host: &H, name: &str, bytes: &[u8]) -> Result<(), FilesFault>
     ensures there { result ≢ Err FilesFault.Missing }
 {
     match fs::create(host, name) {
-        Ok(mut file) => write_pieces(&mut file, bytes),
+        Ok(mut file) => write_whole(&mut file, bytes),
         Err(error) if error.kind() == ErrorKind::OutOfMemory => Err(FilesFault::Memory),
         Err(_) => Err(FilesFault::Failed),
     }
@@ -132,14 +78,33 @@ impl<H: HostFiles> Files for RealFiles<H> {
 
     ghost calls = { λ store. store.calls };
 
-    fn read(&mut self, alloc: Global, name: &str, most: u64) -> Result<Vec<u8>, FilesFault> {
+    fn read(&mut self, alloc: Global, name: &str, most: u64) -> Result<Vec<u8>, FilesFault>
+        ensures front { IfOk result (λ bytes. IsFrontOfFile None name.now most bytes.items) }
+        ensures missing { IsErrOf result FilesFault.Missing → Lacks None name.now self.old.faults self.new.faults }
+        ensures kept { Changes SameContents None None }
+        ensures cause { HasCause self.old.faults self.new.faults result }
+        ensures onwards { self.old.faults ≤ self.new.faults }
+        ensures counted { self.new.calls ≡ raised self.old.calls }
+
+        // A fault is counted exactly where the machine failed or had no such file.
+        ensures faults { self.new.faults ≡ counted_after result self.old.faults }
+    {
         self.calls = self.calls.saturating_add(1);
-        let done = read_front(&self.host, alloc, name, most);
+        let done = read_file(&self.host, alloc, name, most);
         self.faults = counted(&done, self.faults);
         done
     }
 
-    fn write(&mut self, _alloc: Global, name: &str, bytes: &[u8]) -> Result<(), FilesFault> {
+    fn write(&mut self, _alloc: Global, name: &str, bytes: &[u8]) -> Result<(), FilesFault>
+        ensures written { Writes name.now bytes.now None None result }
+        ensures there { result ≢ Err FilesFault.Missing }
+        ensures cause { HasCause self.old.faults self.new.faults result }
+        ensures onwards { self.old.faults ≤ self.new.faults }
+        ensures counted { self.new.calls ≡ raised self.old.calls }
+
+        // A fault is counted exactly where the machine failed.
+        ensures faults { self.new.faults ≡ counted_after result self.old.faults }
+    {
         self.calls = self.calls.saturating_add(1);
         let done = write_file(&self.host, name, bytes);
         self.faults = counted(&done, self.faults);

@@ -1,8 +1,11 @@
-ghost use Rattle.std.specs.Prelude.{◌≡◌};
+ghost use Rattle.std.specs.Prelude.{◌≡◌, ◌≢◌, ◌≤◌, Err, None};
+ghost use Rattle.pf_images.specs.Meaning.Counts.{raised};
+ghost use Rattle.pf_images.specs.Meaning.Outside.{HasCause, Adds, counted_after};
 
 use crate::files::FilesFault;
-use crate::real_files::{counted, write_pieces};
+use crate::real_files::counted;
 use crate::sink::Sink;
+use crate::streams::write_whole;
 use std::alloc::Global;
 use std::io;
 
@@ -29,17 +32,24 @@ impl<H> RealSink<H> {
 }
 
 impl<H: Print> Sink for RealSink<H> {
-    ghost use Rattle.std.specs.Prelude.{None};
-
     ghost written = { λ _. None };
 
     ghost faults = { λ output. output.faults };
 
     ghost calls = { λ output. output.calls };
 
-    fn put(&mut self, _alloc: Global, bytes: &[u8]) -> Result<(), FilesFault> {
+    fn put(&mut self, _alloc: Global, bytes: &[u8]) -> Result<(), FilesFault>
+        ensures written { Adds bytes.now None None result }
+        ensures there { result ≢ Err FilesFault.Missing }
+        ensures cause { HasCause self.old.faults self.new.faults result }
+        ensures onwards { self.old.faults ≤ self.new.faults }
+        ensures counted { self.new.calls ≡ raised self.old.calls }
+
+        // A fault is counted exactly where the machine failed.
+        ensures faults { self.new.faults ≡ counted_after result self.old.faults }
+    {
         self.calls = self.calls.saturating_add(1);
-        let done = write_pieces(&mut io::writer(&self.host), bytes);
+        let done = write_whole(&mut io::writer(&self.host), bytes);
         self.faults = counted(&done, self.faults);
         done
     }

@@ -8,3 +8,5 @@ pub mod ProgramLaws
 pub mod TextLengths
 pub mod EvalLaws
 pub mod EvalRows
+pub mod AnyLaws
+pub mod Agreeing

@@ -1,7 +1,7 @@
 -- What a run of a program answers, by its rows.
 use Rattle.std.proofs.Common.{◌≡◌, ℕ, zero, suc, ◌+◌, ◌≤◌, List, length, get_or, true, Ok, Err, refl, sym, ap, subst, ◌∙◌, arith}
 use Rattle.std.proofs.lemmas.List.{length-replicate}
-use Rattle.pf_ints.specs.Meaning.Images.{Picture, IsPixelType}
+use Rattle.pf_ints.specs.Meaning.Images.{Picture, IsPicture, IsPixelType}
 use Rattle.pf_machine.specs.declared.memory.Region.{Region}
 use Rattle.pf_machine.specs.Meaning.Heads.{IsHead}
 use Rattle.pf_machine.specs.Meaning.Machines.{IsMemory}
@@ -17,7 +17,7 @@ use Rattle.pf_run.specs.declared.plan.Plan.{Plan}
 use Rattle.pf_run.specs.Meaning.Answers.{MayRun, Ran, run_end}
 use Rattle.pf_run.specs.Meaning.Placement.{run_places, blank_memory}
 use Rattle.pf_run.specs.Steps.Rows.{HasOutputAt, IsPlanOf, RowsAnswer}
-use Rattle.pf_run.specs.Meaning.Sets.{KeepsAll}
+use Rattle.pf_values.specs.Meaning.Kernels.{KeepsSet}
 use Rattle.pf_run.proofs.ReadyLaws.{ready}
 use Rattle.pf_run.proofs.RowLaws.{Held, blank_held, kept_by_row, row_end, entries, budget}
 
@@ -39,7 +39,7 @@ module _ {I O : Type 0} (t : Table O) (p : ProgramOf I O) (pictures : List Pictu
   finished_held : (qs : List Region) → run_end t p pictures ≡ Finished qs → Held p.head pictures (run_places p.head pictures) qs
   finished_held qs ends = finished_from (rows p.head pictures) 0 (blank_memory p.head pictures (run_places p.head pictures)) qs (blank_held p.head pictures (run_places p.head pictures) (blank_memory p.head pictures (run_places p.head pictures)) refl) ends
 
-  module _ (is : IsHead p.head) (kept : KeepsAll p.head.images p.head.taps pictures) where
+  module _ (is : IsHead p.head) (kept : KeepsSet p.head.images p.head.taps pictures) where
     pub is_ready : MayRun p pictures
     is_ready = record { keeps = kept; placed = (ready p.head pictures is kept).places }
 
@@ -81,12 +81,13 @@ module _ {I O : Type 0} (t : Table O) (p : ProgramOf I O) (pictures : List Pictu
             size = ap (λ (r : Region). length r.bytes) (output_there held) ∙ held.of_output ∙ rw (of_program.out_ty, of_program.width, of_program.height) refl;
           }
 
-      pub ran : (o : Picture) → o.ty ≡ plan.out_ty → o.width ≡ plan.reach.columns → o.height ≡ plan.reach.rows → pixels_in_memory plan.out_ty o.pixels ≡ (get_or rs place nowhere).bytes → Ran t p pictures (Ok o)
-      ran o ty width height pixels =
+      pub ran : (o : Picture) → IsPicture o → o.ty ≡ plan.out_ty → o.width ≡ plan.reach.columns → o.height ≡ plan.reach.rows → pixels_in_memory plan.out_ty o.pixels ≡ (get_or rs place nowhere).bytes → Ran t p pictures (Ok o)
+      ran o picture ty width height pixels =
           let held = finished_held rs ends in
           let here : pixels_in_memory o.ty o.pixels ≡ held.output = ap (λ u. pixels_in_memory u o.pixels) ty ∙ pixels ∙ ap (λ (r : Region). r.bytes) (output_there held) in (
             is_ready,
             record {
+              picture = picture;
               ty = ty ∙ of_program.out_ty;
               width = width ∙ of_program.width;
               height = height ∙ of_program.height;

@@ -5,11 +5,9 @@ use Rattle.std.proofs.lemmas.Int.{ints}
 use Rattle.std.proofs.lemmas.Nat.{mul-le}
 use Rattle.std.proofs.lemmas.List.Elements.{All-head, All-weaker}
 use Rattle.pf_ints.specs.Meaning.Images.{Picture, IsPicture}
-use Rattle.pf_values.specs.declared.term.Term.TheVariants.{Leaf}
-use Rattle.pf_values.specs.declared.term.Leaf.TheVariants.{Tap as TapLeaf}
 use Rattle.pf_values.specs.declared.kernel.ImageDecl.{ImageDecl}
 use Rattle.pf_values.specs.declared.names.Tap.{Tap}
-use Rattle.pf_values.specs.Meaning.Kernels.{Source, Keeps, no_picture, left_reach, up_reach, width_of, height_of, out_width, out_height}
+use Rattle.pf_values.specs.Meaning.Kernels.{KeepsSet, left_reach, up_reach, width_of, height_of, out_width, out_height}
 use Rattle.pf_machine.specs.declared.program.Head.{Head}
 use Rattle.pf_machine.specs.Meaning.Heads.{IsHead, IsTap}
 use Rattle.pf_machine.specs.Meaning.Runs.{Places, IsPlaced, columns, rows}
@@ -18,7 +16,6 @@ use Rattle.pf_run.specs.declared.reach.Reach.{Reach}
 use Rattle.pf_run.specs.Steps.Pixels.{IsReach}
 use Rattle.pf_run.specs.Steps.Rows.{IsPlan}
 use Rattle.pf_run.specs.Meaning.Placement.{places_of, run_places, blank_scratch, blank_output}
-use Rattle.pf_run.specs.Meaning.Sets.{KeepsAll}
 use Rattle.pf_run.proofs.PlacedLaws.{columns_within, rows_within, placed, output_low, images_low}
 
 -- what is known of such images
@@ -49,12 +46,8 @@ pub small_first : (pictures : List Picture) → All IsPicture pictures → Small
 small_first [] are = record { wide = omega arith; high = omega arith; most = omega arith }
 small_first (p ∷ ps) are = let is = All-head IsPicture p ps are in record { wide = is.most_wide; high = is.most_high; most = is.most }
 
-abbrev source_of : Head → Source
-source_of h = record { images = h.images; taps = h.taps; defs = []; out_ty = h.out_ty; out = Leaf (TapLeaf 0) h.out_ty }
-
-pub ready : (h : Head) (pictures : List Picture) → IsHead h → KeepsAll h.images h.taps pictures → Ready h pictures
-ready h pictures is kept =
-    let keeps : Keeps (source_of h) pictures = kept (source_of h) refl refl in
+pub ready : (h : Head) (pictures : List Picture) → IsHead h → KeepsSet h.images h.taps pictures → Ready h pictures
+ready h pictures is keeps =
     let first = small_first pictures keeps.limits in
     let count = keeps.count in
     let of_head = is.few_images in
@@ -129,8 +122,7 @@ plan_is h pictures plan of taps places reach = record {
 }
 
 -- there are as many images as declared
-pub few_images : (images : List ImageDecl) (taps : List Tap) (pictures seen : List Picture) → KeepsAll images taps pictures → seen ≡ pictures → length images ≤ 8 → length seen ≤ 8
-few_images images taps pictures seen kept same few =
-    let keeps : Keeps (record { images = images; taps = taps; defs = []; out_ty = no_picture.ty; out = Leaf (TapLeaf 0) no_picture.ty }) pictures = kept (record { images = images; taps = taps; defs = []; out_ty = no_picture.ty; out = Leaf (TapLeaf 0) no_picture.ty }) refl refl in
+pub few_images : (images : List ImageDecl) (taps : List Tap) (pictures seen : List Picture) → KeepsSet images taps pictures → seen ≡ pictures → length images ≤ 8 → length seen ≤ 8
+few_images images taps pictures seen keeps same few =
     let count = keeps.count in
     subst (λ l. length l ≤ 8) (sym same) (omega arith)

@@ -7,10 +7,10 @@ use Rattle.std.proofs.lemmas.List.Elements.{All-nil, All-cons, All-head, All-tai
 use Rattle.pf_ints.specs.Meaning.Images.{Picture, IsPicture}
 use Rattle.pf_values.specs.declared.kernel.ImageDecl.{ImageDecl}
 use Rattle.pf_values.specs.declared.names.Tap.{Tap}
-use Rattle.pf_values.specs.Meaning.Kernels.{KeepsRange, width_of, height_of, out_width, out_height}
+use Rattle.pf_values.specs.Meaning.Kernels.{KeepsRange, KeepsSet, width_of, height_of, out_width, out_height}
 use Rattle.pf_run.specs.declared.fault.SetFault.{SetFault}
 use Rattle.pf_run.specs.declared.fault.SetFault.TheVariants.{Count, Kind, Size, Pixel, NoOutput}
-use Rattle.pf_run.specs.Meaning.Sets.{AllSuit, HasOutput, IsFirstBadImage, IsFirstOutside, IsImageFault, IsInRange, IsSetFault, KeepsAll, KeepsNone, Suits}
+use Rattle.pf_run.specs.Meaning.Sets.{AllSuit, HasOutput, IsFirstBadImage, IsFirstOutside, IsImageFault, IsInRange, IsSetFault, Suits}
 
 -- the column and the row of a pixel that is out of the range
 pub outside_at : (d : ImageDecl) (p : Picture) (k : ℕ) → IsPicture p → k < length p.pixels → (IsInRange d (get_or p.pixels k 0) → ⊥) → All (IsInRange d) (take k p.pixels)
@@ -82,29 +82,26 @@ each_refused width height number (d ∷ ds) (p ∷ ps) fault first are ranges si
 
 module _ (images : List ImageDecl) (taps : List Tap) (pictures : List Picture) where
   -- another number of images
-  pub count_refused : length pictures ≢ length images → KeepsNone images taps pictures
-  count_refused differ s of_images of_taps keeps = differ (keeps.count ∙ ap length of_images)
+  pub count_refused : length pictures ≢ length images → KeepsSet images taps pictures → ⊥
+  count_refused differ keeps = differ keeps.count
 
   -- a fault of one image
-  pub first_refused : (fault : SetFault) → IsFirstBadImage (width_of pictures) (height_of pictures) 0 images pictures fault → KeepsNone images taps pictures
-  first_refused fault first s of_images of_taps keeps =
-      each_refused (width_of pictures) (height_of pictures) 0 images pictures fault first keeps.limits
-      (subst (λ ds. All (λ q. KeepsRange q.0 q.1) (zip ds pictures)) of_images keeps.each) keeps.sizes
+  pub first_refused : (fault : SetFault) → IsFirstBadImage (width_of pictures) (height_of pictures) 0 images pictures fault → KeepsSet images taps pictures → ⊥
+  first_refused fault first keeps = each_refused (width_of pictures) (height_of pictures) 0 images pictures fault first keeps.limits keeps.each keeps.sizes
 
   -- an output without a pixel
-  pub output_refused : (HasOutput taps pictures → ⊥) → KeepsNone images taps pictures
-  output_refused none s of_images of_taps keeps =
-      none (subst (λ ts. pos 1 ≤ℤ out_width ts pictures) of_taps keeps.wide, subst (λ ts. pos 1 ≤ℤ out_height ts pictures) of_taps keeps.high)
+  pub output_refused : (HasOutput taps pictures → ⊥) → KeepsSet images taps pictures → ⊥
+  output_refused none keeps = none (keeps.wide, keeps.high)
 
   -- a set without a fault
-  pub kept : length pictures ≡ length images → AllSuit images pictures → All IsPicture pictures → HasOutput taps pictures → KeepsAll images taps pictures
-  kept count suit are output s of_images of_taps = record {
-    count = count ∙ ap length (sym of_images);
-    each = subst (λ ds. All (λ q. KeepsRange q.0 q.1) (zip ds pictures)) (sym of_images) (All-weaker (λ q. Suits (width_of pictures) (height_of pictures) q.0 q.1) (λ q. KeepsRange q.0 q.1) (λ q suits. suits.range) (zip images pictures) suit);
+  pub kept : length pictures ≡ length images → AllSuit images pictures → All IsPicture pictures → HasOutput taps pictures → KeepsSet images taps pictures
+  kept count suit are output = record {
+    count = count;
+    each = (All-weaker (λ q. Suits (width_of pictures) (height_of pictures) q.0 q.1) (λ q. KeepsRange q.0 q.1) (λ q suits. suits.range) (zip images pictures) suit);
     limits = are;
     sizes = same_sizes (width_of pictures) (height_of pictures) images pictures count suit;
-    wide = subst (λ ts. pos 1 ≤ℤ out_width ts pictures) (sym of_taps) output.0;
-    high = subst (λ ts. pos 1 ≤ℤ out_height ts pictures) (sym of_taps) output.1;
+    wide = output.0;
+    high = output.1;
   }
     where
       same_sizes : (width height : ℕ) (ds : List ImageDecl) (ps : List Picture) → length ps ≡ length ds → All (λ q. Suits width height q.0 q.1) (zip ds ps) → All (λ (p : Picture). (p.width ≡ width) × (p.height ≡ height)) ps
@@ -139,12 +136,12 @@ module _ (images : List ImageDecl) (taps : List Tap) (pictures seen : List Pictu
       let told : IsFirstBadImage (width_of seen) (height_of seen) 0 images seen fault = subst (λ h. IsFirstBadImage (width_of seen) h 0 images seen fault) high (subst (λ w. IsFirstBadImage w height 0 images seen fault) wide first) in
       subst (λ l. IsSetFault images taps l fault) same (first_is_set_fault images taps seen fault count told)
 
-  pub found_refused : (fault : SetFault) → IsFirstBadImage width height 0 images seen fault → KeepsNone images taps pictures
+  pub found_refused : (fault : SetFault) → IsFirstBadImage width height 0 images seen fault → KeepsSet images taps pictures → ⊥
   found_refused fault first =
       let told : IsFirstBadImage (width_of seen) (height_of seen) 0 images seen fault = subst (λ h. IsFirstBadImage (width_of seen) h 0 images seen fault) high (subst (λ w. IsFirstBadImage w height 0 images seen fault) wide first) in
-      subst (λ l. KeepsNone images taps l) same (first_refused images taps seen fault told)
+      subst (λ l. KeepsSet images taps l → ⊥) same (first_refused images taps seen fault told)
 
-  pub found_kept : All (λ q. Suits width height q.0 q.1) (zip images seen) × All IsPicture seen → HasOutput taps seen → KeepsAll images taps pictures
+  pub found_kept : All (λ q. Suits width height q.0 q.1) (zip images seen) × All IsPicture seen → HasOutput taps seen → KeepsSet images taps pictures
   found_kept suit output =
       let told : AllSuit images seen = subst (λ h. All (λ q. Suits (width_of seen) h q.0 q.1) (zip images seen)) high (subst (λ w. All (λ q. Suits w height q.0 q.1) (zip images seen)) wide suit.0) in
-      subst (λ l. KeepsAll images taps l) same (kept images taps seen count told suit.1 output)
+      subst (λ l. KeepsSet images taps l) same (kept images taps seen count told suit.1 output)

@@ -1,4 +1,5 @@
 pub mod Sets
 pub mod Placement
 pub mod Answers
+pub mod AnyPrograms
 pub mod Evaluations

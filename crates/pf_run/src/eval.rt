@@ -1,6 +1,7 @@
 //! Kernels, evaluated on images.
 
 ghost use Rattle.std.specs.Prelude.{◌≡◌, ◌++◌, ◌<◌, ◌≤◌, ◌≤ℤ◌, ℕ, [], pos, map, unsigned_abs, All, IfOk, OnOk};
+ghost use Rattle.pf_ints.specs.Meaning.Images.{IsPicture};
 ghost use Rattle.pf_ints.specs.Meaning.Lanes.{IsIn};
 ghost use Rattle.pf_machine.specs.Meaning.RowEnds.{image_values, row_values};
 ghost use Rattle.pf_kernel.specs.Meaning.Kernels.{def_name, names_of};
@@ -131,7 +132,8 @@ fn push_row(
 /// The kernel's output on images that are such as it asks for.
 fn eval_kept(alloc: Global, kernel: &Kernel, images: &[Image]) -> Result<Image, Memory>
     requires { Keeps kernel.now.source images.now }
-    ensures { IfOk result (λ o. Out kernel.now.source images.now o) }
+    ensures out { IfOk result (λ o. Out kernel.now.source images.now o) }
+    ensures picture { IfOk result IsPicture }
 {
     let taps = kernel.names().taps.as_slice();
     let reach = reach_of(taps, images);

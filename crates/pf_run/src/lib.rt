@@ -1,6 +1,7 @@
 //! Runs of programs on images, evaluations of kernels on images, and what is wrong with a set of images.
 #![tactic(auto)]
 
+mod any;
 mod eval;
 mod fault;
 mod output;
@@ -12,6 +13,7 @@ mod rows;
 mod set;
 mod text;
 
+pub use any::{AnyProgram, is_run_target, read_any, run_any};
 pub use eval::eval_images;
 pub use fault::{EvalFault, RunFault, SetFault};
 pub use program::run_program;

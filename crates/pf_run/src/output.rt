@@ -1,7 +1,7 @@
 //! The image that a run leaves in its output.
 
 ghost use Rattle.std.specs.Prelude.{◌≡◌, ◌*◌, ◌<◌, ◌≤◌, ◌^◌, length, All, IfOk};
-ghost use Rattle.pf_ints.specs.Meaning.Images.{IsPixelType};
+ghost use Rattle.pf_ints.specs.Meaning.Images.{IsPicture, IsPixelType};
 ghost use Rattle.pf_ints.specs.Meaning.Lanes.{lane_width};
 ghost use Rattle.pf_machine.specs.Meaning.Bytes.{packed};
 ghost use Rattle.pf_machine.specs.Meaning.Runs.{pixel_bytes, pixels_in_memory};
@@ -67,6 +67,7 @@ pub fn image_in_memory(
     ensures width { IfOk result (λ o. o.width ≡ width) }
     ensures height { IfOk result (λ o. o.height ≡ height) }
     ensures pixels { IfOk result (λ o. pixels_in_memory ty o.pixels ≡ bytes.now) }
+    ensures picture { IfOk result IsPicture }
 {
     let count = width as usize * height as usize;
     let pixels = pixels_of(alloc, bytes, count, ty)?;

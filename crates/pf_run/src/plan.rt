@@ -4,7 +4,7 @@ ghost use Rattle.std.specs.Prelude.{◌≡◌, ◌<◌, ◌≤◌, ◌^◌, leng
 ghost use Rattle.pf_machine.specs.Meaning.Heads.{IsHead};
 ghost use Rattle.pf_machine.specs.Meaning.Runs.{row_budget};
 ghost use Rattle.pf_run.specs.Steps.Rows.{IsPlan, IsPlanOf};
-ghost use Rattle.pf_run.specs.Meaning.Sets.{KeepsAll};
+ghost use Rattle.pf_values.specs.Meaning.Kernels.{KeepsSet};
 
 use crate::places::{Starts, run_starts};
 use crate::reach::{Reach, reach_of};
@@ -45,7 +45,7 @@ pub fn plan_of(
 ) -> Result<Plan, Memory>
     requires head { IsHead head.now }
     requires short { instructions < 2 ^ 31 }
-    requires keeps { KeepsAll head.now.images head.now.taps images.now }
+    requires keeps { KeepsSet head.now.images head.now.taps images.now }
     ensures plan { IfOk result (λ plan. IsPlan images.now plan) }
     ensures program { IfOk result (λ plan. IsPlanOf head.now instructions images.now plan) }
 {

@@ -1,13 +1,13 @@
 //! Runs of programs on images.
 
 ghost use Rattle.std.specs.Prelude.{◌≡◌, ◌+◌, ◌*◌, ◌<◌, ◌≤◌, ◌^◌, length, slice_index_or, IfOk};
-ghost use Rattle.pf_ints.specs.Meaning.Images.{IsPixelType};
+ghost use Rattle.pf_ints.specs.Meaning.Images.{IsPicture, IsPixelType};
 ghost use Rattle.pf_machine.specs.Meaning.Memory.{nowhere};
 ghost use Rattle.pf_machine.specs.Meaning.Runs.{pixel_bytes, pixels_in_memory};
 ghost use Rattle.pf_run.specs.Meaning.Answers.{Ran};
 ghost use Rattle.pf_run.specs.Meaning.Placement.{blank_memory, run_places};
 ghost use Rattle.pf_run.specs.Steps.Rows.{HasOutputAt, IsPlan, IsPlanOf};
-ghost use Rattle.pf_run.specs.Meaning.Sets.{KeepsAll};
+ghost use Rattle.pf_values.specs.Meaning.Kernels.{KeepsSet};
 
 use crate::fault::RunFault;
 use crate::output::image_in_memory;
@@ -41,6 +41,7 @@ fn output_image<I: Isa>(
     ensures width { IfOk result (λ o. o.width ≡ plan.now.reach.columns) }
     ensures height { IfOk result (λ o. o.height ≡ plan.now.reach.rows) }
     ensures pixels { IfOk result (λ o. pixels_in_memory plan.now.out_ty o.pixels ≡ (slice_index_or machine.now.state.regions n nowhere).bytes) }
+    ensures picture { IfOk result IsPicture }
 {
     let Some(region) = machine.region(n) else {
         unreachable!()
@@ -62,7 +63,7 @@ fn machine_of<I: Isa>(
     plan: &Plan,
     images: &[Image],
 ) -> Result<Machine<I>, Memory>
-    requires keeps { KeepsAll program.head.images program.head.taps images.now }
+    requires keeps { KeepsSet program.head.images program.head.taps images.now }
     requires plan { IsPlan images.now plan.now }
     requires program { IsPlanOf program.head (length program.code) images.now plan.now }
     ensures text { IfOk result (λ m. m.text ≡ program) }
@@ -80,7 +81,7 @@ fn machine_of<I: Isa>(
 
 /// Runs the program on images that are such as it asks for.
 fn run_kept<I: Isa>(alloc: Global, program: Program<I>, images: &[Image]) -> Result<Image, RunFault>
-    requires keeps { KeepsAll program.head.images program.head.taps images.now }
+    requires keeps { KeepsSet program.head.images program.head.taps images.now }
     requires few { length images.now ≤ 8 }
     requires short { length program.code < 2 ^ 31 }
     ensures { Ran I.table program images.now result }

@@ -2,8 +2,8 @@
 
 ghost use Rattle.std.specs.Prelude.{◌≡◌, ◌+◌, ◌≤◌, ◌<◌, ◌^◌, ◌↔◌, length, zip, All, IsTrue, MatchOption, IfSome};
 ghost use Rattle.pf_ints.specs.Meaning.Images.{IsPicture};
-ghost use Rattle.pf_values.specs.Meaning.Kernels.{KeepsRange, width_of, height_of};
-ghost use Rattle.pf_run.specs.Meaning.Sets.{HasOutput, IsFirstBadImage, IsImageFault, IsInRange, IsSetFault, KeepsAll, KeepsNone, Suits};
+ghost use Rattle.pf_values.specs.Meaning.Kernels.{KeepsRange, KeepsSet, width_of, height_of};
+ghost use Rattle.pf_run.specs.Meaning.Sets.{HasOutput, IsFirstBadImage, IsImageFault, IsInRange, IsSetFault, Suits};
 
 use crate::fault::SetFault;
 use pf_ints::{Image, ImageSet};
@@ -103,8 +103,8 @@ fn has_output(taps: &[Tap], set: &[Image]) -> bool
 /// the output has no pixel.
 pub fn judge_set(images: &[ImageDecl], taps: &[Tap], set: &ImageSet) -> Option<SetFault>
     requires { length images.now ≤ 8 }
-    ensures judged { MatchOption result (KeepsAll images.now taps.now set.now) (IsSetFault images.now taps.now set.now) }
-    ensures refused { IfSome result (λ _. KeepsNone images.now taps.now set.now) }
+    ensures judged { MatchOption result (KeepsSet images.now taps.now set.now) (IsSetFault images.now taps.now set.now) }
+    ensures refused { IfSome result (λ _. KeepsSet images.now taps.now set.now → ⊥) }
 {
     let set = set.as_slice();
     if set.len() != images.len() {

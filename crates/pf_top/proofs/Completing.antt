@@ -59,7 +59,7 @@ image_at R (a ∷ names) (d ∷ decls) [] n low count all = absurd all
 image_at R (a ∷ names) (d ∷ decls) (q ∷ pictures) zero low count all = ((a, d), q, all.0, refl, refl)
 image_at R (a ∷ names) (d ∷ decls) (q ∷ pictures) (suc n) low count all = image_at R names decls pictures n (omega (arith, low)) (omega (arith, count)) all.1
 
-same_pictures : (m : Contents) (ws : List (List ℕ × ImageDecl)) (ps qs : List Picture) → AllZip (HoldsImage m) ws ps → AllZip (IsImageThere m) ws qs → ps ≡ qs
+pub same_pictures : (m : Contents) (ws : List (List ℕ × ImageDecl)) (ps qs : List Picture) → AllZip (HoldsImage m) ws ps → AllZip (IsImageThere m) ws qs → ps ≡ qs
 same_pictures m [] [] [] held there = refl
 same_pictures m [] [] (q ∷ qs) held there = absurd there
 same_pictures m [] (p ∷ ps) qs held there = absurd held
@@ -72,7 +72,7 @@ same_pictures m (w ∷ ws) (p ∷ ps) (q ∷ qs) held there =
     rw (first, rest) refl
 
 module _ {P R : Type 0} (l : Language P R) (fit : IsFit l) (r : Run) (m : Contents) (can : IsRunnable l r m) where
-  same_meaning : (p : P) → HoldsText l r m p → p ≡ can.meaning
+  pub same_meaning : (p : P) → HoldsText l r m p → p ≡ can.meaning
   same_meaning p held = let facts = both (m r.text) (l.most + 1) (l.Means p) (l.Spells can.meaning) held can.text in fit.same p can.meaning facts.0 facts.1 facts.2
 
   no_text_refusal : (e : R) → FileStartsWith r.text (l.most + 1) (l.Refuses e) m → ⊥

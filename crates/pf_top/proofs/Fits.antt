@@ -2,20 +2,23 @@
 use Rattle.std.proofs.Common.{ℕ, ◌≤◌, ◌<◌, List, length, Err, refl, arith}
 use Rattle.pf_ints.specs.Meaning.Images.{Picture}
 use Rattle.pf_machine.specs.Meaning.Programs.{ProgramOf}
-use Rattle.pf_neon.specs.declared.neon.Neon.{Neon}
-use Rattle.pf_neon.specs.declared.op.Instruction.{Instruction}
+use Rattle.pf_machine.specs.Meaning.Tables.{Table}
+use Rattle.pf_neon.specs.Meaning.Neon.{table}
+use Rattle.pf_run.specs.declared.any.AnyProgram.{AnyProgram}
+use Rattle.pf_run.specs.declared.any.AnyProgram.TheVariants.{Neon as NeonProgram}
+use Rattle.pf_run.specs.Meaning.AnyPrograms.{Returns, ReturnsAny}
+use Rattle.pf_run.specs.Meaning.Answers.{Ran}
 use Rattle.pf_kernel.specs.Meaning.Kernels.{Meaning}
 use Rattle.pf_top.specs.declared.run_verdict.NoImage.{NoImage}
 use Rattle.pf_top.specs.declared.run_verdict.NoImage.TheVariants.{Size, Pixel, NoOutput, Outside, Spent}
 use Rattle.pf_top.specs.declared.text_file.TextRefusal.{TextRefusal}
 use Rattle.pf_top.specs.declared.text_file.TextRefusal.TheVariants.{TooLong, NotBuilt, At}
 use Rattle.pf_top.specs.Meaning.KernelFiles.{Evaluates, kernels}
-use Rattle.pf_top.specs.Meaning.MinOfTaps.{min_source}
-use Rattle.pf_top.specs.Meaning.TextFiles.{IsSomeText, RunsTo, RefusesText, Returns, programs, text_limit}
+use Rattle.pf_top.specs.Meaning.TextFiles.{IsSomeText, RunsTo, RefusesText, fault_of, programs, text_limit}
 use Rattle.pf_values.specs.Meaning.Kernels.{Keeps}
 use Rattle.pf_top.proofs.Completing.{IsFit}
 
-no_text_refused : (e : TextRefusal) (p : ProgramOf Neon Instruction) (bytes : List ℕ) → RefusesText e bytes → IsSomeText p bytes → ⊥
+no_text_refused : (e : TextRefusal) (p : AnyProgram) (bytes : List ℕ) → RefusesText e bytes → IsSomeText p bytes → ⊥
 no_text_refused TooLong p bytes refused text =
     let over : text_limit < length bytes = refused in
     let within : length bytes ≤ text_limit = text.0 in
@@ -23,12 +26,15 @@ no_text_refused TooLong p bytes refused text =
 no_text_refused (NotBuilt target) p bytes refused text = refused.1 p text.1
 no_text_refused (At line kind) p bytes refused text = refused.1 p text.1
 
-returns : (e : NoImage) (p : ProgramOf Neon Instruction) (pictures : List Picture) → Returns p pictures → RunsTo p pictures (Err e) → ⊥
-returns (Size image width height) p pictures works ran = ran.0 (min_source p.head 0 0) refl refl (works.1 (min_source p.head 0 0) refl refl)
-returns (Pixel image x y value) p pictures works ran = ran.0 (min_source p.head 0 0) refl refl (works.1 (min_source p.head 0 0) refl refl)
-returns NoOutput p pictures works ran = ran.0 (min_source p.head 0 0) refl refl (works.1 (min_source p.head 0 0) refl refl)
-returns (Outside at address count) p pictures works ran = let fails = ran.1.2 in let ends = works.2 in absurd (cc)
-returns (Spent steps) p pictures works ran = let fails = ran.1.2 in let ends = works.2 in absurd (cc)
+returns_on : {I O : Type 0} (t : Table O) (e : NoImage) (p : ProgramOf I O) (pictures : List Picture) → Returns t p pictures → Ran t p pictures (Err (fault_of e)) → ⊥
+returns_on t (Size image width height) p pictures works ran = ran.0 works.1
+returns_on t (Pixel image x y value) p pictures works ran = ran.0 works.1
+returns_on t NoOutput p pictures works ran = ran.0 works.1
+returns_on t (Outside at address count) p pictures works ran = let fails = ran.1.2 in let ends = works.2 in absurd (cc)
+returns_on t (Spent steps) p pictures works ran = let fails = ran.1.2 in let ends = works.2 in absurd (cc)
+
+returns : (e : NoImage) (p : AnyProgram) (pictures : List Picture) → ReturnsAny p pictures → RunsTo p pictures (Err e) → ⊥
+returns e (NeonProgram p) pictures works ran = returns_on table e p pictures works ran
 
 pub programs_fit : IsFit programs
 programs_fit = record { same = λ p q bytes means text. means.2 q text.1; not_refused = no_text_refused; not_prevented = returns }

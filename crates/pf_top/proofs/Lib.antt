@@ -12,6 +12,7 @@ pub mod Tellable
 pub mod ImageLists
 pub mod Telling
 pub mod SameWords
-pub mod MinBlock
-pub mod HeadLaws
-pub mod HeadlineLaws
+pub mod Promising
+pub mod Agreement
+pub mod OneCommand
+pub mod Calls

@@ -15,13 +15,12 @@ use Rattle.pf_top.specs.declared.verdict.FileWord.TheVariants.{Kernel, Lift, Low
 use Rattle.pf_top.specs.declared.verdict.Verdict.{Verdict}
 use Rattle.pf_top.specs.declared.verdict.Verdict.TheVariants.{Done, TargetNotBuilt, KernelRefused, NotBuilt, Missing, ReadFailed, WriteFailed, Memory}
 use Rattle.pf_top.specs.Meaning.KernelFiles.{IsKernelFile, RefusesKernel}
-use Rattle.pf_top.specs.Meaning.MinOfTaps.{IsMinOfTaps}
 use Rattle.pf_images.specs.Meaning.Outside.{Contents, SameContents}
 use Rattle.pf_top.specs.Meaning.StoreCalls.{Store, Calls, Well, Lacking, Failing, Wanting, StoreAfter}
 use Rattle.pf_top.specs.Steps.FileSteps.{Judged, Written}
-use Rattle.pf_top.specs.Meaning.Selected.{IsSelected}
+use Rattle.pf_select.specs.Meaning.Targets.{IsSelectedOn}
 use Rattle.pf_top.specs.Meaning.Selections.{Select, EndsWith, Selects, Reaches, FileFits, Effect, IsSelectableKernel, HasForm, IsOther, OfJudged, file_name, place, limit, calls_of}
-use Rattle.pf_top.specs.Steps.SelectSteps.{unread_at, at, stopped, at_kernel, unwritten}
+use Rattle.pf_top.specs.Steps.SelectSteps.{unread_at, at, stopped, at_kernel, unwritten, Unselected}
 use Rattle.pf_top.proofs.StoreCalls.{After, after_none, after_judged, begins_before, weaker_begins, changes_weaker, went_then, same_then, puts_then, puts_part_then}
 
 -- a verdict that no target gives
@@ -102,13 +101,26 @@ abbrev pub RuleSays : FileWord → ⊤ → List ℕ → Type 0
 RuleSays w _ bytes = HasForm w bytes
 
 -- the kernel is another than is built
-pub came_other : (s : Select) (k : Meaning) (b c : Store) → s.target ≡ Neon → ((m n : ℕ) → IsMinOfTaps k.source m n → ⊥)
+came_other : (s : Select) (k : Meaning) (b c : Store) → s.target ≡ Neon → (IsSelectableKernel k → ⊥)
     → Judged IsKernelFile RefusesKernel s.kernel (limit Kernel + 1) b (Ok k) c → EndsWith s b (NotBuilt Kernel) c
 came_other s k b c neon none step = came s b c (NotBuilt Kernel) (Well 1) neon (λ e. cc) refl (record {
-  contents = changes_weaker _ _ (λ m n q. (tt, weaker_begins s.kernel (limit Kernel + 1) (IsKernelFile k) (IsOther Kernel) m (λ front is. (k, is, λ built. none built.0 built.1 built.2)) q.0, q.1)) b.held c.held step.contents;
+  contents = changes_weaker _ _ (λ m n q. (tt, weaker_begins s.kernel (limit Kernel + 1) (IsKernelFile k) (IsOther Kernel) m (λ front is. (k, is, none)) q.0, q.1)) b.held c.held step.contents;
   faults = step.faults;
   calls = step.calls;
 })
+
+pub came_unselected : (s : Select) (k : Meaning) (b c : Store) (v : Verdict) → s.target ≡ Neon → Unselected k v → Judged IsKernelFile RefusesKernel s.kernel (limit Kernel + 1) b (Ok k) c → EndsWith s b v c
+came_unselected s k b c Memory neon why step =
+    came s b c Memory (Wanting 4) neon (λ e. cc) refl (record { contents = changes_weaker _ _ (λ m n q. q.1) b.held c.held step.contents; faults = step.faults; calls = (1, omega arith, step.calls) })
+came_unselected s k b c (NotBuilt Kernel) neon why step = came_other s k b c neon why step
+came_unselected s k b c (NotBuilt Lift) neon why step = absurd why
+came_unselected s k b c (NotBuilt Lower) neon why step = absurd why
+came_unselected s k b c Done neon why step = absurd why
+came_unselected s k b c TargetNotBuilt neon why step = absurd why
+came_unselected s k b c (KernelRefused _) neon why step = absurd why
+came_unselected s k b c (Missing _) neon why step = absurd why
+came_unselected s k b c (ReadFailed _) neon why step = absurd why
+came_unselected s k b c WriteFailed neon why step = absurd why
 
 reach_lift : (s : Select) (k : Meaning) → IsSelectableKernel k → (m : Contents) → HasKernel s k m → FileFits s m Kernel
 reach_lift s k built m has = weaker_begins s.kernel (limit Kernel + 1) (IsKernelFile k) (HasForm Kernel) m (λ front is. (k, is, built)) has
@@ -135,17 +147,10 @@ module _ (s : Select) (neon : s.target ≡ Neon) (k : Meaning) (built : IsSelect
       good_lower : After (HasAll s k) 3 b e
       good_lower = after_judged (RuleSays Lower) (RefusedForm Lower) (HasLift s k) (HasAll s k) s.lower (limit Lower + 1) 2 b d e y (λ m q is. (q, is)) good_lift three
 
-      pub came_memory : EndsWith s b Memory e
-      came_memory = came s b e Memory (Wanting 4) neon (λ e. cc) refl (record {
-        contents = changes_weaker _ _ (λ m n q. q.1) b.held e.held good_lower.contents;
-        faults = good_lower.faults;
-        calls = (3, omega arith, good_lower.calls);
-      })
-
       -- the text is written where all files have their forms
-      module _ (text : List ℕ) (selected : IsSelected k.source text) (f : Store) where
+      module _ (text : List ℕ) (selected : IsSelectedOn Neon k.source text) (f : Store) where
         selects : (m : Contents) → HasAll s k m → Selects s m text
-        selects m q = record { kernel = k; spelled = q.0.0; lift = q.0.1; lower = q.1; selected = selected }
+        selects m q = record { kernel = k; spelled = q.0.0; lift = q.0.1; lower = q.1; taken = built; selected = selected }
 
         pub came_written : (r : Result ⊤ Unwritten) → Written s.out text e r f → EndsWith s b (written_verdict r) f
         came_written (Ok z) step =

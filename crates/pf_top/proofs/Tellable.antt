@@ -11,6 +11,10 @@ use Rattle.pf_run.specs.declared.fault.RunFault.{RunFault}
 use Rattle.pf_run.specs.declared.fault.RunFault.TheVariants.{Text as TextAt, Set, Outside, Spent, Memory}
 use Rattle.pf_run.specs.declared.fault.SetFault.{SetFault}
 use Rattle.pf_run.specs.declared.fault.SetFault.TheVariants.{Count, Kind, Size, Pixel, NoOutput}
+use Rattle.pf_neon.specs.Meaning.Neon.{table}
+use Rattle.pf_run.specs.declared.any.AnyProgram.{AnyProgram}
+use Rattle.pf_run.specs.declared.any.AnyProgram.TheVariants.{Neon as NeonProgram}
+use Rattle.pf_run.specs.Meaning.AnyPrograms.{RanAny, head_of}
 use Rattle.pf_run.specs.Meaning.Answers.{Ran}
 use Rattle.pf_run.specs.Meaning.Sets.{IsFirstBadImage, IsSetFault}
 use Rattle.pf_top.specs.declared.run_verdict.NoImage.{NoImage}
@@ -34,13 +38,16 @@ tellable_set decls taps pictures (Size image width height) count types is = tt
 tellable_set decls taps pictures (Pixel image x y value) count types is = tt
 tellable_set decls taps pictures NoOutput count types is = tt
 
-pub tellable : {I O : Type 0} (t : Table O) (p : ProgramOf I O) (pictures : List Picture) (fault : RunFault)
+tellable : {I O : Type 0} (t : Table O) (p : ProgramOf I O) (pictures : List Picture) (fault : RunFault)
     → length pictures ≡ length p.head.images → AllZip (λ d q. q.ty ≡ d.ty) p.head.images pictures → Ran t p pictures (Err fault) → IsTellable fault
 tellable t p pictures (TextAt line kind) count types ran = ran
 tellable t p pictures (Set fault) count types ran = tellable_set p.head.images p.head.taps pictures fault count types ran.1
 tellable t p pictures (Outside at address long) count types ran = tt
 tellable t p pictures (Spent steps) count types ran = tt
 tellable t p pictures Memory count types ran = tt
+
+pub tellable_any : (p : AnyProgram) (pictures : List Picture) (fault : RunFault) → length pictures ≡ length (head_of p).images → AllZip (λ d q. q.ty ≡ d.ty) (head_of p).images pictures → RanAny p pictures (Err fault) → IsTellable fault
+tellable_any (NeonProgram p) pictures fault count types ran = tellable table p pictures fault count types ran
 
 -- the image that a fault names is one of them
 size_within : (width height number : ℕ) (decls : List ImageDecl) (pictures : List Picture) (image w h : ℕ) → IsFirstBadImage width height number decls pictures (Size image w h) → image < number + length pictures
@@ -55,12 +62,15 @@ pixel_within width height number (d ∷ ds) [] image x y n fault = absurd fault
 pixel_within width height number (d ∷ ds) (p ∷ ps) image x y n (inl here) = let same : image ≡ number = here.0 in omega (arith, same)
 pixel_within width height number (d ∷ ds) (p ∷ ps) image x y n (inr next) = let low = pixel_within width height (number + 1) ds ps image x y n next.1 in omega (arith, low)
 
-pub image_among : {I O : Type 0} (t : Table O) (p : ProgramOf I O) (r : Run) (pictures : List Picture) (e : NoImage) → length pictures ≡ length r.images → Ran t p pictures (Err (fault_of e)) → IsImageAmong r e
+image_among : {I O : Type 0} (t : Table O) (p : ProgramOf I O) (r : Run) (pictures : List Picture) (e : NoImage) → length pictures ≡ length r.images → Ran t p pictures (Err (fault_of e)) → IsImageAmong r e
 image_among t p r pictures (NoImageSize image w h) long ran = let low = size_within _ _ 0 p.head.images pictures image w h ran.1.1 in omega (arith, low, long)
 image_among t p r pictures (NoImagePixel image x y n) long ran = let low = pixel_within _ _ 0 p.head.images pictures image x y n ran.1.1 in omega (arith, low, long)
 image_among t p r pictures NoImageNoOutput long ran = tt
 image_among t p r pictures (NoImageOutside at address count) long ran = tt
 image_among t p r pictures (NoImageSpent steps) long ran = tt
+
+pub any_among : (p : AnyProgram) (r : Run) (pictures : List Picture) (e : NoImage) → length pictures ≡ length r.images → RanAny p pictures (Err (fault_of e)) → IsImageAmong r e
+any_among (NeonProgram p) r pictures e long ran = image_among table p r pictures e long ran
 
 pub kernel_among : (k : Meaning) (r : Run) (pictures : List Picture) (e : NoImage) → length pictures ≡ length r.images → Evaluates k pictures (Err e) → IsImageAmong r e
 kernel_among k r pictures (NoImageSize image w h) long ends = let low = size_within _ _ 0 k.source.images pictures image w h ends.1.1 in omega (arith, low, long)

@@ -5,6 +5,7 @@ use Rattle.pf_images.specs.declared.files.FilesFault.{FilesFault}
 use Rattle.pf_images.specs.declared.files.FilesFault.TheVariants.{Missing as MissingFault, Failed as FailedFault, Memory as MemoryFault}
 use Rattle.pf_images.specs.Meaning.Counts.{raised, raised_by, Rose}
 use Rattle.pf_images.specs.Meaning.Outside.{Changes, Appends, AppendsPart, Adds, HasCause}
+use Rattle.pf_top.specs.Meaning.StoreCalls.{RaisedUpTo}
 use Rattle.pf_top.specs.Meaning.Statuses.{report, line_of, memory_line, wanting, write_failed, Output, ReportsLine}
 use Rattle.pf_top.proofs.StoreCalls.{changes_then, changes_weaker}
 
@@ -36,14 +37,13 @@ want_after count status line b m a n few quiet (inl said) counted = inr (inr (re
 }))
 want_after count status line b m a n few quiet (inr (inl failed)) counted = inr (inl (record {
   status = failed.status;
-  written = changes_then _ _ _ (λ old mid new p q. inr (part old mid new p q)) b.written m.written a.written quiet.written failed.written;
+  put = inr (cut failed.put, (suc count, omega arith, counted ∙ ap raised quiet.calls));
   faults = subst (λ f. Rose f a.faults) quiet.faults failed.faults;
-  calls = (suc count, omega arith, counted ∙ ap raised quiet.calls);
 }))
   where
-    part : (old mid new : List ℕ) → Appends [] old mid → AppendsPart memory_line mid new ⊎ AppendsPart [] mid new → AppendsPart memory_line old new
-    part old mid new p (inl q) = (q.0, q.1 ∙ ap (λ u. u ++ take q.0 memory_line) (p ∙ append-nil old))
-    part old mid new p (inr q) = (0, q.1 ∙ ap (λ u. mid ++ u) (no_part q.0) ∙ ap (λ u. u ++ []) (p ∙ append-nil old))
+    cut : (Changes (AppendsPart memory_line) m.written a.written × (a.calls ≡ raised m.calls)) ⊎ (Changes (AppendsPart []) m.written a.written × RaisedUpTo 2 m.calls a.calls) → Changes (AppendsPart memory_line) b.written a.written
+    cut (inl part) = changes_then _ _ _ (λ old mid new p q. (q.0, q.1 ∙ ap (λ u. u ++ take q.0 memory_line) (p ∙ append-nil old))) b.written m.written a.written quiet.written part.0
+    cut (inr none) = changes_then _ _ _ (λ old mid new p q. (0, q.1 ∙ ap (λ u. mid ++ u) (no_part q.0) ∙ ap (λ u. u ++ []) (p ∙ append-nil old))) b.written m.written a.written quiet.written none.0
 want_after count status line b m a n few quiet (inr (inr wanted)) counted = inr (inr (record {
   status = wanted.status;
   written = changes_then _ _ _ (λ old mid new p q. inl (none old mid new p q)) b.written m.written a.written quiet.written wanted.written;
@@ -66,9 +66,8 @@ unfolding write_failed
 told_write_failed name line b a (Ok _) is written cause there calls = inl (record { status = refl; written = subst (λ u. Changes (Appends u) b.written a.written) is written; faults = cause; calls = calls })
 told_write_failed name line b a (Err FailedFault) is written cause there calls = inr (inl (record {
   status = refl;
-  written = changes_weaker _ _ (λ old new p. inl (subst (λ u. AppendsPart u old new) is p)) b.written a.written written;
+  put = inl (subst (λ u. Changes (AppendsPart u) b.written a.written) is written, calls);
   faults = cause;
-  calls = (1, omega arith, calls);
 }))
 told_write_failed name line b a (Err MemoryFault) is written cause there calls = inr (inr (record {
   status = refl;

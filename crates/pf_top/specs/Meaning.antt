@@ -1,13 +1,11 @@
 pub mod StoreCalls
 pub mod ImageFiles
-pub mod MinOfTaps
-pub mod Headline
 pub mod KernelFiles
 pub mod KernelStatuses
 pub mod Running
 pub mod Completeness
+pub mod Commands
 pub mod RunStatuses
-pub mod Selected
 pub mod Selections
 pub mod SelectStatuses
 pub mod Statuses

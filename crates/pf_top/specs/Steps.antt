@@ -1,3 +1,4 @@
 pub mod FileSteps
 pub mod RunSteps
 pub mod SelectSteps
+pub mod CommandSteps

@@ -2,13 +2,12 @@
 #![tactic(auto)]
 
 mod command;
+mod dispatch;
 mod eval;
 mod image_files;
 mod judging;
 mod kernel_file;
 mod kernel_report;
-mod min_program;
-mod operands;
 mod report;
 mod run;
 mod run_report;
@@ -16,7 +15,6 @@ mod run_verdict;
 mod run_words;
 mod select;
 mod select_report;
-mod selected;
 mod text_file;
 mod top;
 mod verdict;

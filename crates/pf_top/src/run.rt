@@ -1,7 +1,8 @@
 //! The command `run`.
 
-ghost use Rattle.std.specs.Prelude.{◌≡◌, ◌<◌, ◌^◌, length, Some};
+ghost use Rattle.std.specs.Prelude.{◌≡◌, length, Some};
 ghost use Rattle.std.specs.List.{AllZip};
+ghost use Rattle.pf_run.specs.Meaning.AnyPrograms.{IsShort, head_of};
 ghost use Rattle.pf_top.specs.Meaning.StoreCalls.{seen};
 ghost use Rattle.pf_top.specs.Meaning.KernelFiles.{set_fault};
 ghost use Rattle.pf_top.specs.Meaning.Running.{RunEndsWith};
@@ -15,9 +16,7 @@ use crate::run_words::RunWords;
 use crate::text_file::{TextRefusal, read_program};
 use pf_images::{Files, write_pgm};
 use pf_ints::ImageSet;
-use pf_isa::Program;
-use pf_neon::Neon;
-use pf_run::{RunFault, SetFault, run_program};
+use pf_run::{AnyProgram, RunFault, SetFault, run_any};
 use std::alloc::Global;
 
 /// Judges the number of images.
@@ -80,15 +79,15 @@ fn verdict_of(fault: RunFault) -> RunVerdict<TextRefusal>
 /// The PGM file of what the program leaves of the images.
 fn output_of(
     alloc: Global,
-    program: Program<Neon>,
+    program: AnyProgram,
     images: &ImageSet,
 ) -> Result<Vec<u8>, RunVerdict<TextRefusal>>
-    requires count { length images.now ≡ length program.head.images }
-    requires size { length program.code < 2 ^ 31 }
-    requires types { AllZip (λ d p. p.ty ≡ d.ty) program.head.images images.now }
+    requires count { length images.now ≡ length (head_of program).images }
+    requires size { IsShort program }
+    requires types { AllZip (λ d p. p.ty ≡ d.ty) (head_of program).images images.now }
     ensures { Outputs (λ v. v.items) programs program images.now result }
 {
-    let output = match run_program::<Neon>(alloc, program, images) {
+    let output = match run_any(alloc, program, images) {
         Ok(output) => output,
         Err(fault) => return Err(verdict_of(fault)),
     };

@@ -1,18 +1,19 @@
-ghost use Rattle.std.specs.Prelude.{◌≡◌, ◌+◌};
+ghost use Rattle.std.specs.Prelude.{◌≡◌, ◌+◌, MatchResult};
+ghost use Rattle.pf_select.specs.Meaning.Targets.{IsSelectedOn};
 ghost use Rattle.pf_top.specs.declared.verdict.FileWord.TheVariants.{Lift, Lower};
 ghost use Rattle.pf_top.specs.Meaning.StoreCalls.{seen};
 ghost use Rattle.pf_top.specs.Steps.FileSteps.{Judged};
-ghost use Rattle.pf_top.specs.Meaning.Selections.{lift_text, lower_text, rule_limit, limit, HasForm, IsOther, EndsWith};
-ghost use Rattle.pf_top.specs.Steps.SelectSteps.{the_words, unread_at, at, at_kernel, verdict_of};
+ghost use Rattle.pf_top.specs.Meaning.Selections.{lift_text, lower_text, rule_limit, limit, HasForm, IsOther, EndsWith, IsSelectableKernel};
+ghost use Rattle.pf_top.specs.Steps.SelectSteps.{the_words, unread_at, at, at_kernel, verdict_of, Unselected};
 
 use crate::command::Selection;
 use crate::judging::{Stop, read_front, write_file};
 use crate::kernel_file::{KernelRefusal, read_kernel_file};
-use crate::operands::operands_of;
-use crate::selected::text_of;
 use crate::verdict::{FileWord, Verdict};
 use pf_images::{Files, FilesFault};
 use pf_ints::Target;
+use pf_kernel::Kernel;
+use pf_select::{SelectFault, select as select_text};
 use std::alloc::Global;
 
 /// The rule file without rules.
@@ -98,6 +99,18 @@ fn at_kernel<A>(judged: Result<A, Stop<KernelRefusal>>) -> Result<A, Verdict>
     }
 }
 
+/// The text of the kernel.
+fn text_of(alloc: Global, kernel: &Kernel) -> Result<Vec<u8>, Verdict>
+    ensures { MatchResult result (λ text. IsSelectableKernel kernel.now × IsSelectedOn Target.Neon kernel.now.source text.items)
+        (Unselected kernel.now) }
+{
+    match select_text(alloc, kernel, Target::Neon) {
+        Ok(text) => Ok(text),
+        Err(SelectFault::NotBuilt) => Err(Verdict::NotBuilt(FileWord::Kernel)),
+        Err(SelectFault::Memory) => Err(Verdict::Memory),
+    }
+}
+
 /// Reads and judges the files in the order of the words, each before the next is read, and writes
 /// the text of the kernel.
 fn select_files<F: Files>(
@@ -112,12 +125,9 @@ fn select_files<F: Files>(
         return Err(Verdict::TargetNotBuilt);
     }
     let kernel = at_kernel(read_kernel_file(alloc, files, words.kernel))?;
-    let Some(operands) = operands_of(&kernel) else {
-        return Err(Verdict::NotBuilt(FileWord::Kernel));
-    };
+    let text = text_of(alloc, &kernel)?;
     at(FileWord::Lift, judge_lift(alloc, files, words.lift))?;
     at(FileWord::Lower, judge_lower(alloc, files, words.lower))?;
-    let text = text_of(alloc, &kernel, operands)?;
     write_file(alloc, files, words.out, text.as_slice())?;
     Ok(())
 }

@@ -1,9 +1,10 @@
 //! The file of a text.
 
-ghost use Rattle.std.specs.Prelude.{◌≡◌, ◌≢◌, ◌+◌, ◌^◌, ◌<◌, length, IfOk, MatchOption};
+ghost use Rattle.std.specs.Prelude.{◌≡◌, ◌+◌, ◌<◌, IfOk, MatchOption};
 ghost use Rattle.std.specs.Str.Lines.{lines};
 ghost use Rattle.pf_ints.specs.declared.target.Target.{Target};
 ghost use Rattle.pf_isa.specs.Meaning.TextFaults.{IsFor};
+ghost use Rattle.pf_run.specs.Meaning.AnyPrograms.{IsRunTarget, IsShort};
 ghost use Rattle.pf_top.specs.Meaning.StoreCalls.{seen};
 ghost use Rattle.pf_top.specs.Steps.FileSteps.{Judged};
 ghost use Rattle.pf_top.specs.Steps.SelectSteps.{JudgesBytes};
@@ -12,8 +13,8 @@ ghost use Rattle.pf_top.specs.Meaning.TextFiles.{text_limit, IsTextFile, Refuses
 use crate::judging::{Stop, read_front};
 use pf_images::{Files, FilesFault};
 use pf_ints::Target;
-use pf_isa::{Program, TextFault, TextKind, read_text, target_of};
-use pf_neon::Neon;
+use pf_isa::{TextFault, TextKind, target_of};
+use pf_run::{AnyProgram, is_run_target, read_any};
 use std::alloc::Global;
 
 /// Why a text is not run.
@@ -36,23 +37,22 @@ fn text_limit() -> u64
     2_147_483_647
 }
 
-/// The target that the first line of a text names, where it is another than neon.
-#[tactic(auto, using(crate::proofs::TextFiles::one_target))]
+/// The target that the first line of a text names, where no text is run for it.
 fn other_target(text: &[u8]) -> Option<Target>
-    ensures { MatchOption result ((t : Target) → IsFor t (lines text.now) → t ≡ Target.Neon)
-        (λ t. IsFor t (lines text.now) × (t ≢ Target.Neon)) }
+    ensures { MatchOption result ((t : Target) → IsFor t (lines text.now) → IsRunTarget t)
+        (λ t. IsFor t (lines text.now) × (IsRunTarget t → ⊥)) }
 {
     let target = target_of(text)?;
-    if target == Target::Neon {
+    if is_run_target(target) {
         return None;
     }
     Some(target)
 }
 
 /// The program that the text is of.
-fn program_of(alloc: Global, text: &[u8]) -> Result<Program<Neon>, Stop<TextRefusal>>
+fn program_of(alloc: Global, text: &[u8]) -> Result<AnyProgram, Stop<TextRefusal>>
     ensures found { JudgesBytes IsTextFile RefusesText result text.now }
-    ensures size { IfOk result (λ p. length p.code < 2 ^ 31) }
+    ensures size { IfOk result IsShort }
 {
     if text.len() as u64 > text_limit() {
         return Err(Stop::Refused(TextRefusal::TooLong));
@@ -60,7 +60,7 @@ fn program_of(alloc: Global, text: &[u8]) -> Result<Program<Neon>, Stop<TextRefu
     if let Some(target) = other_target(text) {
         return Err(Stop::Refused(TextRefusal::NotBuilt(target)));
     }
-    match read_text::<Neon>(alloc, text) {
+    match read_any(alloc, text) {
         Ok(program) => Ok(program),
         Err(TextFault::At { line, kind }) => Err(Stop::Refused(TextRefusal::At { line, kind })),
         Err(TextFault::Memory) => Err(Stop::Unread(FilesFault::Memory)),
@@ -72,10 +72,10 @@ pub fn read_program<F: Files>(
     alloc: Global,
     files: &mut F,
     name: &str,
-) -> Result<Program<Neon>, Stop<TextRefusal>>
+) -> Result<AnyProgram, Stop<TextRefusal>>
     ensures judged { Judged IsTextFile RefusesText name.now (text_limit + 1)
         (seen F.held F.faults F.calls files.old) result (seen F.held F.faults F.calls files.new) }
-    ensures size { IfOk result (λ p. length p.code < 2 ^ 31) }
+    ensures size { IfOk result IsShort }
 {
     let text = read_front(alloc, files, name, text_limit() + 1)?;
     program_of(alloc, text.as_slice())

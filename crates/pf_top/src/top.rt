@@ -1,28 +1,25 @@
-ghost use Rattle.std.specs.Prelude.{◌≡◌, ◌⊎◌, Some, codes, map, string_bytes};
-ghost use Rattle.pf_top.specs.declared.kernel_file.KernelRefusal.{KernelRefusal};
-ghost use Rattle.pf_top.specs.declared.run_verdict.RunVerdict.{RunVerdict};
-ghost use Rattle.pf_top.specs.declared.text_file.TextRefusal.{TextRefusal};
-ghost use Rattle.pf_top.specs.declared.verdict.Verdict.{Verdict};
+ghost use Rattle.std.specs.Prelude.{◌≡◌, ◌⊎◌, ◌≤◌, ℕ, List, Some, codes, length, map, string_bytes, zip};
+ghost use Rattle.std.specs.List.{AllZip};
+ghost use Rattle.pf_ints.specs.declared.target.Target.{Target};
+ghost use Rattle.pf_ints.specs.Meaning.Images.{IsPicture, Picture};
+ghost use Rattle.pf_values.specs.Meaning.Kernels.{Keeps, Out, Source};
 ghost use Rattle.pf_images.specs.Meaning.Outside.{Contents};
-ghost use Rattle.pf_top.specs.Meaning.Completeness.{IsCalm, IsRunnable, IsSelectable};
+ghost use Rattle.pf_images.specs.Meaning.Pgm.{pgm_text};
+ghost use Rattle.pf_kernel.specs.Meaning.Kernels.{Meaning};
+ghost use Rattle.pf_select.specs.Meaning.Targets.{HeadlineOn};
+ghost use Rattle.pf_top.specs.declared.verdict.FileWord.TheVariants.{Kernel};
+ghost use Rattle.pf_top.specs.Meaning.Commands.{Command as CommandOf, IsCommand, Does, CanDo};
+ghost use Rattle.pf_top.specs.Meaning.Completeness.{IsCalm, IsImageThere};
+ghost use Rattle.pf_top.specs.Meaning.KernelFiles.{IsKernelFile};
+ghost use Rattle.pf_top.specs.Meaning.Running.{Run, IsRunCommand};
+ghost use Rattle.pf_top.specs.Meaning.Selections.{Select, IsSelect, OfJudged};
+ghost use Rattle.pf_top.specs.Meaning.Statuses.{usage, ReportsLine, seen_output};
 ghost use Rattle.pf_top.specs.Meaning.StoreCalls.{seen};
-ghost use Rattle.pf_top.specs.Meaning.KernelFiles.{kernels};
-ghost use Rattle.pf_top.specs.Meaning.KernelStatuses.{report_of_kernel};
-ghost use Rattle.pf_top.specs.Meaning.Running.{Run, IsRunCommand, RunEndsWith};
-ghost use Rattle.pf_top.specs.Meaning.RunStatuses.{report_of_run, report_of_text};
-ghost use Rattle.pf_top.specs.Meaning.Selections.{Select, IsSelect, EndsWith};
-ghost use Rattle.pf_top.specs.Meaning.SelectStatuses.{report_of_select};
-ghost use Rattle.pf_top.specs.Meaning.Statuses.{usage, ReportsLine, Reports, seen_output};
-ghost use Rattle.pf_top.specs.Meaning.TextFiles.{programs};
+ghost use Rattle.pf_top.specs.Meaning.TextFiles.{text_limit};
 
-use crate::command::selection_of;
-use crate::eval::eval;
+use crate::command::command_of;
+use crate::dispatch::do_command;
 use crate::report::tell_usage;
-use crate::run::run;
-use crate::run_report::tell_run_verdict;
-use crate::run_words::run_of;
-use crate::select::select;
-use crate::select_report::tell_verdict;
 use pf_images::{Files, Sink};
 use std::alloc::Global;
 
@@ -41,62 +38,41 @@ pub fn pitchfork<F: Files, S: Sink>(
     out: &mut S,
 ) -> u8
     // Words of no form: 2 with the line on them, and no file is touched.
-    ensures usage { ((s : Select) → IsSelect (map string_bytes words.now.items) s → ⊥)
-        → ((r : Run) → IsRunCommand (codes "run") (map string_bytes words.now.items) r → ⊥)
-        → ((r : Run) → IsRunCommand (codes "eval") (map string_bytes words.now.items) r → ⊥)
+    ensures usage { ((c : CommandOf) → IsCommand (map string_bytes words.now.items) c → ⊥)
         → ReportsLine usage (seen_output S.written S.faults S.calls out.old) result
         (seen_output S.written S.faults S.calls out.new) × (files.new ≡ files.old) }
 
-    // The words of `select`: the call came to a verdict, which has its cause in the words and the
+    // The words of a command: the call came to a verdict, which has its cause in the words and the
     // files, and told it.
-    ensures selects { (s : Select) → IsSelect (map string_bytes words.now.items) s
-        → (v : Verdict) × EndsWith s (seen F.held F.faults F.calls files.old) v (seen F.held F.faults F.calls files.new)
-        × Reports (report_of_select s v) (seen_output S.written S.faults S.calls out.old) result
-        (seen_output S.written S.faults S.calls out.new) }
+    ensures does { (c : CommandOf) → IsCommand (map string_bytes words.now.items) c
+        → Does c (seen F.held F.faults F.calls files.old) (seen F.held F.faults F.calls files.new)
+        (seen_output S.written S.faults S.calls out.old) result (seen_output S.written S.faults S.calls out.new) }
 
-    // The same of the words of `run`.
-    ensures runs { (r : Run) → IsRunCommand (codes "run") (map string_bytes words.now.items) r
-        → (v : RunVerdict TextRefusal) × RunEndsWith programs r (seen F.held F.faults F.calls files.old) v (seen F.held F.faults F.calls files.new)
-        × Reports (report_of_run report_of_text r v) (seen_output S.written S.faults S.calls out.old) result
-        (seen_output S.written S.faults S.calls out.new) }
-
-    // The same of the words of `eval`.
-    ensures evals { (e : Run) → IsRunCommand (codes "eval") (map string_bytes words.now.items) e
-        → (v : RunVerdict KernelRefusal) × RunEndsWith kernels e (seen F.held F.faults F.calls files.old) v (seen F.held F.faults F.calls files.new)
-        × Reports (report_of_run report_of_kernel e v) (seen_output S.written S.faults S.calls out.old) result
-        (seen_output S.written S.faults S.calls out.new) }
-
-    // `select` does its work, or memory is wanting, for neon on a kernel that is built and the two
-    // texts of rules, where neither the store nor the output failed.
-    ensures completes_select { (s : Select) (held : Contents) → IsSelect (map string_bytes words.now.items) s
-        → F.held files.old ≡ Some held → IsSelectable s held
+    // A command does its work, or memory is wanting, on files such as it asks for, where neither the
+    // store nor the output failed.
+    ensures completes { (c : CommandOf) (held : Contents) → IsCommand (map string_bytes words.now.items) c
+        → F.held files.old ≡ Some held → CanDo c held
         → IsCalm (F.faults files.old) (F.faults files.new) → IsCalm (S.faults out.old) (S.faults out.new)
         → (result ≡ 0) ⊎ (result ≡ 13) }
 
-    // `run` does its work, or memory is wanting, on a text and images such as it asks for on which
-    // all rows of its run return, where neither the store nor the output failed.
-    ensures completes { (r : Run) (held : Contents) → IsRunCommand (codes "run") (map string_bytes words.now.items) r
-        → F.held files.old ≡ Some held → IsRunnable programs r held
-        → IsCalm (F.faults files.old) (F.faults files.new) → IsCalm (S.faults out.old) (S.faults out.new)
-        → (result ≡ 0) ⊎ (result ≡ 13) }
+    // Status 0 of `select`: the text under OUT keeps the headline's promise for the kernel that the
+    // kernel's file spells.
+    ensures headline { (s : Select) (k : Meaning) (old : Contents) → IsSelect (map string_bytes words.now.items) s
+        → F.held files.old ≡ Some old → OfJudged s Kernel (IsKernelFile k) old → result ≡ 0
+        → (new : Contents) × (text : List ℕ) × (F.held files.new ≡ Some new) × (new s.out ≡ Some text) × HeadlineOn s.target k.source text }
 
-    // `eval` does its work, or memory is wanting, on a kernel and images such as it asks for.
-    ensures completes_eval { (e : Run) (held : Contents) → IsRunCommand (codes "eval") (map string_bytes words.now.items) e
-        → F.held files.old ≡ Some held → IsRunnable kernels e held
-        → IsCalm (F.faults files.old) (F.faults files.new) → IsCalm (S.faults out.old) (S.faults out.new)
-        → (result ≡ 0) ⊎ (result ≡ 13) }
+    // `run` of a text that keeps the promise for a kernel does its work, or memory is wanting, and with
+    // status 0 leaves what `eval` of the kernel leaves: the file of its output.
+    ensures agrees { (r : Run) (target : Target) (source : Source) (text : List ℕ) (pictures : List Picture) (o : Picture) (old : Contents)
+        → IsRunCommand (codes "run") (map string_bytes words.now.items) r → F.held files.old ≡ Some old
+        → old r.text ≡ Some text → length text ≤ text_limit → HeadlineOn target source text
+        → length r.images ≡ length source.images → AllZip (IsImageThere old) (zip r.images source.images) pictures
+        → Keeps source pictures → Out source pictures o → IsPicture o
+        → (IsCalm (F.faults files.old) (F.faults files.new) → IsCalm (S.faults out.old) (S.faults out.new) → (result ≡ 0) ⊎ (result ≡ 13))
+        × (result ≡ 0 → (new : Contents) × (F.held files.new ≡ Some new) × (new r.out ≡ Some (pgm_text o))) }
 {
-    if let Some(words) = selection_of(words.as_slice()) {
-        let verdict = select(alloc, &words, files);
-        return tell_verdict(alloc, &words, verdict, out);
+    match command_of(words.as_slice()) {
+        Some(command) => do_command(alloc, &command, files, out),
+        None => tell_usage(alloc, out),
     }
-    if let Some(words) = run_of("run", words.as_slice()) {
-        let verdict = run(alloc, &words, files);
-        return tell_run_verdict(alloc, &words, verdict, out);
-    }
-    if let Some(words) = run_of("eval", words.as_slice()) {
-        let verdict = eval(alloc, &words, files);
-        return tell_run_verdict(alloc, &words, verdict, out);
-    }
-    tell_usage(alloc, out)
 }

@@ -1,6 +1,6 @@
 //! The files and the output of the machine.
 
-use pf_images::{Files, FilesFault, RealFiles, RealSink, Sink};
+use pf_images::{Files, FilesFault, RealFiles, RealSink, Sink, read_up_to, write_whole};
 use std::test::Fail;
 
 #[test]
@@ -31,5 +31,18 @@ fn files_hold_what_was_written(rt: HostRuntime) -> Result<(), Fail> {
 fn outputs_take_lines(rt: HostRuntime) -> Result<(), Fail> {
     let mut out = RealSink::new(&rt);
     out.put(rt.alloc(), b"a line\n")?;
+    Ok(())
+}
+
+#[test]
+fn readers_and_writers_in_memory(rt: HostRuntime) -> Result<(), Fail> {
+    let alloc = rt.alloc();
+    for (most, front) in [(0, ""), (2, "ab"), (9, "abcde")] {
+        let read = read_up_to(alloc, b"abcde".as_slice(), most)?;
+        assert!(rt; read.as_slice() == front.as_bytes());
+    }
+    let mut held = Vec::from_slice(alloc, b"x")?;
+    write_whole(&mut held, b"yz")?;
+    assert!(rt; held.as_slice() == b"xyz".as_slice());
     Ok(())
 }

@@ -1,5 +1,6 @@
 -- What is known of the files and of the output outside the program.
 use Rattle.std.specs.Prelude.{◌≡◌, ◌≢◌, ℕ, ◌≤◌, List, [], ◌++◌, take, Option, Some, None, IsSomeAnd, IfSome, Result, Ok, Err, ◌⊎◌}
+use Rattle.std.specs.Io.KnownBytes.{Appends as AppendsKnown}
 use Rattle.pf_images.specs.declared.files.FilesFault.{FilesFault}
 use Rattle.pf_images.specs.declared.files.FilesFault.TheVariants.{Missing, Failed, Memory}
 use Rattle.pf_images.specs.Meaning.Counts.{Rose, raised}
@@ -76,3 +77,8 @@ abbrev pub Adds : {T : Type 0} → List ℕ → Option (List ℕ) → Option (Li
 Adds bytes old new (Ok _) = Changes (Appends bytes) old new
 Adds bytes old new (Err Failed) = Changes (AppendsPart bytes) old new
 Adds bytes old new (Err _) = Changes (Appends []) old new
+
+-- what a writer holds that was given the bytes, where it tells this: all of them behind what it held, or a prefix where it failed
+abbrev pub Streams : {T : Type 0} → List ℕ → Option (List ℕ) → Option (List ℕ) → Result T FilesFault → Type 0
+Streams bytes old new (Ok _) = AppendsKnown old new bytes
+Streams bytes old new (Err _) = (count : ℕ) × AppendsKnown old new (take count bytes)

@@ -3,17 +3,9 @@ use Rattle.std.specs.Prelude.{◌≡◌, ◌≢◌, ℕ, ℤ, pos, ◌+◌, ◌*
 use Rattle.pf_ints.specs.Meaning.Images.{Picture, pixel}
 use Rattle.pf_values.specs.declared.kernel.ImageDecl.{ImageDecl}
 use Rattle.pf_values.specs.declared.names.Tap.{Tap}
-use Rattle.pf_values.specs.Meaning.Kernels.{Source, Keeps, KeepsRange, width_of, height_of, out_width, out_height}
+use Rattle.pf_values.specs.Meaning.Kernels.{KeepsRange, width_of, height_of, out_width, out_height}
 use Rattle.pf_run.specs.declared.fault.SetFault.{SetFault}
 use Rattle.pf_run.specs.declared.fault.SetFault.TheVariants.{Count, Kind, Size, Pixel, NoOutput}
-
--- the images are such as every kernel of these images and taps asks for
-abbrev pub KeepsAll : List ImageDecl → List Tap → List Picture → Type 0
-KeepsAll images taps pictures = (s : Source) → s.images ≡ images → s.taps ≡ taps → Keeps s pictures
-
--- they are such as no kernel of these images and taps asks for
-abbrev pub KeepsNone : List ImageDecl → List Tap → List Picture → Type 0
-KeepsNone images taps pictures = (s : Source) → s.images ≡ images → s.taps ≡ taps → Keeps s pictures → ⊥
 
 -- a pixel is in the declared range
 abbrev pub IsInRange : ImageDecl → ℕ → Type 0

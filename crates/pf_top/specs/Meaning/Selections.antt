@@ -11,10 +11,9 @@ use Rattle.pf_top.specs.declared.verdict.FileWord.TheVariants.{Kernel, Lift, Low
 use Rattle.pf_top.specs.declared.verdict.Verdict.{Verdict}
 use Rattle.pf_top.specs.declared.verdict.Verdict.TheVariants.{Done, TargetNotBuilt, KernelRefused, NotBuilt, Missing, ReadFailed, WriteFailed, Memory}
 use Rattle.pf_top.specs.Meaning.KernelFiles.{IsKernelFile, RefusesKernel}
-use Rattle.pf_top.specs.Meaning.MinOfTaps.{IsMinOfTaps}
 use Rattle.pf_images.specs.Meaning.Outside.{Contents, SameContents, Puts, PutsPart}
 use Rattle.pf_top.specs.Meaning.StoreCalls.{Store, Calls, Well, Lacking, Failing, Wanting, StoreAfter, FileStartsWith}
-use Rattle.pf_top.specs.Meaning.Selected.{IsSelected}
+use Rattle.pf_select.specs.Meaning.Targets.{IsBuilt, IsSelectedOn}
 use Rattle.pf_top.specs.Meaning.Statuses.{line_end}
 
 -- the words behind `select`
@@ -60,9 +59,9 @@ limit Kernel = byte_limit
 limit Lift = rule_limit
 limit Lower = rule_limit
 
--- a text is selected for this kernel: it is the lesser of two taps
+-- a text is selected for this kernel
 abbrev pub IsSelectableKernel : Meaning → Type 0
-IsSelectableKernel k = (first second : ℕ) × IsMinOfTaps k.source first second
+IsSelectableKernel k = IsBuilt Neon k.source
 
 -- the bytes of a file that are judged are those up to one past its limit: they have the form that is asked of it
 abbrev pub HasForm : FileWord → List ℕ → Type 0
@@ -94,13 +93,14 @@ Reaches s files Kernel = Unit {0}
 Reaches s files Lift = FileFits s files Kernel
 Reaches s files Lower = FileFits s files Kernel × FileFits s files Lift
 
--- the text is one for the kernel that the kernel file spells, and the rule files have their forms
+-- the text is one for the kernel that the kernel file spells, for which one is selected, and the rule files have their forms
 pub record Selects (s : Select) (files : Contents) (bytes : List ℕ) : Type 0 where
   pub kernel : Meaning
   pub spelled : OfJudged s Kernel (IsKernelFile kernel) files
   pub lift : FileFits s files Lift
   pub lower : FileFits s files Lower
-  pub selected : IsSelected kernel.source bytes
+  pub taken : IsSelectableKernel kernel
+  pub selected : IsSelectedOn Neon kernel.source bytes
 
 -- what the store held where the call came to this verdict, and what it holds after it
 abbrev pub Effect : Select → Verdict → Contents → Contents → Type 0

@@ -52,12 +52,12 @@ pub record Reported (d : Report) (before : Output) (answer : ℕ) (after : Outpu
   pub faults : after.faults ≡ before.faults
   pub calls : after.calls ≡ raised before.calls
 
--- the output failed: 4 was answered, and a prefix of the report was put
+-- the output failed: 4 was answered, and a prefix of the line was put, by one call, or one of the line on want of memory
 pub record OutputFailed (d : Report) (before : Output) (answer : ℕ) (after : Output) : Type 0 where
   pub status : answer ≡ 4
-  pub written : Changes (λ old new. AppendsPart d.line old new ⊎ AppendsPart d.poor_line old new) before.written after.written
+  pub put : (Changes (AppendsPart d.line) before.written after.written × (after.calls ≡ raised before.calls))
+      ⊎ (Changes (AppendsPart d.poor_line) before.written after.written × RaisedUpTo 2 before.calls after.calls)
   pub faults : Rose before.faults after.faults
-  pub calls : RaisedUpTo 2 before.calls after.calls
 
 -- memory was wanting for the line
 pub record MemoryWanted (d : Report) (before : Output) (answer : ℕ) (after : Output) : Type 0 where

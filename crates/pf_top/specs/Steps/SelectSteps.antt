@@ -16,7 +16,8 @@ use Rattle.pf_top.specs.declared.verdict.FileWord.{FileWord}
 use Rattle.pf_top.specs.declared.verdict.FileWord.TheVariants.{Kernel}
 use Rattle.pf_top.specs.declared.verdict.Verdict.{Verdict}
 use Rattle.pf_top.specs.declared.verdict.Verdict.TheVariants.{Done, KernelRefused, NotBuilt, Missing, ReadFailed, WriteFailed, Memory}
-use Rattle.pf_top.specs.Meaning.Selections.{Select}
+use Rattle.pf_kernel.specs.Meaning.Kernels.{Meaning}
+use Rattle.pf_top.specs.Meaning.Selections.{Select, IsSelectableKernel}
 
 -- the words that were lent
 abbrev pub the_words : Selection → Select
@@ -68,3 +69,9 @@ piece_text (Word word) = word.now
 piece_text (Number n) = decimal n
 piece_text (Whole n) = signed_decimal n
 piece_text (TypeWord ty) = type_word ty
+
+-- the kernel was read, and no text is selected for it, or memory was wanting
+abbrev pub Unselected : Meaning → Verdict → Type 0
+Unselected k Memory = Unit {0}
+Unselected k (NotBuilt Kernel) = IsSelectableKernel k → ⊥
+Unselected k _ = ⊥

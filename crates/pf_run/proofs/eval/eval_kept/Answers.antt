@@ -31,8 +31,8 @@ new-requires-3 c =
     subst (λ ty. IsPicture (record { width = r.columns; height = r.rows; ty = ty; pixels = c.from_vec-pixels.result })) (sym c.out_ty.ensures)
     (picture_is s pictures r c.from_vec-pixels.result of c.names.ensures.kept.out_ty are members)
 
-pub returns : goal.returns
-returns c =
+pub returns-clause-out : goal.returns-clause-out
+returns-clause-out c =
     let s = c.args.kernel.now.source in
     let pictures = c.args.images.now in
     let r = c.reach_of-reach.result in
@@ -43,3 +43,16 @@ returns c =
     subst (λ o. Out s pictures o) (sym c.new-3.ensures)
     (subst (λ ty. Out s pictures (record { width = r.columns; height = r.rows; ty = ty; pixels = c.from_vec-pixels.result })) (sym c.out_ty.ensures)
     (output_is s pictures r c.from_vec-pixels.result of are positive))
+
+pub returns-clause-picture : goal.returns-clause-picture
+returns-clause-picture c =
+    let s = c.args.kernel.now.source in
+    let pictures = c.args.images.now in
+    let r = c.reach_of-reach.result in
+    let of = subst (λ ts. IsReach ts pictures r) (c.as_slice-taps.ensures ∙ ap (λ n. n.taps) c.names.ensures.value) c.reach_of-reach.ensures in
+    let last : c.rows.y ≡ r.rows = omega arith in
+    let are = c.from_vec-pixels.ensures ∙ c.rows.invariant.values ∙ ap (image_values (out_number s pictures) r.columns) last in
+    let members = subst (λ l. All (λ n. IsIn s.out_ty (pos n)) l) (sym c.from_vec-pixels.ensures) c.rows.invariant.members in
+    subst IsPicture (sym c.new-3.ensures)
+    (subst (λ ty. IsPicture (record { width = r.columns; height = r.rows; ty = ty; pixels = c.from_vec-pixels.result })) (sym c.out_ty.ensures)
+    (picture_is s pictures r c.from_vec-pixels.result of c.names.ensures.kept.out_ty are members))

@@ -40,4 +40,4 @@ returns g c =
     let of_program = subst (λ n. IsPlanOf p.head n pictures plan) (c.len-instructions.ensures ∙ ap length c.code.ensures) of_head in
     let ends = subst (λ q. RowsAnswer (run_end g.I.Isa.table q pictures) plan.budget (Ok c.in_default.field-0) rs) c.in_ok-machine.ensures.text c.in_default.ensures.value in
     let o = c.in_ok-image.ensures in
-    ran g.I.Isa.table p pictures c.head.ensures.kept.head c.requires.keeps plan of_program rs ends (length pictures + 2) refl c.in_ok-image.image o.ty o.width o.height o.pixels
+    ran g.I.Isa.table p pictures c.head.ensures.kept.head c.requires.keeps plan of_program rs ends (length pictures + 2) refl c.in_ok-image.image o.picture o.ty o.width o.height o.pixels

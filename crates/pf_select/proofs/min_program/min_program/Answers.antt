@@ -1,8 +1,8 @@
 use Rattle.std.proofs.Common.{◌≡◌, ◌∙◌, ap, subst}
 use Rattle.pf_neon.specs.Meaning.Neon.{table}
 use Rattle.pf_rows.specs.Meaning.BlockRows.{IsRowBlock, LeavesLanes, block_cost}
-use Rattle.pf_top.proofs.MinBlock.{is_row_block, leaves_least}
-use Rattle.pf_top.proofs.min_program.min_program.Goals as goal
+use Rattle.pf_select.proofs.MinBlock.{is_row_block, leaves_least}
+use Rattle.pf_select.proofs.min_program.min_program.Goals as goal
 
 pub row_program-requires : goal.row_program-requires
 row_program-requires c = rw c.in_ok-block.ensures (0, is_row_block c.args.head c.args.first c.args.second c.requires)

@@ -1,7 +1,7 @@
 ghost use Rattle.std.specs.Prelude.{◌≡◌, ◌+◌, ◌*◌, ◌/◌, ◌≤◌, [], ◌∷◌, codes, length, IfOk};
 ghost use Rattle.pf_rows.specs.Meaning.Scratch.{scratch_bytes};
-ghost use Rattle.pf_top.specs.Meaning.MinOfTaps.{IsMinOfTaps};
-ghost use Rattle.pf_top.specs.Meaning.Selected.{IsSelected, output_of, head_of};
+ghost use Rattle.pf_select.specs.Meaning.MinOfTaps.{IsMinOfTaps};
+ghost use Rattle.pf_select.specs.Meaning.Selected.{IsSelected, output_of, head_of};
 
 use crate::min_program::min_program;
 use crate::operands::Operands;

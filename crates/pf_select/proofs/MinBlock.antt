@@ -33,7 +33,7 @@ use Rattle.pf_neon.specs.declared.op.Lanes.TheVariants.{Bytes}
 use Rattle.pf_neon.specs.Meaning.Instructions.{lanewise}
 use Rattle.pf_neon.specs.Meaning.Neon.{table}
 use Rattle.pf_rows.specs.Meaning.BlockRows.{tap_widths, tap_pixel, IsRowBlock, IsBlockItem, LeavesLanes, StoresEach}
-use Rattle.pf_top.specs.Meaning.MinOfTaps.{byte_type, min_term, min_source, min_block, HasTaps, LeavesMin}
+use Rattle.pf_select.specs.Meaning.MinOfTaps.{byte_type, min_term, min_source, min_block, HasTaps, LeavesMin}
 
 -- ---- what the block stores
 abbrev lesser : ℕ → ℕ → ℕ

@@ -1,14 +1,16 @@
 -- The texts that are selected for a kernel.
 use Rattle.std.specs.Prelude.{◌≡◌, ℕ, List, [], ◌∷◌, ◌++◌, length, codes}
-use Rattle.pf_ints.specs.declared.target.Target.TheVariants.{Neon}
+use Rattle.pf_ints.specs.declared.target.Target.TheVariants.{Neon as OnNeon}
 use Rattle.pf_values.specs.declared.kernel.Definition.{Definition}
 use Rattle.pf_values.specs.Meaning.Kernels.{Source}
 use Rattle.pf_machine.specs.declared.program.Head.{Head}
 use Rattle.pf_machine.specs.Meaning.Moved.{Moved, Work}
 use Rattle.pf_isa.specs.Meaning.Texts.{printed, head_lines, code_lines}
+use Rattle.pf_neon.specs.declared.neon.Neon.{Neon}
+use Rattle.pf_neon.specs.Meaning.Instructions.{IsNeonInstruction}
 use Rattle.pf_neon.specs.Meaning.Neon.{table}
 use Rattle.pf_rows.specs.Meaning.Scratch.{scratch_bytes}
-use Rattle.pf_top.specs.Meaning.Headline.{Headline}
+use Rattle.pf_isa.specs.Meaning.Headline.{Headline}
 
 abbrev pub output_of : Source → Definition
 output_of s = record { name = codes "out"; ty = s.out_ty; term = s.out }
@@ -28,8 +30,8 @@ head_of s = record {
 -- comment more, its program has just this head, its control instructions compute with no pixel, and its vector instructions cost
 -- what the head says.
 pub record IsSelected (s : Source) (text : List ℕ) : Type 0 where
-  pub headline : Headline s text
-  pub spelled : text ≡ printed (head_lines Neon headline.program.head ++ code_lines table 0 headline.program.code headline.program.labels)
+  pub headline : Headline Neon table IsNeonInstruction s text
+  pub spelled : text ≡ printed (head_lines OnNeon headline.program.head ++ code_lines table 0 headline.program.code headline.program.labels)
   pub head : headline.program.head ≡ head_of s
   pub moved : Moved table (length headline.program.head.taps) headline.program.code headline.program.labels
   pub work : Work table headline.program.code ≡ headline.program.head.cost

@@ -15,9 +15,9 @@ use Rattle.pf_neon.specs.declared.neon.Neon.{Neon}
 use Rattle.pf_neon.specs.declared.op.Instruction.{Instruction}
 use Rattle.pf_neon.specs.Meaning.Instructions.{IsNeonInstruction}
 use Rattle.pf_neon.specs.Meaning.Neon.{table}
-use Rattle.pf_top.specs.Meaning.MinOfTaps.{byte_type, min_term, min_source, IsMinOfTaps, LeavesMin}
-use Rattle.pf_top.specs.Meaning.Headline.{Headline}
-use Rattle.pf_top.specs.Meaning.Selected.{IsSelected, head_of}
+use Rattle.pf_select.specs.Meaning.MinOfTaps.{byte_type, min_term, min_source, IsMinOfTaps, LeavesMin}
+use Rattle.pf_isa.specs.Meaning.Headline.{Headline}
+use Rattle.pf_select.specs.Meaning.Selected.{IsSelected, head_of}
 
 abbrev with_parts : Source → List Definition → LaneType → Term → Source
 with_parts s ds ty t = record { images = s.images; taps = s.taps; defs = ds; out_ty = ty; out = t }
@@ -34,7 +34,7 @@ abbrev LeavesOut : Source → ProgramOf Neon Instruction → Type 0
 LeavesOut s p = (pictures : List Picture) → Keeps s pictures
     → (o : Picture) × Out s pictures o × ((at : Places) (scratch output : List ℕ) → IsPlaced p.head pictures at scratch output → Leaves table p pictures at scratch output o)
 
-headline_at : (s : Source) (text : List ℕ) (p : ProgramOf Neon Instruction) (first second : ℕ) → IsMinOfTaps s first second → p.head ≡ head_of s → LeavesMin p first second → IsText table IsNeonInstruction text p → Headline s text
+headline_at : (s : Source) (text : List ℕ) (p : ProgramOf Neon Instruction) (first second : ℕ) → IsMinOfTaps s first second → p.head ≡ head_of s → LeavesMin p first second → IsText table IsNeonInstruction text p → Headline Neon table IsNeonInstruction s text
 headline_at s text p first second least is leaves parses =
     let same : min_source p.head first second ≡ s = ap (λ h. min_source h first second) is ∙ least_is s first second least in
     record {

@@ -1,6 +1,6 @@
-use Rattle.pf_top.proofs.HeadLaws.{head_taps}
-use Rattle.pf_top.proofs.HeadlineLaws.{IsMade, selected_from}
-use Rattle.pf_top.proofs.selected.text_of.Goals as goal
+use Rattle.pf_select.proofs.HeadLaws.{head_taps}
+use Rattle.pf_select.proofs.HeadlineLaws.{IsMade, selected_from}
+use Rattle.pf_select.proofs.selected.text_of.Goals as goal
 
 pub min_program-requires : goal.min_program-requires
 min_program-requires c = rw c.in_ok-head.ensures (head_taps c.args.kernel.now _ _ c.names-names.ensures.kept c.requires)

@@ -1,5 +1,5 @@
 ghost use Rattle.std.specs.Prelude.{◌≡◌, ◌↔◌, ◌<◌, ℕ, All, MatchOption, length, true};
-ghost use Rattle.pf_top.specs.Meaning.MinOfTaps.{byte_type, tap_term, min_term, AreTapsOf, IsMinOfTaps};
+ghost use Rattle.pf_select.specs.Meaning.MinOfTaps.{byte_type, tap_term, min_term, AreTapsOf, IsMinOfTaps};
 
 use pf_ints::LaneType;
 use pf_kernel::Kernel;

@@ -1,7 +1,7 @@
 ghost use Rattle.std.specs.Prelude.{◌≡◌, IfOk, length};
 ghost use Rattle.pf_machine.specs.Meaning.Moved.{Moved, Work};
 ghost use Rattle.pf_neon.specs.Meaning.Neon.{table};
-ghost use Rattle.pf_top.specs.Meaning.MinOfTaps.{HasTaps, LeavesMin, min_block};
+ghost use Rattle.pf_select.specs.Meaning.MinOfTaps.{HasTaps, LeavesMin, min_block};
 
 use pf_ints::{Memory, Sequence};
 use pf_isa::{Block, Head, Item, Program};

@@ -1,0 +1,3 @@
+pub mod MinBlock
+pub mod HeadLaws
+pub mod HeadlineLaws

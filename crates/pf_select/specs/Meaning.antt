@@ -1,0 +1,3 @@
+pub mod MinOfTaps
+pub mod Selected
+pub mod Targets
