@@ -4,7 +4,9 @@
 mod frame;
 mod line;
 mod lines;
+mod read;
 mod register;
 
 pub use line::{Numbers, Spelling, TableLine};
 pub use lines::{Lines, Parts};
+pub use read::{parsed_control, parsed_op, printed_control, printed_line};

@@ -1,15 +1,10 @@
-ghost use Rattle.std.specs.Prelude.{◌≡◌, ◌<◌, ◌≤◌, ◌↔◌, ℕ, IsTrue, MatchOption, IfSome, Bool, length, if◌then◌else◌, true, false};
-ghost use Rattle.pf_machine.specs.Meaning.Tables.{Table, IsOver, ReadsOp, ReadsControl};
-ghost use Rattle.pf_frames.specs.Meaning.LineTables.{LineTable, Jumps, Around, frame, text_of, spelled, control_text_of, jump_text};
+ghost use Rattle.std.specs.Prelude.{◌≡◌, ◌<◌, ◌≤◌, ◌↔◌, IsTrue, IfSome, length};
+ghost use Rattle.pf_machine.specs.Meaning.Tables.{Table, IsOver};
+ghost use Rattle.pf_frames.specs.Meaning.LineTables.{LineTable, Jumps, around};
 ghost use Rattle.pf_frames.specs.declared.line.TableLine.{TableLine};
 ghost use Rattle.pf_frames.specs.Meaning.Laws.{IsLineTable, IsTableLine, IsPrintedBy};
-ghost use Rattle.pf_frames.specs.Steps.Reading.{Reads, read_at, Guesses, GuessesControl};
 
-use crate::frame::{filled, matched};
 use crate::line::{Spelling, TableLine};
-use pf_ints::Name;
-use pf_machine::{Control, Ctl, checked};
-use pf_text::{ShortLine, behind, tighten};
 
 /// A frame of a table.
 #[derive(Clone, Copy)]
@@ -71,8 +66,8 @@ pub trait Lines {
 
     /// What stands before and behind the label of a jump where the flag is set, or of one in any case.
     fn around(below: bool) -> (&'static [u8], &'static [u8])
-        ensures front { result.0.now ≡ (if below then jumps.below.front else jumps.onward.front) }
-        ensures back { result.1.now ≡ (if below then jumps.below.back else jumps.onward.back) };
+        ensures front { result.0.now ≡ (around jumps below).front }
+        ensures back { result.1.now ≡ (around jumps below).back };
 
     ghost laws: { IsLineTable lines (IsTableLine table is_op) };
 

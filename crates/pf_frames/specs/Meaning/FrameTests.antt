@@ -92,7 +92,7 @@ all_below test (suc n) = test n && all_below test n
 abbrev pub is_line_frame : List ℕ → List ℕ → Bool
 is_line_frame word pattern =
     let whole = word ++ pattern in
-    is_solid word && begins_solid whole && is_spaced true whole && is_parted (bare false whole) && is_plain whole && ends_well false (bare false whole)
+    begins_solid whole && is_spaced true whole && is_parted (bare false whole) && is_plain whole && ends_well false (bare false whole)
 
 -- a text in which each blank counts, and stays where something solid follows
 abbrev pub is_kept : Bool → List ℕ → Bool

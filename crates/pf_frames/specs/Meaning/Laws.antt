@@ -9,15 +9,15 @@ use Rattle.pf_frames.specs.declared.line.TableLine.TheVariants.{Vector, Control 
 use Rattle.pf_frames.specs.declared.line.Spelling.{Spelling}
 use Rattle.pf_frames.specs.Meaning.Frames.{marks, are_operands}
 use Rattle.pf_frames.specs.Meaning.LineTables.{LineTable, Jumps, frame, text_of, others, control_text_of}
-use Rattle.pf_frames.specs.Meaning.FrameTests.{bare, frames_below, are_all_apart, all_below, is_line_frame, begins_apart, is_forked, is_around}
+use Rattle.pf_frames.specs.Meaning.FrameTests.{bare, frames_below, are_all_apart, all_below, is_line_frame, is_solid, begins_apart, is_forked, is_around}
 
 -- the frame at a place, where there is one, is such as a line may have
 abbrev pub is_good_at : {X : Type 0} → LineTable X → ℕ → Bool
 is_good_at l place = not (l.is place) || is_line_frame (l.word place) (l.pattern place)
 
--- the frame at a place has at most 40 bytes, four of them marks
+-- what is at a place has a word in front, and at most 40 bytes, four of them marks
 abbrev pub is_short_at : {X : Type 0} → LineTable X → ℕ → Bool
-is_short_at l place = nat_le (length (frame l place)) 40 && nat_le (length (marks (frame l place))) 4
+is_short_at l place = is_solid (l.word place) && nat_le (length (frame l place)) 40 && nat_le (length (marks (frame l place))) 4
 
 -- the spelling has operands for the marks of a frame of the table, and is read as the line
 pub record IsSpellingOf {X : Type 0} (l : LineTable X) (x : X) (s : Spelling) : Type 0 where

@@ -1,5 +1,5 @@
 -- A table of lines: the frames of instructions, and which instruction is printed by which frame and operands.
-use Rattle.std.specs.Prelude.{ℕ, List, [], ◌∷◌, ◌++◌, Bool, Option, Some, None}
+use Rattle.std.specs.Prelude.{ℕ, List, [], ◌∷◌, ◌++◌, Bool, true, false, Option, Some, None}
 use Rattle.pf_machine.specs.declared.control.Control.{Control}
 use Rattle.pf_machine.specs.declared.control.Control.TheVariants.{Below, Jump}
 use Rattle.pf_frames.specs.declared.line.TableLine.{TableLine}
@@ -41,6 +41,10 @@ pub record Around : Type 0 where
 pub record Jumps : Type 0 where
   pub below : Around
   pub onward : Around
+
+abbrev pub around : Jumps → Bool → Around
+around jumps true = jumps.below
+around jumps false = jumps.onward
 
 abbrev pub jump_text : Around → List ℕ → List ℕ
 jump_text a label = a.front ++ (label ++ a.back)

@@ -4,12 +4,12 @@ use Rattle.std.specs.Option.{option_map}
 use Rattle.std.specs.Str.{bytes_eq}
 use Rattle.pf_machine.specs.declared.control.Control.{Control}
 use Rattle.pf_machine.specs.Meaning.Control.{IsControl}
-use Rattle.pf_text.specs.Meaning.Words.{is_name_byte}
+use Rattle.pf_text.specs.Meaning.Words.{is_name_byte, is_name}
 use Rattle.pf_text.specs.Meaning.Lines.{tight}
 use Rattle.pf_text.specs.Steps.Scan.{behind, number_at, then_with, then_behind}
 use Rattle.pf_frames.specs.declared.line.Spelling.{Spelling}
 use Rattle.pf_frames.specs.Meaning.Frames.{is_mark, register_words}
-use Rattle.pf_frames.specs.Meaning.LineTables.{LineTable, Jumps, spelled, control_text_of}
+use Rattle.pf_frames.specs.Meaning.LineTables.{LineTable, Jumps, Around, around, jump_text, spelled, control_text_of}
 use Rattle.pf_frames.specs.declared.line.TableLine.{TableLine}
 use Rattle.pf_frames.specs.Meaning.FrameTests.{bare}
 
@@ -65,9 +65,15 @@ IsSpelledAs l x s = (s ≡ l.printed x) ⊎ (l.also x ≡ Some s)
 abbrev pub IsTightLine : {X : Type 0} → LineTable X → X → List ℕ → Type 0
 IsTightLine l x line = (s : Spelling) × IsSpelledAs l x s × (line ≡ tight (spelled l s))
 
--- the line that a tight line can be alone
-abbrev pub Guesses : {X : Type 0} → LineTable X → (X → Type 0) → List ℕ → Option X → Type 0
-Guesses {X} l is_line line r = (x : X) → is_line x → IsTightLine l x line → r ≡ Some x
+-- the line that a tight line can be alone; a jump's line is none
+pub record Guesses {X : Type 0} (l : LineTable X) (j : Jumps) (is_line : X → Type 0) (line : List ℕ) (r : Option X) : Type 0 where
+  pub line : (x : X) → is_line x → IsTightLine l x line → r ≡ Some x
+  pub jump : (below : Bool) (t : List ℕ) → line ≡ (around j below).front ++ t → r ≡ None
+
+-- the label of a jump that a tight line can be alone, where it begins as one
+pub record GuessesLabel (a : Around) (line : List ℕ) (r : Option (List ℕ)) : Type 0 where
+  pub label : (label : List ℕ) → is_name label ≡ true → line ≡ jump_text a label → r ≡ Some label
+  pub front : ((t : List ℕ) → line ≡ a.front ++ t → ⊥) → r ≡ None
 
 -- the control instruction that a tight line can be alone
 abbrev pub GuessesControl : {O : Type 0} → LineTable (TableLine O) → Jumps → List ℕ → Option Control → Type 0
