@@ -1,12 +1,10 @@
 -- A filled frame without the blanks that don't count is the bare frame, filled; its operands are read back; no other frame matches it.
-use Rattle.std.proofs.Common.{◌≡◌, ℕ, zero, suc, ◌+◌, ◌*◌, ◌^◌, ◌<◌, ◌≤◌, List, [], ◌∷◌, ◌++◌, length, get_or, Bool, true, false, not, ◌&&◌, ◌||◌, ◌==◌, nat_lt, Some, None, refl, arith, ap, sym, ◌∙◌, append_assoc, length-append, ⊎_elim}
-use Rattle.std.specs.List.{list_all}
+use Rattle.std.proofs.Common.{◌≡◌, ℕ, zero, suc, ◌+◌, ◌*◌, ◌≤◌, List, [], ◌∷◌, ◌++◌, length, get_or, Bool, true, false, not, ◌&&◌, ◌||◌, ◌==◌, nat_lt, Some, None, refl, arith, ap, sym, ◌∙◌, append_assoc, length-append, ⊎_elim}
 use Rattle.std.proofs.lemmas.List.{append-nil}
 use Rattle.std.proofs.lemmas.Bool.{and_parts, cases_Bool, ltb-true}
 use Rattle.std.proofs.lemmas.Bool.Decides.{nat_tests}
 use Rattle.pf_text.specs.Meaning.Words.{is_name_byte}
 use Rattle.pf_text.specs.Meaning.Lines.{is_blank, tight_on, tight_pending}
-use Rattle.pf_text.specs.Steps.Scan.{behind}
 use Rattle.pf_text.proofs.TightLaws.{IsSolid, front_kept, solid_name}
 use Rattle.pf_frames.specs.Meaning.Frames.{is_mark, limit, operand, filled, marks, are_operands}
 use Rattle.pf_frames.specs.Meaning.FrameTests.{bare, begins_solid, is_spaced, begins_plain, is_parted, begins_operand, are_apart}

@@ -1,5 +1,5 @@
 -- A filled frame is a line of an instruction.
-use Rattle.std.proofs.Common.{◌≡◌, ◌≢◌, ℕ, zero, suc, ◌<◌, ◌≤◌, List, [], ◌∷◌, ◌++◌, All, Bool, true, false, not, ◌&&◌, ◌==◌, length, Option, Some, None, arith, ◌∙◌, ap, ⊎_elim}
+use Rattle.std.proofs.Common.{◌≡◌, ◌≢◌, ℕ, ◌≤◌, List, [], ◌∷◌, ◌++◌, All, Bool, true, false, not, ◌&&◌, ◌==◌, length, Option, Some, None, arith, ⊎_elim}
 use Rattle.std.specs.List.{last_or, list_all}
 use Rattle.std.proofs.lemmas.List.Elements.{All-nil, All-cons, All-append}
 use Rattle.std.proofs.lemmas.Bool.{and_parts, cases_Bool}

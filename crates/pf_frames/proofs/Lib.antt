@@ -5,3 +5,4 @@ pub mod InstructionLaws
 pub mod ReadLaws
 pub mod JumpLaws
 pub mod TextLaws
+pub mod GuessLaws

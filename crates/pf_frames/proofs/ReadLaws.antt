@@ -1,5 +1,5 @@
 -- What a table prints is read back, and as nothing else.
-use Rattle.std.proofs.Common.{◌≡◌, ℕ, zero, suc, ◌+◌, ◌*◌, ◌<◌, ◌≤◌, List, [], ◌∷◌, ◌++◌, Bool, true, false, not, ◌&&◌, ◌||◌, nat_le, nat_lt, length, Option, Some, None, MatchOption, refl, arith, ap, sym, ◌∙◌, subst, length-append, append_assoc, ⊎_elim}
+use Rattle.std.proofs.Common.{◌≡◌, ℕ, suc, ◌+◌, ◌<◌, ◌≤◌, List, [], ◌∷◌, ◌++◌, Bool, true, false, not, ◌&&◌, ◌||◌, nat_le, nat_lt, length, Option, Some, None, MatchOption, refl, arith, ap, sym, ◌∙◌, subst, ⊎_elim}
 use Rattle.std.proofs.lemmas.Bool.{and_parts, cases_Bool, cases_eq, leb-true}
 use Rattle.pf_text.specs.Meaning.Lines.{tight, IsInstruction}
 use Rattle.pf_text.specs.Steps.Scan.{behind, then_behind}

@@ -1,5 +1,5 @@
 -- What every set of instructions owes of its texts, for one that is printed by a table of lines.
-use Rattle.std.proofs.Common.{◌≡◌, ◌≢◌, ℕ, zero, suc, ◌<◌, List, [], ◌∷◌, ◌++◌, Bool, true, false, not, ◌&&◌, ◌||◌, length, Option, Some, None, refl, arith, ap, sym, ◌∙◌, subst, inl, inr, ⊎_elim}
+use Rattle.std.proofs.Common.{◌≡◌, ℕ, zero, suc, ◌<◌, ◌≤◌, List, [], ◌∷◌, ◌++◌, Bool, true, false, not, ◌&&◌, ◌||◌, length, Option, Some, None, refl, arith, ap, sym, ◌∙◌, subst, inl, inr, ⊎_elim}
 use Rattle.std.specs.Prelude.{◌⊎◌, Contains}
 use Rattle.std.proofs.lemmas.Bool.{and_parts, cases_Bool}
 use Rattle.pf_machine.specs.declared.control.Control.{Control}
@@ -12,18 +12,13 @@ use Rattle.pf_text.proofs.TightLaws.{length-tight}
 use Rattle.pf_frames.specs.declared.line.Spelling.{Spelling}
 use Rattle.pf_frames.specs.declared.line.TableLine.{TableLine}
 use Rattle.pf_frames.specs.declared.line.TableLine.TheVariants.{Vector, Control as Controls}
-use Rattle.pf_frames.specs.Meaning.LineTables.{LineTable, Jumps, Around, frame, spelled, text_of, others, around, jump_text, control_text_of}
+use Rattle.pf_frames.specs.Meaning.LineTables.{LineTable, Jumps, frame, spelled, text_of, others, around, jump_text, control_text_of}
 use Rattle.pf_frames.specs.Meaning.FrameTests.{bare, begins_apart}
-use Rattle.pf_frames.specs.Meaning.Laws.{IsLineTable, IsTableLine, IsPrintedBy, IsSpellingOf, is_no_jump_at}
-use Rattle.pf_frames.specs.Steps.Reading.{matched, then_made, read_frame, read_at, Reads, IsSpelledAs, IsTightLine, Guesses, GuessesControl, GuessesLabel}
+use Rattle.pf_frames.specs.Meaning.Laws.{IsLineTable, IsTableLine, IsPrintedBy, is_no_jump_at}
+use Rattle.pf_frames.specs.Steps.Reading.{matched, then_made, read_frame, read_at, Reads, IsSpelledAs, IsTightLine, jump_of, Guesses}
 use Rattle.pf_frames.proofs.OperandLaws.{all_below_at}
-use Rattle.pf_frames.proofs.ReadLaws.{frame_read, printed, read_here, spelling_of, reads_line, same_line, no_long_line, instruction_line, short_line}
+use Rattle.pf_frames.proofs.ReadLaws.{frame_read, printed, read_here, spelling_of, reads_line, same_line, instruction_line, short_line}
 use Rattle.pf_frames.proofs.JumpLaws.{AroundFacts, around_facts, IsLabel, label_is, jump_tight, length-jump, jump_instruction, matched_front, forked_apart, same_label}
-
--- the jump of a kind to a label
-abbrev pub jump_of : Bool → List ℕ → Control
-jump_of true label = Below label
-jump_of false label = Jump label
 
 pub record IsJump (c : Control) : Type 0 where
   pub below : Bool
@@ -41,7 +36,7 @@ unless true b h e = h
 unless false b h e = absurd (cc)
 
 module _ {O : Type 0} (t : Table O) (is_op : O → Type 0) (l : LineTable (TableLine O)) (j : Jumps) (laws : IsLineTable l (IsTableLine t is_op)) (texts : IsPrintedBy l j t) where
-  around_is : (below : Bool) → AroundFacts (around j below)
+  pub around_is : (below : Bool) → AroundFacts (around j below)
   around_is true = around_facts j.below texts.below
   around_is false = around_facts j.onward texts.onward
 
@@ -116,6 +111,7 @@ module _ {O : Type 0} (t : Table O) (is_op : O → Type 0) (l : LineTable (Table
     both =
         and_parts (begins_apart (bare false (frame l place)) j.below.front) (begins_apart (bare false (frame l place)) j.onward.front)
         (unless (l.is place) (begins_apart (bare false (frame l place)) j.below.front && begins_apart (bare false (frame l place)) j.onward.front) (all_below_at (is_no_jump_at l j) l.places place texts.no_jump inside) here)
+
     by : (below : Bool) → begins_apart (bare false (frame l place)) (around j below).front ≡ true
     by true = both.0
     by false = both.1
@@ -138,8 +134,8 @@ module _ {O : Type 0} (t : Table O) (is_op : O → Type 0) (l : LineTable (Table
 
   pub guesses : (line : List ℕ) (r : Option (TableLine O)) → Reads l line r → Guesses l j (IsTableLine t is_op) line r
   guesses line r reads = record {
-    line = λ x is tight_line. reads_line l (IsTableLine t is_op) laws x line r is tight_line reads;
-    jump = λ below rest e. reads_no_jump below line rest r e reads;
+    of_line = λ x is tight_line. reads_line l (IsTableLine t is_op) laws x line r is tight_line reads;
+    of_jump = λ below rest e. reads_no_jump below line rest r e reads;
   }
 
   -- no table line is a jump's
@@ -159,8 +155,8 @@ module _ {O : Type 0} (t : Table O) (is_op : O → Type 0) (l : LineTable (Table
   other_jump true false label last e = absurd (forked_apart j.below.front j.onward.front (label ++ j.below.back) (last ++ j.onward.back) texts.forked e)
   other_jump false true label last e = absurd (forked_apart j.below.front j.onward.front (last ++ j.below.back) (label ++ j.onward.back) texts.forked (sym e))
 
-  same_control : (c d : Control) → Controls {O} c ≡ Controls d → c ≡ d
-  same_control c d e = cc
+  same_control : (c d : Control) (x y : TableLine O) → x ≡ Controls c → y ≡ Controls d → x ≡ y → c ≡ d
+  same_control c d x y is other e = cc
 
   one_text : (c d : Control) → IsControl c → IsControl d → tight (control_text_of l j c) ≡ tight (control_text_of l j d) → c ≡ d
   one_text c d is other e =
@@ -171,7 +167,7 @@ module _ {O : Type 0} (t : Table O) (is_op : O → Type 0) (l : LineTable (Table
       (λ (g : IsFramed d).
       let v = l.printed (Controls d) in
       let same : tight (spelled l u) ≡ tight (spelled l v) = ap tight (sym f.text) ∙ (e ∙ ap tight g.text) in
-      same_control c d
+      same_control c d (Controls c) (Controls d) refl refl
       (same_line l (IsTableLine t is_op) laws (Controls c) (Controls d) u v
       (spelling_of l (IsTableLine t is_op) laws (Controls c) u f.line (inl refl)) (spelling_of l (IsTableLine t is_op) laws (Controls d) v g.line (inl refl)) same))
       (λ (g : IsJump d).
@@ -205,8 +201,8 @@ module _ {O : Type 0} (t : Table O) (is_op : O → Type 0) (l : LineTable (Table
       (λ (f : IsFramed c).
       let v = l.printed (Controls c) in
       let same : Vector op ≡ Controls c =
-          same_line l (IsTableLine t is_op) laws (Vector op) (Controls c) u.0 v
-          (spelling_of l (IsTableLine t is_op) laws (Vector op) u.0 (is, over) u.1) (spelling_of l (IsTableLine t is_op) laws (Controls c) v f.line (inl refl)) (e ∙ ap tight f.text) in
+      same_line l (IsTableLine t is_op) laws (Vector op) (Controls c) u.0 v
+      (spelling_of l (IsTableLine t is_op) laws (Vector op) u.0 (is, over) u.1) (spelling_of l (IsTableLine t is_op) laws (Controls c) v f.line (inl refl)) (e ∙ ap tight f.text) in
       cc)
       (λ (f : IsJump c).
       let named = label_is f.label f.name in
@@ -236,18 +232,18 @@ module _ {O : Type 0} (t : Table O) (is_op : O → Type 0) (l : LineTable (Table
       let same : length (tight line) ≡ length (tight (control_text_of l j c)) = ap length (means ∙ ap tight (texts.control c)) in
       let tighter = length-tight (control_text_of l j c) in
       let short : length (control_text_of l j c) ≤ 80 =
-          ⊎_elim
-          (λ (f : IsFramed c). rw f.text (short_line l (IsTableLine t is_op) laws (Controls c) (l.printed (Controls c)) (spelling_of l (IsTableLine t is_op) laws (Controls c) (l.printed (Controls c)) f.line (inl refl))))
-          (λ (f : IsJump c). rw (f.is, jump_printed f.below f.label) (length-jump (around j f.below) f.label (around_is f.below) (label_is f.label f.name)))
-          (by_kind c is) in
+      ⊎_elim
+      (λ (f : IsFramed c). rw f.text (short_line l (IsTableLine t is_op) laws (Controls c) (l.printed (Controls c)) (spelling_of l (IsTableLine t is_op) laws (Controls c) (l.printed (Controls c)) f.line (inl refl))))
+      (λ (f : IsJump c). rw (f.is, jump_printed f.below f.label) (length-jump (around j f.below) f.label (around_is f.below) (label_is f.label f.name)))
+      (by_kind c is) in
       absurd (omega arith)
 
   -- a control instruction that is a line of the table is read by a frame, a jump by its front
   pub guesses_framed : (c : Control) (line : List ℕ) (r : Option (TableLine O)) → IsFramed c → Guesses l j (IsTableLine t is_op) line r → line ≡ tight (control_text_of l j c) → r ≡ Some (Controls c)
-  guesses_framed c line r f g e = g.line (Controls c) f.line (l.printed (Controls c), inl refl, e ∙ ap tight f.text)
+  guesses_framed c line r f g e = g.of_line (Controls c) f.line (l.printed (Controls c), inl refl, e ∙ ap tight f.text)
 
   pub jump_line_is : (c : Control) (line : List ℕ) (f : IsJump c) → line ≡ tight (control_text_of l j c) → line ≡ jump_text (around j f.below) f.label
   jump_line_is c line f e = e ∙ (ap (λ c. tight (control_text_of l j c)) f.is ∙ tight_jump f.below f.label (label_is f.label f.name))
 
   pub guesses_jump : (c : Control) (line : List ℕ) (r : Option (TableLine O)) (f : IsJump c) → Guesses l j (IsTableLine t is_op) line r → line ≡ tight (control_text_of l j c) → r ≡ None
-  guesses_jump c line r f g e = g.jump f.below (f.label ++ (around j f.below).back) (jump_line_is c line f e)
+  guesses_jump c line r f g e = g.of_jump f.below (f.label ++ (around j f.below).back) (jump_line_is c line f e)

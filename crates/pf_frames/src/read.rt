@@ -1,8 +1,9 @@
 ghost use Rattle.std.specs.Prelude.{◌≡◌, ◌<◌, ◌≤◌, ◌++◌, ◌↔◌, IsTrue, IfSome, MatchOption, length};
+ghost use Rattle.std.specs.Option.{option_map};
 ghost use Rattle.pf_machine.specs.Meaning.Tables.{ReadsOp, ReadsControl};
 ghost use Rattle.pf_frames.specs.Meaning.LineTables.{around, jump_text, text_of, spelled, control_text_of};
 ghost use Rattle.pf_frames.specs.Meaning.Laws.{IsTableLine};
-ghost use Rattle.pf_frames.specs.Steps.Reading.{Reads, read_at, Guesses, GuessesLabel, GuessesControl, IsTightLine};
+ghost use Rattle.pf_frames.specs.Steps.Reading.{Reads, read_at, control_in, Guesses, GuessesLabel, GuessesJump, GuessesControl, IsTightLine};
 
 use crate::frame::{filled, matched};
 use crate::line::{Spelling, TableLine};
@@ -86,13 +87,7 @@ pub fn parsed_op<L: Lines>(line: &[u8]) -> Option<L::Op>
         return None;
     }
     match found {
-        TableLine::Vector(op) => {
-            if L::is_op(&op) {
-                Some(op)
-            } else {
-                None
-            }
-        }
+        TableLine::Vector(op) => { if L::is_op(&op) { Some(op) } else { None } }
         TableLine::Control(_) => None,
     }
 }
@@ -107,18 +102,45 @@ fn label_in<L: Lines>(below: bool, line: &[u8]) -> Option<Name>
     Name::new(label)
 }
 
+fn control_in<O>(found: &Option<TableLine<O>>) -> Option<Control>
+    ensures { result ≡ control_in found.now }
+{
+    match found {
+        Some(TableLine::Control(control)) => Some(*control),
+        _ => None,
+    }
+}
+
+fn onward(label: Option<Name>) -> Option<Control>
+    ensures { result ≡ option_map Control.Jump label }
+{
+    match label {
+        Some(label) => Some(Control::Jump { label }),
+        None => None,
+    }
+}
+
+/// The only jump that a tight line may be.
+fn guess_jump<L: Lines>(line: &[u8]) -> Option<Control>
+    ensures { GuessesJump L.jumps line.now result }
+{
+    let first = label_in::<L>(true, line);
+    let last = label_in::<L>(false, line);
+    match first {
+        Some(label) => Some(Control::Below { label }),
+        None => onward(last),
+    }
+}
+
 /// The only control instruction that a tight line may be.
 fn guess_control<L: Lines>(line: &[u8]) -> Option<Control>
     ensures { GuessesControl L.lines L.jumps line.now result }
 {
-    if let Some(TableLine::Control(control)) = guess::<L>(line) {
-        return Some(control);
+    let found = guess::<L>(line);
+    match control_in(&found) {
+        Some(control) => Some(control),
+        None => guess_jump::<L>(line),
     }
-    if let Some(label) = label_in::<L>(true, line) {
-        return Some(Control::Below { label });
-    }
-    let label = label_in::<L>(false, line)?;
-    Some(Control::Jump { label })
 }
 
 fn jump_line<L: Lines>(below: bool, label: Name) -> ShortLine

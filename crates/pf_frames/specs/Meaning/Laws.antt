@@ -1,5 +1,5 @@
 -- What a target owes of its table of lines. One theorem over it gives what the laws of every set of instructions ask of texts.
-use Rattle.std.specs.Prelude.{◌≡◌, ℕ, ◌<◌, ◌≤◌, Bool, true, false, not, ◌&&◌, ◌||◌, nat_le, length, Option, Some, None, MatchOption}
+use Rattle.std.specs.Prelude.{◌≡◌, ℕ, ◌<◌, Bool, true, false, not, ◌&&◌, ◌||◌, nat_le, length, Some, MatchOption}
 use Rattle.pf_machine.specs.declared.control.Control.{Control}
 use Rattle.pf_machine.specs.declared.control.Control.TheVariants.{Below, Jump}
 use Rattle.pf_machine.specs.Meaning.Control.{IsControl}

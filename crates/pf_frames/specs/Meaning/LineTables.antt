@@ -3,7 +3,7 @@ use Rattle.std.specs.Prelude.{ℕ, List, [], ◌∷◌, ◌++◌, Bool, true, fa
 use Rattle.pf_machine.specs.declared.control.Control.{Control}
 use Rattle.pf_machine.specs.declared.control.Control.TheVariants.{Below, Jump}
 use Rattle.pf_frames.specs.declared.line.TableLine.{TableLine}
-use Rattle.pf_frames.specs.declared.line.TableLine.TheVariants.{Vector, Control as Controls}
+use Rattle.pf_frames.specs.declared.line.TableLine.TheVariants.{Control as Controls}
 use Rattle.pf_frames.specs.declared.line.Spelling.{Spelling}
 use Rattle.pf_frames.specs.Meaning.Frames.{filled}
 

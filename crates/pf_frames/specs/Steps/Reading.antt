@@ -3,6 +3,7 @@ use Rattle.std.specs.Prelude.{◌≡◌, ◌⊎◌, ℕ, zero, suc, ◌^◌, ◌
 use Rattle.std.specs.Option.{option_map}
 use Rattle.std.specs.Str.{bytes_eq}
 use Rattle.pf_machine.specs.declared.control.Control.{Control}
+use Rattle.pf_machine.specs.declared.control.Control.TheVariants.{Below, Jump}
 use Rattle.pf_machine.specs.Meaning.Control.{IsControl}
 use Rattle.pf_text.specs.Meaning.Words.{is_name_byte, is_name}
 use Rattle.pf_text.specs.Meaning.Lines.{tight}
@@ -11,6 +12,7 @@ use Rattle.pf_frames.specs.declared.line.Spelling.{Spelling}
 use Rattle.pf_frames.specs.Meaning.Frames.{is_mark, register_words}
 use Rattle.pf_frames.specs.Meaning.LineTables.{LineTable, Jumps, Around, around, jump_text, spelled, control_text_of}
 use Rattle.pf_frames.specs.declared.line.TableLine.{TableLine}
+use Rattle.pf_frames.specs.declared.line.TableLine.TheVariants.{Vector, Control as Controls}
 use Rattle.pf_frames.specs.Meaning.FrameTests.{bare}
 
 -- the letters, digits and _ that a text begins with, and what follows them
@@ -67,13 +69,26 @@ IsTightLine l x line = (s : Spelling) × IsSpelledAs l x s × (line ≡ tight (s
 
 -- the line that a tight line can be alone; a jump's line is none
 pub record Guesses {X : Type 0} (l : LineTable X) (j : Jumps) (is_line : X → Type 0) (line : List ℕ) (r : Option X) : Type 0 where
-  pub line : (x : X) → is_line x → IsTightLine l x line → r ≡ Some x
-  pub jump : (below : Bool) (t : List ℕ) → line ≡ (around j below).front ++ t → r ≡ None
+  pub of_line : (x : X) → is_line x → IsTightLine l x line → r ≡ Some x
+  pub of_jump : (below : Bool) (t : List ℕ) → line ≡ (around j below).front ++ t → r ≡ None
+
+abbrev pub control_in : {O : Type 0} → Option (TableLine O) → Option Control
+control_in None = None
+control_in (Some (Vector op)) = None
+control_in (Some (Controls c)) = Some c
 
 -- the label of a jump that a tight line can be alone, where it begins as one
 pub record GuessesLabel (a : Around) (line : List ℕ) (r : Option (List ℕ)) : Type 0 where
-  pub label : (label : List ℕ) → is_name label ≡ true → line ≡ jump_text a label → r ≡ Some label
-  pub front : ((t : List ℕ) → line ≡ a.front ++ t → ⊥) → r ≡ None
+  pub of_label : (label : List ℕ) → is_name label ≡ true → line ≡ jump_text a label → r ≡ Some label
+  pub unless_front : ((t : List ℕ) → line ≡ a.front ++ t → ⊥) → r ≡ None
+
+abbrev pub jump_of : Bool → List ℕ → Control
+jump_of true label = Below label
+jump_of false label = Jump label
+
+-- the jump that a tight line can be alone
+abbrev pub GuessesJump : Jumps → List ℕ → Option Control → Type 0
+GuessesJump j line r = (below : Bool) (label : List ℕ) → is_name label ≡ true → line ≡ jump_text (around j below) label → r ≡ Some (jump_of below label)
 
 -- the control instruction that a tight line can be alone
 abbrev pub GuessesControl : {O : Type 0} → LineTable (TableLine O) → Jumps → List ℕ → Option Control → Type 0

@@ -1,4 +1,4 @@
-use Rattle.std.proofs.Common.{◌≡◌, ◌<◌, length, arith, sym}
+use Rattle.std.proofs.Common.{◌≡◌, length, arith, sym}
 use Rattle.pf_frames.specs.Meaning.Frames.{register_words}
 use Rattle.pf_frames.proofs.OperandLaws.{nine_words, word_place_nowhere}
 use Rattle.pf_frames.proofs.register.place_of.Goals as goal
