@@ -13,7 +13,7 @@ mod rows;
 mod set;
 mod text;
 
-pub use any::{AnyProgram, is_run_target, read_any, run_any};
+pub use any::{AnyProgram, read_any, run_any};
 pub use eval::eval_images;
 pub use fault::{EvalFault, RunFault, SetFault};
 pub use program::run_program;

@@ -3,16 +3,18 @@ use Rattle.std.proofs.Common.{ℕ, ◌≤◌, ◌<◌, List, length, Err, refl, 
 use Rattle.pf_ints.specs.Meaning.Images.{Picture}
 use Rattle.pf_machine.specs.Meaning.Programs.{ProgramOf}
 use Rattle.pf_machine.specs.Meaning.Tables.{Table}
-use Rattle.pf_neon.specs.Meaning.Neon.{table}
+use Rattle.pf_avx2.specs.Meaning.Avx2.{table as avx2_table}
+use Rattle.pf_hvx.specs.Meaning.Hvx.{table as hvx_table}
+use Rattle.pf_neon.specs.Meaning.Neon.{table as neon_table}
 use Rattle.pf_run.specs.declared.any.AnyProgram.{AnyProgram}
-use Rattle.pf_run.specs.declared.any.AnyProgram.TheVariants.{Neon as NeonProgram}
+use Rattle.pf_run.specs.declared.any.AnyProgram.TheVariants.{Neon as NeonProgram, Avx2 as Avx2Program, Hvx as HvxProgram}
 use Rattle.pf_run.specs.Meaning.AnyPrograms.{Returns, ReturnsAny}
 use Rattle.pf_run.specs.Meaning.Answers.{Ran}
 use Rattle.pf_kernel.specs.Meaning.Kernels.{Meaning}
 use Rattle.pf_top.specs.declared.run_verdict.NoImage.{NoImage}
 use Rattle.pf_top.specs.declared.run_verdict.NoImage.TheVariants.{Size, Pixel, NoOutput, Outside, Spent}
 use Rattle.pf_top.specs.declared.text_file.TextRefusal.{TextRefusal}
-use Rattle.pf_top.specs.declared.text_file.TextRefusal.TheVariants.{TooLong, NotBuilt, At}
+use Rattle.pf_top.specs.declared.text_file.TextRefusal.TheVariants.{TooLong, At}
 use Rattle.pf_top.specs.Meaning.KernelFiles.{Evaluates, kernels}
 use Rattle.pf_top.specs.Meaning.TextFiles.{IsSomeText, RunsTo, RefusesText, fault_of, programs, text_limit}
 use Rattle.pf_values.specs.Meaning.Kernels.{Keeps}
@@ -23,7 +25,6 @@ no_text_refused TooLong p bytes refused text =
     let over : text_limit < length bytes = refused in
     let within : length bytes ≤ text_limit = text.0 in
     omega (arith, over, within)
-no_text_refused (NotBuilt target) p bytes refused text = refused.1 p text.1
 no_text_refused (At line kind) p bytes refused text = refused.1 p text.1
 
 returns_on : {I O : Type 0} (t : Table O) (e : NoImage) (p : ProgramOf I O) (pictures : List Picture) → Returns t p pictures → Ran t p pictures (Err (fault_of e)) → ⊥
@@ -34,7 +35,9 @@ returns_on t (Outside at address count) p pictures works ran = let fails = ran.1
 returns_on t (Spent steps) p pictures works ran = let fails = ran.1.2 in let ends = works.2 in absurd (cc)
 
 returns : (e : NoImage) (p : AnyProgram) (pictures : List Picture) → ReturnsAny p pictures → RunsTo p pictures (Err e) → ⊥
-returns e (NeonProgram p) pictures works ran = returns_on table e p pictures works ran
+returns e (NeonProgram p) pictures works ran = returns_on neon_table e p pictures works ran
+returns e (Avx2Program p) pictures works ran = returns_on avx2_table e p pictures works ran
+returns e (HvxProgram p) pictures works ran = returns_on hvx_table e p pictures works ran
 
 pub programs_fit : IsFit programs
 programs_fit = record { same = λ p q bytes means text. means.2 q text.1; not_refused = no_text_refused; not_prevented = returns }

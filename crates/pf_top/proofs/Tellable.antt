@@ -11,9 +11,11 @@ use Rattle.pf_run.specs.declared.fault.RunFault.{RunFault}
 use Rattle.pf_run.specs.declared.fault.RunFault.TheVariants.{Text as TextAt, Set, Outside, Spent, Memory}
 use Rattle.pf_run.specs.declared.fault.SetFault.{SetFault}
 use Rattle.pf_run.specs.declared.fault.SetFault.TheVariants.{Count, Kind, Size, Pixel, NoOutput}
-use Rattle.pf_neon.specs.Meaning.Neon.{table}
+use Rattle.pf_avx2.specs.Meaning.Avx2.{table as avx2_table}
+use Rattle.pf_hvx.specs.Meaning.Hvx.{table as hvx_table}
+use Rattle.pf_neon.specs.Meaning.Neon.{table as neon_table}
 use Rattle.pf_run.specs.declared.any.AnyProgram.{AnyProgram}
-use Rattle.pf_run.specs.declared.any.AnyProgram.TheVariants.{Neon as NeonProgram}
+use Rattle.pf_run.specs.declared.any.AnyProgram.TheVariants.{Neon as NeonProgram, Avx2 as Avx2Program, Hvx as HvxProgram}
 use Rattle.pf_run.specs.Meaning.AnyPrograms.{RanAny, head_of}
 use Rattle.pf_run.specs.Meaning.Answers.{Ran}
 use Rattle.pf_run.specs.Meaning.Sets.{IsFirstBadImage, IsSetFault}
@@ -47,7 +49,9 @@ tellable t p pictures (Spent steps) count types ran = tt
 tellable t p pictures Memory count types ran = tt
 
 pub tellable_any : (p : AnyProgram) (pictures : List Picture) (fault : RunFault) → length pictures ≡ length (head_of p).images → AllZip (λ d q. q.ty ≡ d.ty) (head_of p).images pictures → RanAny p pictures (Err fault) → IsTellable fault
-tellable_any (NeonProgram p) pictures fault count types ran = tellable table p pictures fault count types ran
+tellable_any (NeonProgram p) pictures fault count types ran = tellable neon_table p pictures fault count types ran
+tellable_any (Avx2Program p) pictures fault count types ran = tellable avx2_table p pictures fault count types ran
+tellable_any (HvxProgram p) pictures fault count types ran = tellable hvx_table p pictures fault count types ran
 
 -- the image that a fault names is one of them
 size_within : (width height number : ℕ) (decls : List ImageDecl) (pictures : List Picture) (image w h : ℕ) → IsFirstBadImage width height number decls pictures (Size image w h) → image < number + length pictures
@@ -70,7 +74,9 @@ image_among t p r pictures (NoImageOutside at address count) long ran = tt
 image_among t p r pictures (NoImageSpent steps) long ran = tt
 
 pub any_among : (p : AnyProgram) (r : Run) (pictures : List Picture) (e : NoImage) → length pictures ≡ length r.images → RanAny p pictures (Err (fault_of e)) → IsImageAmong r e
-any_among (NeonProgram p) r pictures e long ran = image_among table p r pictures e long ran
+any_among (NeonProgram p) r pictures e long ran = image_among neon_table p r pictures e long ran
+any_among (Avx2Program p) r pictures e long ran = image_among avx2_table p r pictures e long ran
+any_among (HvxProgram p) r pictures e long ran = image_among hvx_table p r pictures e long ran
 
 pub kernel_among : (k : Meaning) (r : Run) (pictures : List Picture) (e : NoImage) → length pictures ≡ length r.images → Evaluates k pictures (Err e) → IsImageAmong r e
 kernel_among k r pictures (NoImageSize image w h) long ends = let low = size_within _ _ 0 k.source.images pictures image w h ends.1.1 in omega (arith, low, long)

@@ -70,12 +70,6 @@ fn tell_text<S: Sink>(alloc: Global, out: &mut S, name: &[u8], refusal: TextRefu
             10,
             &[Piece::Word(name), Piece::Word(b":0: limit")],
         ),
-        TextRefusal::NotBuilt(target) => tell(
-            alloc,
-            out,
-            8,
-            &[Piece::Word(b"not built: "), Piece::Word(target.word())],
-        ),
         TextRefusal::At { line, kind } => tell(
             alloc,
             out,

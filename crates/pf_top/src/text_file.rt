@@ -1,10 +1,7 @@
 //! The file of a text.
 
-ghost use Rattle.std.specs.Prelude.{◌≡◌, ◌+◌, ◌<◌, IfOk, MatchOption};
-ghost use Rattle.std.specs.Str.Lines.{lines};
-ghost use Rattle.pf_ints.specs.declared.target.Target.{Target};
-ghost use Rattle.pf_isa.specs.Meaning.TextFaults.{IsFor};
-ghost use Rattle.pf_run.specs.Meaning.AnyPrograms.{IsRunTarget, IsShort};
+ghost use Rattle.std.specs.Prelude.{◌≡◌, ◌+◌, ◌<◌, IfOk};
+ghost use Rattle.pf_run.specs.Meaning.AnyPrograms.{IsShort};
 ghost use Rattle.pf_top.specs.Meaning.StoreCalls.{seen};
 ghost use Rattle.pf_top.specs.Steps.FileSteps.{Judged};
 ghost use Rattle.pf_top.specs.Steps.SelectSteps.{JudgesBytes};
@@ -12,9 +9,8 @@ ghost use Rattle.pf_top.specs.Meaning.TextFiles.{text_limit, IsTextFile, Refuses
 
 use crate::judging::{Stop, read_front};
 use pf_images::{Files, FilesFault};
-use pf_ints::Target;
-use pf_isa::{TextFault, TextKind, target_of};
-use pf_run::{AnyProgram, is_run_target, read_any};
+use pf_isa::{TextFault, TextKind};
+use pf_run::{AnyProgram, read_any};
 use std::alloc::Global;
 
 /// Why a text is not run.
@@ -22,8 +18,6 @@ use std::alloc::Global;
 pub enum TextRefusal {
     /// It has more bytes than are read.
     TooLong,
-    /// Its first line names a target that is not run.
-    NotBuilt(Target),
     /// The first fault of a text that is no program: its line, counted from 1, and its kind.
     At { line: u64, kind: TextKind },
 }
@@ -37,18 +31,6 @@ fn text_limit() -> u64
     2_147_483_647
 }
 
-/// The target that the first line of a text names, where no text is run for it.
-fn other_target(text: &[u8]) -> Option<Target>
-    ensures { MatchOption result ((t : Target) → IsFor t (lines text.now) → IsRunTarget t)
-        (λ t. IsFor t (lines text.now) × (IsRunTarget t → ⊥)) }
-{
-    let target = target_of(text)?;
-    if is_run_target(target) {
-        return None;
-    }
-    Some(target)
-}
-
 /// The program that the text is of.
 fn program_of(alloc: Global, text: &[u8]) -> Result<AnyProgram, Stop<TextRefusal>>
     ensures found { JudgesBytes IsTextFile RefusesText result text.now }
@@ -56,9 +38,6 @@ fn program_of(alloc: Global, text: &[u8]) -> Result<AnyProgram, Stop<TextRefusal
 {
     if text.len() as u64 > text_limit() {
         return Err(Stop::Refused(TextRefusal::TooLong));
-    }
-    if let Some(target) = other_target(text) {
-        return Err(Stop::Refused(TextRefusal::NotBuilt(target)));
     }
     match read_any(alloc, text) {
         Ok(program) => Ok(program),

@@ -30,6 +30,18 @@ const FILES: &[(&str, &[u8])] = &[
     ("none.s", b""),
     ("avx2.s", b".target avx2\n"),
     (
+        "copy_avx2.s",
+        b".target avx2\n.image a u8 0 255\n.tap a 0 0\n.out u8\n.scratch 256\n.lifted out u8 = a[0,0]\n.cost 0\n\
+        mov rax, qword ptr [rdi+0]\nvmovdqu ymm0, ymmword ptr [rax+0]\n\
+        mov r10, qword ptr [rdi+8]\nvmovdqu ymmword ptr [r10+0], ymm0\nret\n",
+    ),
+    (
+        "copy_hvx.s",
+        b".target hvx\n.image a u8 0 255\n.tap a 0 0\n.out u8\n.scratch 640\n.lifted out u8 = a[0,0]\n.cost 0\n\
+        { r5 = memw(r0+#0) }\n{ v0 = vmemu(r5+#0) }\n\
+        { r8 = memw(r0+#8) }\n{ vmemu(r8+#0) = v0 }\n{ jumpr r31 }\n",
+    ),
+    (
         "bogus.s",
         b".target neon\n.image a u8 0 255\n.tap a 0 0\n.out u8\n.scratch 192\n.lifted out u8 = a[0,0]\n.cost 0\nret\nbogus\n",
     ),
@@ -55,6 +67,12 @@ const FILES: &[(&str, &[u8])] = &[
         .out u8\n.scratch 224\n.lifted out u8 = min(a[0,0], b[0,0])\n.cost 0\nret\n",
     ),
     ("sixteen.pgm", b"P5\n16 1\n255\nabcdefghijklmnop"),
+    ("row32.pgm", b"P5\n32 1\n255\nabcdefghijklmnopABCDEFGHIJKLMNOP"),
+    (
+        "row128.pgm",
+        b"P5\n128 1\n255\nabcdefghijklmnopABCDEFGHIJKLMNOPqrstuvwxyz012345QRSTUVWXYZ6789+-\
+        abcdefghijklmnopABCDEFGHIJKLMNOPqrstuvwxyz012345QRSTUVWXYZ6789+-",
+    ),
     ("fifteen.pgm", b"P5\n15 1\n255\nabcdefghijklmno"),
     ("five.pgm", b"P5\n5 1\n255\n\x01\x02\x03e\x05"),
     ("two.pgm", b"P5\n2 1\n255\n\x01\x02"),
@@ -68,6 +86,11 @@ fn outputs_are_written(rt: HostRuntime) -> Result<(), Fail> {
     let copied = b"P5\n16 1\n255\nabcdefghijklmnop";
     try_well(&rt, FILES, "run copy.s sixteen.pgm o.pgm", copied)?;
     try_well(&rt, FILES, "run base.s sixteen.pgm o.pgm", copied)?;
+    let copied = b"P5\n32 1\n255\nabcdefghijklmnopABCDEFGHIJKLMNOP";
+    try_well(&rt, FILES, "run copy_avx2.s row32.pgm o.pgm", copied)?;
+    let copied = b"P5\n128 1\n255\nabcdefghijklmnopABCDEFGHIJKLMNOPqrstuvwxyz012345QRSTUVWXYZ6789+-\
+        abcdefghijklmnopABCDEFGHIJKLMNOPqrstuvwxyz012345QRSTUVWXYZ6789+-";
+    try_well(&rt, FILES, "run copy_hvx.s row128.pgm o.pgm", copied)?;
     // Where the code stores nothing the output is zeros.
     let zeros = b"P5\n2 1\n65535\n\0\0\0\0";
     try_well(&rt, FILES, "run wide.s pair.pgm o.pgm", zeros)?;
@@ -84,7 +107,12 @@ const USAGE: &str = "usage: pitchfork select|check|run|eval|explain|demo\n";
 const TOLD: &[(&str, u8, &str, u64)] = &[
     ("run copy.s o.pgm", 2, USAGE, 0),
     ("run copy.s none.pgm o.pgm", 3, "no file: none.pgm\n", 2),
-    ("run avx2.s sixteen.pgm o.pgm", 8, "not built: avx2\n", 1),
+    (
+        "run avx2.s sixteen.pgm o.pgm",
+        10,
+        "avx2.s:2: directive\n",
+        1,
+    ),
     (
         "run two.s sixteen.pgm o.pgm",
         9,

@@ -4,8 +4,6 @@ use Rattle.pf_ints.specs.Meaning.Images.{Picture, IsPicture}
 use Rattle.pf_values.specs.Meaning.Kernels.{KeepsSet}
 use Rattle.pf_machine.specs.Meaning.Tables.{Table}
 use Rattle.pf_machine.specs.Meaning.Programs.{ProgramOf}
-use Rattle.pf_isa.specs.Meaning.Texts.{IsText}
-use Rattle.pf_isa.specs.Meaning.TextFaults.{IsTextFault}
 use Rattle.pf_machine.specs.Meaning.MachineSteps.{State, End, Stopped, OutOfSteps}
 use Rattle.pf_machine.specs.Meaning.Runs.{RunEnd, Failed, Runs, Leaves, IsPlaced, columns, rows, row_budget}
 use Rattle.pf_run.specs.declared.fault.RunFault.{RunFault}
@@ -42,9 +40,3 @@ Ran t p pictures (Err (Set fault)) = (KeepsSet p.head.images p.head.taps picture
 Ran t p pictures (Err (Outside at address count)) = MayRun p pictures × Fails t p pictures (Stopped at address count)
 Ran t p pictures (Err (Overspent steps)) = MayRun p pictures × Fails t p pictures OutOfSteps × (steps ≡ row_budget (length p.code) (length p.head.taps) (columns p.head pictures))
 Ran t p pictures (Err Memory) = Unit {0}
-
--- what a run of a text answers: what the program that it means does, or where it means none its first fault
-abbrev pub RanText : (I : Type 0) {O : Type 0} → Table O → (O → Type 0) → List ℕ → List Picture → Result Picture RunFault → Type 0
-RanText I t is_op text pictures (Err (TextAt line kind)) = IsTextFault I t is_op text line kind
-RanText I t is_op text pictures (Err Memory) = Unit {0}
-RanText I {O} t is_op text pictures result = (p : ProgramOf I O) × IsText t is_op text p × Ran t p pictures result

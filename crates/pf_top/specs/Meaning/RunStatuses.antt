@@ -1,7 +1,6 @@
 -- The statuses of `run` and `eval` and the lines that they put.
 use Rattle.std.specs.Prelude.{ℕ, ℤ, List, [], ◌∷◌, codes, decimal, Option, Some, None}
 use Rattle.std.specs.Fmt.{signed_decimal}
-use Rattle.pf_ints.specs.Meaning.Targets.{target_word}
 use Rattle.pf_images.specs.Meaning.Words.{kind_word}
 use Rattle.pf_isa.specs.Meaning.TextFaults.{text_kind_word}
 use Rattle.pf_top.specs.declared.image_files.ImageRefusal.{ImageRefusal}
@@ -12,14 +11,13 @@ use Rattle.pf_top.specs.declared.run_verdict.RunFile.TheVariants.{Image}
 use Rattle.pf_top.specs.declared.run_verdict.RunVerdict.{RunVerdict}
 use Rattle.pf_top.specs.declared.run_verdict.RunVerdict.TheVariants.{Done, Missing, ReadFailed, TextRefused, Count, ImageRefused, NoImage as WithoutImage, WriteFailed, Memory}
 use Rattle.pf_top.specs.declared.text_file.TextRefusal.{TextRefusal}
-use Rattle.pf_top.specs.declared.text_file.TextRefusal.TheVariants.{TooLong, NotBuilt, At}
+use Rattle.pf_top.specs.declared.text_file.TextRefusal.TheVariants.{TooLong, At}
 use Rattle.pf_top.specs.Meaning.Statuses.{Report, report, line_of, wanting, write_failed}
 use Rattle.pf_top.specs.Meaning.Running.{Run, run_file_name}
 
--- a text that is refused: 8 where its target is not run, and else 10 with the line and the kind of the fault
+-- a text that is refused: 10 with the line and the kind of the fault
 abbrev pub report_of_text : List ℕ → TextRefusal → Report
 report_of_text name TooLong = report 10 (line_of (name ∷ codes ":0: limit" ∷ []))
-report_of_text name (NotBuilt target) = report 8 (line_of (codes "not built: " ∷ target_word target ∷ []))
 report_of_text name (At at kind) = report 10 (line_of (name ∷ codes ":" ∷ decimal at ∷ codes ": " ∷ text_kind_word kind ∷ []))
 
 -- the file of an image that is refused

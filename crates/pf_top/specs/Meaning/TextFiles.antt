@@ -1,19 +1,16 @@
 -- The files of texts of programs, and how they run.
 use Rattle.std.specs.Prelude.{◌≡◌, ℕ, ◌-◌, ◌^◌, ◌<◌, ◌≤◌, List, length, Result, Ok, Err}
-use Rattle.std.specs.Str.Lines.{lines}
-use Rattle.pf_ints.specs.declared.target.Target.{Target}
 use Rattle.pf_ints.specs.Meaning.Images.{Picture}
 use Rattle.pf_isa.specs.declared.fault.TextFault.TheVariants.{At as FaultAt}
-use Rattle.pf_isa.specs.Meaning.TextFaults.{IsFor}
 use Rattle.pf_run.specs.declared.any.AnyProgram.{AnyProgram}
 use Rattle.pf_run.specs.declared.fault.RunFault.{RunFault}
 use Rattle.pf_run.specs.declared.fault.RunFault.TheVariants.{Set, Outside as RunOutside, Spent as RunSpent}
 use Rattle.pf_run.specs.declared.fault.SetFault.TheVariants.{Size as SetSize, Pixel as SetPixel, NoOutput as SetNoOutput}
-use Rattle.pf_run.specs.Meaning.AnyPrograms.{IsRunTarget, IsAnyText, IsAnyFault, RanAny, ReturnsAny, head_of}
+use Rattle.pf_run.specs.Meaning.AnyPrograms.{IsAnyText, IsAnyFault, RanAny, ReturnsAny, head_of}
 use Rattle.pf_top.specs.declared.run_verdict.NoImage.{NoImage}
 use Rattle.pf_top.specs.declared.run_verdict.NoImage.TheVariants.{Size, Pixel, NoOutput, Outside, Spent}
 use Rattle.pf_top.specs.declared.text_file.TextRefusal.{TextRefusal}
-use Rattle.pf_top.specs.declared.text_file.TextRefusal.TheVariants.{TooLong, NotBuilt, At}
+use Rattle.pf_top.specs.declared.text_file.TextRefusal.TheVariants.{TooLong, At}
 use Rattle.pf_top.specs.Meaning.Running.{Language}
 
 -- the most bytes of a text
@@ -28,15 +25,14 @@ IsSomeText p bytes = (length bytes ≤ text_limit) × IsAnyText p bytes
 abbrev pub IsTextFile : AnyProgram → List ℕ → Type 0
 IsTextFile p bytes = (length bytes ≤ text_limit) × IsAnyText p bytes × ((q : AnyProgram) → IsAnyText q bytes → p ≡ q)
 
--- the bytes are a text of no program that is run
+-- the bytes are a text of no program
 abbrev pub IsNoText : List ℕ → Type 0
 IsNoText bytes = (p : AnyProgram) → IsAnyText p bytes → ⊥
 
--- why: they pass the limit, or their first line names a target that no text is run for, or they have this first fault
+-- why: they pass the limit, or they have this first fault
 abbrev pub RefusesText : TextRefusal → List ℕ → Type 0
 RefusesText TooLong bytes = text_limit < length bytes
-RefusesText (NotBuilt target) bytes = (length bytes ≤ text_limit) × IsNoText bytes × IsFor target (lines bytes) × (IsRunTarget target → ⊥)
-RefusesText (At line kind) bytes = (length bytes ≤ text_limit) × IsNoText bytes × ((target : Target) → IsFor target (lines bytes) → IsRunTarget target) × IsAnyFault bytes (FaultAt line kind)
+RefusesText (At line kind) bytes = (length bytes ≤ text_limit) × IsNoText bytes × IsAnyFault bytes (FaultAt line kind)
 
 -- what a run of a program answers where it isn't run to its end
 abbrev pub fault_of : NoImage → RunFault

@@ -2,17 +2,11 @@ use Rattle.std.proofs.Common.{◌≡◌, ℕ, ◌≤◌, ◌⊎◌, inl, inr, le
 use Rattle.pf_isa.specs.declared.fault.TextFault.TheVariants.{At, Memory}
 use Rattle.pf_isa.specs.declared.fault.TextKind.{TextKind}
 use Rattle.pf_top.specs.Meaning.TextFiles.{text_limit}
-use Rattle.pf_top.proofs.TextFiles.{limit_low, other_text}
+use Rattle.pf_top.proofs.TextFiles.{limit_low}
 use Rattle.pf_top.proofs.text_file.program_of.Goals as goal
 
 pub read_any-requires : goal.read_any-requires
 read_any-requires c = limit_low (length c.args.text.now) (search rules)
-
-pub returns-in-Some-clause-found : goal.returns-in-Some-clause-found
-returns-in-Some-clause-found c =
-    let most : length c.args.text.now ≤ text_limit = search rules in
-    let other = c.in-Some.ensures in
-    (most, other_text c.args.text.now c.in-Some.target other.0 other.1, other.0, other.1)
 
 pub returns-in-Ok-clause-found : goal.returns-in-Ok-clause-found
 returns-in-Ok-clause-found c =
@@ -23,7 +17,7 @@ pub returns-in-Err-At-clause-found : goal.returns-in-Err-At-clause-found
 returns-in-Err-At-clause-found c =
     let most : length c.args.text.now ≤ text_limit = search rules in
     let refused = rw c.in-Err-At.field-0-is at c.in-Err-At.ensures.found in
-    told_at _ _ _ refused (λ here. (most, here.1, c.in_default.ensures, here.0))
+    told_at _ _ _ refused (λ here. (most, here.1, here.0))
   where
     told_at : {A B : Type 0} (line : ℕ) (kind : TextKind) (h : A ⊎ (At line kind ≡ Memory)) → (A → B) → B
     told_at line kind (inl here) f = f here
