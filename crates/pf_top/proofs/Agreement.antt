@@ -80,6 +80,7 @@ module _ (r : Run) (source : Source) (text : List ℕ) (h : Headline Neon table 
 
   -- what a run leaves of good files is the output
   left : (q : Picture) → EndsIn programs r (Ok q) old → q ≡ o
+  unfolding runnable
   left q ends =
       let holds = ends.2 in
       let same : ends.0 ≡ p = same_meaning programs programs_fit r old runnable ends.0 holds.text in
