@@ -24,9 +24,11 @@ abbrev pub SoFar : Option (List ℕ) → List ℕ → Option (List ℕ) → List
 SoFar old bytes now rest = (count : ℕ) × (rest ≡ drop count bytes) × Appends old now (take count bytes)
 
 pub one_more : (old now new : Option (List ℕ)) (bytes rest next : List ℕ) (n : ℕ) → SoFar old bytes now rest → Appends now new (take n rest) → next ≡ drop n rest → SoFar old bytes new next
-one_more old now new bytes rest next n so_far more is =
-    (so_far.0 + n, is ∙ ap (drop n) so_far.1 ∙ drop-drop n so_far.0 bytes,
-    subst (Appends old new) (sym (take-add so_far.0 n bytes)) (appends_then old now new (take so_far.0 bytes) (take n (drop so_far.0 bytes)) so_far.2 (subst (λ r. Appends now new (take n r)) so_far.1 more)))
+one_more old now new bytes rest next n so_far more is = (
+  so_far.0 + n,
+  is ∙ ap (drop n) so_far.1 ∙ drop-drop n so_far.0 bytes,
+  subst (Appends old new) (sym (take-add so_far.0 n bytes)) (appends_then old now new (take so_far.0 bytes) (take n (drop so_far.0 bytes)) so_far.2 (subst (λ r. Appends now new (take n r)) so_far.1 more)),
+)
 
 none_left : (m : ℕ) (xs : List ℕ) → [] ≡ drop m xs → take m xs ≡ xs
 none_left zero [] e = refl

@@ -10,11 +10,7 @@ use std::io::{Error, ErrorKind, Read, Write};
 
 /// Reads until the reader ends or `most` bytes are read, however many reads that takes. A read that
 /// was interrupted is made again; any other error is `Failed`, or `Memory` where memory was wanting.
-pub fn read_up_to<R: Read + Drop>(
-    alloc: Global,
-    from: R,
-    most: u64,
-) -> Result<Vec<u8>, FilesFault>
+pub fn read_up_to<R: Read + Drop>(alloc: Global, from: R, most: u64) -> Result<Vec<u8>, FilesFault>
     ensures front { IfOk result (λ bytes. IfSome (R.remaining from) (λ left. bytes.items ≡ take most left)) }
     ensures there { result ≢ Err FilesFault.Missing }
 {

@@ -80,6 +80,7 @@ module _ (r : Run) (source : Source) (text : List ℕ) (h : Headline Neon table 
 
   -- what a run leaves of good files is the output
   left : (q : Picture) → EndsIn programs r (Ok q) old → q ≡ o
+  unfolding runnable
   left q ends =
       let holds = ends.2 in
       let same : ends.0 ≡ p = same_meaning programs programs_fit r old runnable ends.0 holds.text in
@@ -100,10 +101,10 @@ module _ (r : Run) (source : Source) (text : List ℕ) (h : Headline Neon table 
   agreed b a ob oa answer v is ran told = (
     (λ calm quiet. complete programs programs_fit report_of_text r old b a ob oa answer v is runnable calm quiet ran told),
     (λ nought.
-    let done : v ≡ Done = run_done r v ob oa (subst (λ n. Reports (report_of_run report_of_text r v) ob n oa) nought told) in
-    let good = subst (λ v. RunEndsWith programs r b v a) done ran in
-    let change = told_after (RunEffect programs r Done) b.held a.held old is good.went.contents in
-    (change.0, change.1, change.2.2.there ∙ ap (λ (q : Picture). Some (pgm_text q)) (left change.2.0 change.2.1))),
+        let done : v ≡ Done = run_done r v ob oa (subst (λ n. Reports (report_of_run report_of_text r v) ob n oa) nought told) in
+        let good = subst (λ v. RunEndsWith programs r b v a) done ran in
+        let change = told_after (RunEffect programs r Done) b.held a.held old is good.went.contents in
+        (change.0, change.1, change.2.2.there ∙ ap (λ (q : Picture). Some (pgm_text q)) (left change.2.0 change.2.1))),
   )
 
 pub agrees : (r : Run) (target : Target) (source : Source) (text : List ℕ) (pictures : List Picture) (o : Picture) (old : Contents) (b a : Store) (ob oa : Output) (answer : ℕ) (v : RunVerdict TextRefusal)

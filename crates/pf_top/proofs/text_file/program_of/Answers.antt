@@ -17,7 +17,7 @@ pub returns-in-Err-At-clause-found : goal.returns-in-Err-At-clause-found
 returns-in-Err-At-clause-found c =
     let most : length c.args.text.now ≤ text_limit = search rules in
     let refused = rw c.in-Err-At.field-0-is at c.in-Err-At.ensures.found in
-    told_at _ _ _ refused (λ here. (most, here.1, here.0))
+    told_at _ _ refused (λ here. (most, here.1, here.0))
   where
     told_at : {A B : Type 0} (line : ℕ) (kind : TextKind) (h : A ⊎ (At line kind ≡ Memory)) → (A → B) → B
     told_at line kind (inl here) f = f here
