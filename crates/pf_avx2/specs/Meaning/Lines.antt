@@ -1,5 +1,5 @@
 -- How the instructions of AVX2 are printed, and which instruction a frame with operands is.
-use Rattle.std.specs.Prelude.{Bool, ℕ, ◌*◌, ◌/◌, ◌%◌, List, [], ◌∷◌, true, false, ◌==◌, if◌then◌else◌, Option, Some, None, codes, slice_index}
+use Rattle.std.specs.Prelude.{Bool, ℕ, ◌*◌, ◌/◌, ◌%◌, List, [], ◌∷◌, true, false, ◌==◌, if◌then◌else◌, Some, None, codes, slice_index}
 use Rattle.pf_machine.specs.declared.control.Control.{Control}
 use Rattle.pf_machine.specs.declared.control.Control.TheVariants.{LoadPtr, StorePtr, Imm, AddImm, AddReg, LoadByte, LoadHalf, StoreByte, StoreHalf, Compare, Below, Jump, Return}
 use Rattle.pf_lanes.specs.declared.registers.Double.{Double}

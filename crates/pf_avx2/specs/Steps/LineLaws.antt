@@ -1,12 +1,12 @@
 -- The table of lines meets its laws.
-use Rattle.std.proofs.Common.{◌≡◌, ℕ, suc, IsTrue, ◌+◌, ◌*◌, ◌/◌, ◌%◌, ◌^◌, ◌<◌, ◌≤◌, List, [], ◌∷◌, ◌++◌, All, Bool, true, false, None, Some, refl, arith, ap, ⊎_elim}
-use Rattle.std.specs.Prelude.{slice_index, nat_lt, nat_le, ◌&&◌, ◌==◌}
+use Rattle.std.proofs.Common.{◌≡◌, ℕ, suc, IsTrue, ◌*◌, ◌/◌, ◌%◌, ◌^◌, ◌<◌, ◌≤◌, List, [], ◌∷◌, ◌++◌, Bool, true, false, Some, refl, arith, ap, ⊎_elim}
+use Rattle.std.specs.Prelude.{nat_lt, nat_le, ◌&&◌, ◌==◌}
 use Rattle.std.proofs.lemmas.Bool.{ltb-true, lt-ltb, leb-true, ne_eqb, and_from, and_parts, or_cases}
 use Rattle.pf_lanes.specs.declared.registers.Transfer.{Transfer}
 use Rattle.pf_machine.specs.declared.registers.Reg.TheVariants.{V}
 use Rattle.pf_machine.specs.declared.control.Control.{Control}
 use Rattle.pf_machine.specs.declared.control.Control.TheVariants.{LoadPtr, StorePtr, Imm, AddImm, AddReg, LoadByte, LoadHalf, StoreByte, StoreHalf, Compare, Below, Jump, Return}
-use Rattle.pf_machine.specs.Meaning.Control.{IsControl, is_offset}
+use Rattle.pf_machine.specs.Meaning.Control.{is_offset}
 use Rattle.pf_machine.specs.Meaning.Tables.{IsOver}
 use Rattle.pf_frames.specs.declared.line.TableLine.{TableLine}
 use Rattle.pf_frames.specs.declared.line.TableLine.TheVariants.{Vector, Control as Controls}
@@ -19,7 +19,7 @@ use Rattle.pf_avx2.specs.declared.rows.Shape.TheVariants as Shapes
 use Rattle.pf_avx2.specs.declared.op.Instruction.{Instruction}
 use Rattle.pf_avx2.specs.declared.op.Instruction.TheVariants.{Load, Store, Copy, Constant, SetLow, Unary, Half, Binary, Shift, Blend}
 use Rattle.pf_avx2.specs.Meaning.Rows.{place, word_at, pattern_at, row_at, row}
-use Rattle.pf_avx2.specs.Meaning.Instructions.{IsAvx2Instruction, name_of, shape_of, has_numbers}
+use Rattle.pf_avx2.specs.Meaning.Instructions.{IsAvx2Instruction, name_of, shape_of}
 use Rattle.pf_avx2.specs.Meaning.Lines.{numbers, printed, made, lines, jumps}
 use Rattle.pf_avx2.specs.Meaning.Avx2.{table}
 use Rattle.pf_avx2.specs.Steps.RowLaws.{named, place_inside, narrow}

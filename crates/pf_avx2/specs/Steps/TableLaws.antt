@@ -1,23 +1,23 @@
 -- The table meets the laws of every set of instructions.
-use Rattle.std.proofs.Common.{◌≡◌, ℕ, ◌+◌, ◌*◌, ◌/◌, ◌<◌, ◌≤◌, List, [], ◌∷◌, ◌++◌, All, Bool, true, false, length, map, None, Some, MatchOption, refl, arith, sym, ap, ◌∙◌, length-append}
-use Rattle.std.specs.Prelude.{slice_index, slice_index_or, nat_lt, ◌&&◌, replicate}
+use Rattle.std.proofs.Common.{◌≡◌, ℕ, ◌+◌, ◌/◌, ◌<◌, ◌≤◌, List, [], ◌∷◌, ◌++◌, All, length, map, None, MatchOption, refl, arith, ◌∙◌, length-append}
+use Rattle.std.specs.Prelude.{replicate}
 use Rattle.std.specs.Option.{option_map}
 use Rattle.std.proofs.lemmas.List.Elements.{All-from_recursion, All-append}
 use Rattle.pf_lanes.specs.declared.recipes.Recipe.{Recipe}
 use Rattle.pf_lanes.specs.Meaning.Lanes.{bytes_of}
-use Rattle.pf_lanes.specs.Meaning.Recipes.{computed, lane_value}
+use Rattle.pf_lanes.specs.Meaning.Recipes.{lane_value}
 use Rattle.pf_lanes.proofs.LaneLaws.{length-made, bytes-made}
 use Rattle.pf_machine.specs.declared.registers.RegFile.{RegFile}
-use Rattle.pf_machine.specs.declared.registers.Reg.TheVariants.{V, K}
+use Rattle.pf_machine.specs.declared.registers.Reg.TheVariants.{V}
 use Rattle.pf_machine.specs.Meaning.Bytes.{AreBytes, bytes}
-use Rattle.pf_machine.specs.Meaning.RegisterFiles.{IsRegisterOf, renamed_register, reads}
-use Rattle.pf_machine.specs.Meaning.Tables.{IsTable, IsOver, IsFile, CanRun, Accesses, renamed_access, vector_count, after}
+use Rattle.pf_machine.specs.Meaning.RegisterFiles.{IsRegisterOf, renamed_register}
+use Rattle.pf_machine.specs.Meaning.Tables.{IsTable, IsFile, CanRun, Accesses, renamed_access, vector_count, after}
 use Rattle.pf_frames.proofs.TextLaws as Texts
 use Rattle.pf_machine.proofs.FileLaws.{bytes_are, zeros_are, vector_are, file_with}
 use Rattle.pf_avx2.specs.declared.op.Instruction.{Instruction}
 use Rattle.pf_avx2.specs.declared.op.Instruction.TheVariants.{Load, Store, Copy, Constant, SetLow, Unary, Half, Binary, Shift, Blend}
 use Rattle.pf_avx2.specs.Meaning.Rows.{row}
-use Rattle.pf_avx2.specs.Meaning.Instructions.{IsAvx2Instruction, vector_of, makes_vector, uses, defs, outcome, access, cost, renamed, name_of, has_numbers}
+use Rattle.pf_avx2.specs.Meaning.Instructions.{IsAvx2Instruction, vector_of, uses, defs, outcome, access, cost, renamed}
 use Rattle.pf_avx2.specs.Meaning.Lines.{lines, jumps}
 use Rattle.pf_avx2.specs.Meaning.Avx2.{table}
 use Rattle.pf_avx2.specs.declared.rows.Mnemonic.TheVariants.{Vpblendvb}
