@@ -14,6 +14,8 @@ mod ints;
 #[cfg(test)]
 mod kernels;
 #[cfg(test)]
+mod laneops;
+#[cfg(test)]
 mod machine;
 #[cfg(test)]
 mod neon;
