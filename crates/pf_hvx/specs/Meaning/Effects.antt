@@ -1,5 +1,5 @@
 -- What the instructions of HVX leave in their registers.
-use Rattle.std.specs.Prelude.{ℕ, ◌+◌, ◌/◌, ◌%◌, nat_lt, if◌then◌else◌, pos, List, [], ◌∷◌, map, Option, Some, None, slice_index, slice_index_or}
+use Rattle.std.specs.Prelude.{ℕ, ◌/◌, ◌%◌, nat_lt, if◌then◌else◌, pos, List, [], ◌∷◌, map, Option, Some, None, slice_index, slice_index_or}
 use Rattle.pf_ints.specs.declared.lane.LaneType.{LaneType}
 use Rattle.pf_ints.specs.Meaning.Lanes.{lane_width}
 use Rattle.pf_lanes.specs.declared.recipes.Recipe.{Recipe}

@@ -1,17 +1,16 @@
 -- The table of lines meets its laws.
-use Rattle.std.proofs.Common.{◌≡◌, ℕ, ◌+◌, ◌-◌, ◌*◌, ◌/◌, ◌%◌, ◌^◌, ◌<◌, ◌≤◌, List, [], ◌∷◌, ◌++◌, IsTrue, Bool, true, false, Option, None, Some, MatchOption, refl, arith, ap, ⊎_elim}
+use Rattle.std.proofs.Common.{◌≡◌, ℕ, ◌-◌, ◌*◌, ◌/◌, ◌%◌, ◌^◌, ◌<◌, ◌≤◌, List, [], ◌∷◌, IsTrue, Bool, true, false, Some, MatchOption, refl, arith, ap, ⊎_elim}
 use Rattle.std.specs.Prelude.{nat_lt, nat_le, ◌&&◌, ◌==◌}
 use Rattle.std.proofs.lemmas.Bool.{ltb-true, lt-ltb, leb-true, ne_eqb, and_from, and_parts, or_cases, cases_eq, cases_Bool}
 use Rattle.pf_machine.specs.declared.registers.Reg.TheVariants.{V}
 use Rattle.pf_machine.specs.declared.control.Control.{Control}
 use Rattle.pf_machine.specs.declared.control.Control.TheVariants.{LoadPtr, StorePtr, Imm, AddImm, AddReg, LoadByte, LoadHalf, StoreByte, StoreHalf, Below, Jump, Return}
 use Rattle.pf_machine.specs.declared.control.Control.TheVariants as Controls
-use Rattle.pf_machine.specs.Meaning.Control.{IsControl, is_offset}
+use Rattle.pf_machine.specs.Meaning.Control.{is_offset}
 use Rattle.pf_machine.specs.Meaning.Tables.{IsOver}
 use Rattle.pf_lanes.specs.declared.registers.Transfer.{Transfer}
 use Rattle.pf_frames.specs.declared.line.TableLine.{TableLine}
 use Rattle.pf_frames.specs.declared.line.TableLine.TheVariants.{Vector, Control as OfControl}
-use Rattle.pf_frames.specs.declared.line.Spelling.{Spelling}
 use Rattle.pf_frames.specs.Meaning.Frames.{marks, limit, are_operands}
 use Rattle.pf_frames.specs.Meaning.Laws.{IsSpellingOf, IsLineTable, IsTableLine, IsPrintedBy}
 use Rattle.pf_hvx.specs.declared.rows.Mnemonic.{Mnemonic}
@@ -21,7 +20,7 @@ use Rattle.pf_hvx.specs.declared.rows.Shape.TheVariants as Shapes
 use Rattle.pf_hvx.specs.declared.op.Instruction.{Instruction}
 use Rattle.pf_hvx.specs.declared.op.Instruction.TheVariants.{Load, Store, Copy, Constant, Splat, Unary, Binary, Joined, Shift, JoinedShift, Compare, Choose, Pair, PairUnary, Shuffle, Deal}
 use Rattle.pf_hvx.specs.Meaning.Rows.{place, frame_at, row_at, row}
-use Rattle.pf_hvx.specs.Meaning.Instructions.{IsHvxInstruction, name_of, shape_of, has_numbers}
+use Rattle.pf_hvx.specs.Meaning.Instructions.{IsHvxInstruction, name_of, shape_of}
 use Rattle.pf_hvx.specs.Meaning.Lines.{general, role, numbers, printed, is_negative, also_constant, also, transfer, made, lines, jumps}
 use Rattle.pf_hvx.specs.Meaning.Hvx.{table}
 use Rattle.pf_hvx.specs.Steps.RowLaws.{named, place_inside}

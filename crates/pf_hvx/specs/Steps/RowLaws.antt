@@ -6,7 +6,7 @@ use Rattle.std.proofs.lemmas.Nat.{mod_below}
 use Rattle.pf_ints.specs.declared.lane.LaneType.{LaneType}
 use Rattle.pf_ints.specs.declared.lane.Bits.{Bits}
 use Rattle.pf_ints.specs.declared.lane.Bits.TheVariants.{Eight, Sixteen, ThirtyTwo}
-use Rattle.pf_ints.specs.Meaning.Lanes.{bit_count, lane_width}
+use Rattle.pf_ints.specs.Meaning.Lanes.{bit_count}
 use Rattle.pf_lanes.specs.declared.recipes.Recipe.{Recipe}
 use Rattle.pf_lanes.specs.Meaning.Lanes.{byte_count, bytes_of}
 use Rattle.pf_lanes.specs.Meaning.Recipes.{have_room}

@@ -1,6 +1,6 @@
 -- The table meets the laws of every set of instructions.
-use Rattle.std.proofs.Common.{◌≡◌, ℕ, ℤ, pos, ◌+◌, ◌*◌, ◌/◌, ◌%◌, ◌<◌, ◌≤◌, List, [], ◌∷◌, All, Bool, true, false, length, map, Option, None, Some, MatchOption, refl, arith, sym, ◌∙◌, ⊎_elim}
-use Rattle.std.specs.Prelude.{slice_index, slice_index_or, nat_lt, ◌||◌, ◌==◌, ◌&&◌}
+use Rattle.std.proofs.Common.{◌≡◌, ℕ, pos, ◌+◌, ◌/◌, ◌%◌, ◌<◌, ◌≤◌, List, [], ◌∷◌, All, Bool, true, false, length, map, Option, None, Some, MatchOption, refl, arith, sym, ◌∙◌, ⊎_elim}
+use Rattle.std.specs.Prelude.{nat_lt, ◌||◌, ◌==◌}
 use Rattle.std.specs.Option.{option_map}
 use Rattle.std.proofs.lemmas.Bool.{eqb-true, eqb-false, ne_eqb, or_cases}
 use Rattle.std.proofs.lemmas.List.{length-map}
@@ -12,11 +12,10 @@ use Rattle.pf_lanes.specs.Meaning.Lanes.{bytes_of, word}
 use Rattle.pf_lanes.specs.Meaning.Recipes.{lane_value}
 use Rattle.pf_lanes.proofs.LaneLaws.{length-made, bytes-made, made_are}
 use Rattle.pf_machine.specs.declared.registers.RegFile.{RegFile}
-use Rattle.pf_machine.specs.declared.registers.Reg.{Reg}
-use Rattle.pf_machine.specs.declared.registers.Reg.TheVariants.{V, K, Q}
+use Rattle.pf_machine.specs.declared.registers.Reg.TheVariants.{V, Q}
 use Rattle.pf_machine.specs.Meaning.Bytes.{AreBytes}
-use Rattle.pf_machine.specs.Meaning.RegisterFiles.{IsRegisterOf, renamed_vector, renamed_register, write, writes}
-use Rattle.pf_machine.specs.Meaning.Tables.{IsTable, IsOver, IsFile, CanRun, Accesses, renamed_access, vector_count, after}
+use Rattle.pf_machine.specs.Meaning.RegisterFiles.{IsRegisterOf, renamed_register, write, writes}
+use Rattle.pf_machine.specs.Meaning.Tables.{IsTable, IsFile, CanRun, Accesses, renamed_access, vector_count, after}
 use Rattle.pf_frames.proofs.TextLaws as Texts
 use Rattle.pf_machine.proofs.FileLaws.{vector_are, file_with}
 use Rattle.pf_hvx.specs.declared.rows.Mnemonic.TheVariants.{VasrRndSat, Vmux}

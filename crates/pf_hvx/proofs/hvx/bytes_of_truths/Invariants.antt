@@ -1,4 +1,4 @@
-use Rattle.std.proofs.Common.{◌≡◌, ℕ, take, length, map, if◌then◌else◌}
+use Rattle.std.proofs.Common.{◌≡◌, take, length, map, if◌then◌else◌}
 use Rattle.pf_hvx.proofs.hvx.bytes_of_truths.Given as goal
 
 abbrev pub invariant-loop-n : goal.invariant-loop-n

@@ -1,4 +1,4 @@
-use Rattle.std.proofs.Common.{◌≡◌, ◌∙◌, ◌<◌, ◌+◌, ap, length, take, false, rules, arith, refl}
+use Rattle.std.proofs.Common.{◌∙◌, ◌<◌, ◌+◌, ap, length, take, false, rules, arith, refl}
 use Rattle.std.specs.Prelude.{nat_lt}
 use Rattle.std.proofs.lemmas.List.{length-set}
 use Rattle.pf_hvx.proofs.TruthLaws.{item_more}

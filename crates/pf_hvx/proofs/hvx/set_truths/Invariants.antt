@@ -1,4 +1,4 @@
-use Rattle.std.proofs.Common.{◌≡◌, ℕ, take, length, map, nat_lt}
+use Rattle.std.proofs.Common.{◌≡◌, take, length, map, nat_lt}
 use Rattle.pf_hvx.proofs.hvx.set_truths.Given as goal
 
 abbrev pub invariant-loop-n : goal.invariant-loop-n
