@@ -1,7 +1,6 @@
 -- What reading a text for the target that it names says of the programs of all targets.
-use Rattle.std.proofs.Common.{◌≡◌, ℕ, List, [], ◌∷◌, ◌++◌, ◌⊎◌, inl, inr, Ok, Err, refl, sym, ap, subst, ◌∙◌, arith}
+use Rattle.std.proofs.Common.{◌≡◌, ℕ, List, [], ◌∷◌, ◌++◌, ◌⊎◌, inl, inr, Ok, Err, refl, sym, ap, subst, ◌∙◌, arith, get_or}
 use Rattle.std.specs.List.{AllZip}
-use Rattle.std.specs.Prelude.{slice_index_or}
 use Rattle.std.specs.Str.Lines.{lines}
 use Rattle.pf_ints.specs.declared.target.Target.{Target}
 use Rattle.pf_ints.specs.declared.target.Target.TheVariants.{Neon as OnNeon, Avx2 as OnAvx2, Hvx as OnHvx}
@@ -30,26 +29,22 @@ use Rattle.pf_run.specs.declared.any.AnyProgram.{AnyProgram}
 use Rattle.pf_run.specs.declared.any.AnyProgram.TheVariants.{Neon as NeonProgram, Avx2 as Avx2Program, Hvx as HvxProgram}
 use Rattle.pf_run.specs.Meaning.AnyPrograms.{IsAnyText, IsAnyFault, IsFaultOn}
 
-place : Target → ℕ
+abbrev place : Target → ℕ
 place OnNeon = 0
 place OnAvx2 = 1
 place OnHvx = 2
-
--- the first letter of the target's word
-letter : (line : List ℕ) → ℕ
-letter line = slice_index_or line 8 0
 
 same_line : (s t : Target) → tight (target_line s) ≡ tight (target_line t) → place s ≡ place t
 unfolding tight
 same_line OnNeon OnNeon e = refl
 same_line OnAvx2 OnAvx2 e = refl
 same_line OnHvx OnHvx e = refl
-same_line OnNeon OnAvx2 e = let other : 110 ≡ 97 = ap letter e in absurd (omega arith)
-same_line OnNeon OnHvx e = let other : 110 ≡ 104 = ap letter e in absurd (omega arith)
-same_line OnAvx2 OnNeon e = let other : 97 ≡ 110 = ap letter e in absurd (omega arith)
-same_line OnAvx2 OnHvx e = let other : 97 ≡ 104 = ap letter e in absurd (omega arith)
-same_line OnHvx OnNeon e = let other : 104 ≡ 110 = ap letter e in absurd (omega arith)
-same_line OnHvx OnAvx2 e = let other : 104 ≡ 97 = ap letter e in absurd (omega arith)
+same_line OnNeon OnAvx2 e = absurd (let first : 110 ≡ 97 = ap (λ l. get_or l 8 0) e in omega arith)
+same_line OnNeon OnHvx e = absurd (let first : 110 ≡ 104 = ap (λ l. get_or l 8 0) e in omega arith)
+same_line OnAvx2 OnNeon e = absurd (let first : 97 ≡ 110 = ap (λ l. get_or l 8 0) e in omega arith)
+same_line OnAvx2 OnHvx e = absurd (let first : 97 ≡ 104 = ap (λ l. get_or l 8 0) e in omega arith)
+same_line OnHvx OnNeon e = absurd (let first : 104 ≡ 110 = ap (λ l. get_or l 8 0) e in omega arith)
+same_line OnHvx OnAvx2 e = absurd (let first : 104 ≡ 97 = ap (λ l. get_or l 8 0) e in omega arith)
 
 one_target : (s t : Target) (ls : List (List ℕ)) → IsFor s ls → IsFor t ls → place s ≡ place t
 one_target s t [] first second = absurd first
@@ -65,7 +60,7 @@ pub names_target : {I O : Type 0} (t : Table O) (is_op : O → Type 0) (bytes : 
 names_target t is_op bytes p is = first_named t.target p.head is.head.declarations _ is.back is.front (lines bytes) is.parts is.head.parts is.head.declared
 
 -- the target that a program is for
-target_of : AnyProgram → Target
+abbrev pub target_of : AnyProgram → Target
 target_of (NeonProgram p) = OnNeon
 target_of (Avx2Program p) = OnAvx2
 target_of (HvxProgram p) = OnHvx
@@ -83,8 +78,8 @@ apart p bytes t is named = one_target (target_of p) t (lines bytes) (names_any p
 pub read_neon : (bytes : List ℕ) (p : ProgramOf Neon NeonInstruction) → IsFor OnNeon (lines bytes) → ((q : ProgramOf Neon NeonInstruction) → IsText neon_table IsNeonInstruction bytes q → IsProgramOr q (Ok p))
     → (q : AnyProgram) → IsAnyText q bytes → q ≡ NeonProgram p
 read_neon bytes p named only (NeonProgram q) is = ap NeonProgram (sym (only q is))
-read_neon bytes p named only (Avx2Program q) is = let other : 1 ≡ 0 = apart (Avx2Program q) bytes OnNeon is named in absurd (omega arith)
-read_neon bytes p named only (HvxProgram q) is = let other : 2 ≡ 0 = apart (HvxProgram q) bytes OnNeon is named in absurd (omega arith)
+read_neon bytes p named only (Avx2Program q) is = absurd (let other : 1 ≡ 0 = apart (Avx2Program q) bytes OnNeon is named in omega arith)
+read_neon bytes p named only (HvxProgram q) is = absurd (let other : 2 ≡ 0 = apart (HvxProgram q) bytes OnNeon is named in omega arith)
 
 pub refused_neon : (bytes : List ℕ) (fault : TextFault) → IsFor OnNeon (lines bytes) → ((q : ProgramOf Neon NeonInstruction) → IsText neon_table IsNeonInstruction bytes q → IsProgramOr q (Err fault))
     → IsTextRefusal Neon neon_table IsNeonInstruction bytes fault → (IsAnyFault bytes fault × ((q : AnyProgram) → IsAnyText q bytes → ⊥)) ⊎ (fault ≡ Memory)
@@ -92,32 +87,32 @@ refused_neon bytes (At line kind) named only fault = inl (inl (OnNeon, named, fa
   where
     none : (q : AnyProgram) → IsAnyText q bytes → ⊥
     none (NeonProgram q) is = only q is
-    none (Avx2Program q) is = let other : 1 ≡ 0 = apart (Avx2Program q) bytes OnNeon is named in absurd (omega arith)
-    none (HvxProgram q) is = let other : 2 ≡ 0 = apart (HvxProgram q) bytes OnNeon is named in absurd (omega arith)
+    none (Avx2Program q) is = absurd (let other : 1 ≡ 0 = apart (Avx2Program q) bytes OnNeon is named in omega arith)
+    none (HvxProgram q) is = absurd (let other : 2 ≡ 0 = apart (HvxProgram q) bytes OnNeon is named in omega arith)
 refused_neon bytes Memory named only fault = inr refl
 
 -- a text for avx2 that is read, or refused, is one of no other program of any target
 pub read_avx2 : (bytes : List ℕ) (p : ProgramOf Avx2 Avx2Instruction) → IsFor OnAvx2 (lines bytes) → ((q : ProgramOf Avx2 Avx2Instruction) → IsText avx2_table IsAvx2Instruction bytes q → IsProgramOr q (Ok p))
     → (q : AnyProgram) → IsAnyText q bytes → q ≡ Avx2Program p
-read_avx2 bytes p named only (NeonProgram q) is = let other : 0 ≡ 1 = apart (NeonProgram q) bytes OnAvx2 is named in absurd (omega arith)
+read_avx2 bytes p named only (NeonProgram q) is = absurd (let other : 0 ≡ 1 = apart (NeonProgram q) bytes OnAvx2 is named in omega arith)
 read_avx2 bytes p named only (Avx2Program q) is = ap Avx2Program (sym (only q is))
-read_avx2 bytes p named only (HvxProgram q) is = let other : 2 ≡ 1 = apart (HvxProgram q) bytes OnAvx2 is named in absurd (omega arith)
+read_avx2 bytes p named only (HvxProgram q) is = absurd (let other : 2 ≡ 1 = apart (HvxProgram q) bytes OnAvx2 is named in omega arith)
 
 pub refused_avx2 : (bytes : List ℕ) (fault : TextFault) → IsFor OnAvx2 (lines bytes) → ((q : ProgramOf Avx2 Avx2Instruction) → IsText avx2_table IsAvx2Instruction bytes q → IsProgramOr q (Err fault))
     → IsTextRefusal Avx2 avx2_table IsAvx2Instruction bytes fault → (IsAnyFault bytes fault × ((q : AnyProgram) → IsAnyText q bytes → ⊥)) ⊎ (fault ≡ Memory)
 refused_avx2 bytes (At line kind) named only fault = inl (inl (OnAvx2, named, fault), none)
   where
     none : (q : AnyProgram) → IsAnyText q bytes → ⊥
-    none (NeonProgram q) is = let other : 0 ≡ 1 = apart (NeonProgram q) bytes OnAvx2 is named in absurd (omega arith)
+    none (NeonProgram q) is = absurd (let other : 0 ≡ 1 = apart (NeonProgram q) bytes OnAvx2 is named in omega arith)
     none (Avx2Program q) is = only q is
-    none (HvxProgram q) is = let other : 2 ≡ 1 = apart (HvxProgram q) bytes OnAvx2 is named in absurd (omega arith)
+    none (HvxProgram q) is = absurd (let other : 2 ≡ 1 = apart (HvxProgram q) bytes OnAvx2 is named in omega arith)
 refused_avx2 bytes Memory named only fault = inr refl
 
 -- a text for hvx that is read, or refused, is one of no other program of any target
 pub read_hvx : (bytes : List ℕ) (p : ProgramOf Hvx HvxInstruction) → IsFor OnHvx (lines bytes) → ((q : ProgramOf Hvx HvxInstruction) → IsText hvx_table IsHvxInstruction bytes q → IsProgramOr q (Ok p))
     → (q : AnyProgram) → IsAnyText q bytes → q ≡ HvxProgram p
-read_hvx bytes p named only (NeonProgram q) is = let other : 0 ≡ 2 = apart (NeonProgram q) bytes OnHvx is named in absurd (omega arith)
-read_hvx bytes p named only (Avx2Program q) is = let other : 1 ≡ 2 = apart (Avx2Program q) bytes OnHvx is named in absurd (omega arith)
+read_hvx bytes p named only (NeonProgram q) is = absurd (let other : 0 ≡ 2 = apart (NeonProgram q) bytes OnHvx is named in omega arith)
+read_hvx bytes p named only (Avx2Program q) is = absurd (let other : 1 ≡ 2 = apart (Avx2Program q) bytes OnHvx is named in omega arith)
 read_hvx bytes p named only (HvxProgram q) is = ap HvxProgram (sym (only q is))
 
 pub refused_hvx : (bytes : List ℕ) (fault : TextFault) → IsFor OnHvx (lines bytes) → ((q : ProgramOf Hvx HvxInstruction) → IsText hvx_table IsHvxInstruction bytes q → IsProgramOr q (Err fault))
@@ -125,8 +120,8 @@ pub refused_hvx : (bytes : List ℕ) (fault : TextFault) → IsFor OnHvx (lines 
 refused_hvx bytes (At line kind) named only fault = inl (inl (OnHvx, named, fault), none)
   where
     none : (q : AnyProgram) → IsAnyText q bytes → ⊥
-    none (NeonProgram q) is = let other : 0 ≡ 2 = apart (NeonProgram q) bytes OnHvx is named in absurd (omega arith)
-    none (Avx2Program q) is = let other : 1 ≡ 2 = apart (Avx2Program q) bytes OnHvx is named in absurd (omega arith)
+    none (NeonProgram q) is = absurd (let other : 0 ≡ 2 = apart (NeonProgram q) bytes OnHvx is named in omega arith)
+    none (Avx2Program q) is = absurd (let other : 1 ≡ 2 = apart (Avx2Program q) bytes OnHvx is named in omega arith)
     none (HvxProgram q) is = only q is
 refused_hvx bytes Memory named only fault = inr refl
 
