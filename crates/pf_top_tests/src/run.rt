@@ -67,7 +67,10 @@ const FILES: &[(&str, &[u8])] = &[
         .out u8\n.scratch 224\n.lifted out u8 = min(a[0,0], b[0,0])\n.cost 0\nret\n",
     ),
     ("sixteen.pgm", b"P5\n16 1\n255\nabcdefghijklmnop"),
-    ("row32.pgm", b"P5\n32 1\n255\nabcdefghijklmnopABCDEFGHIJKLMNOP"),
+    (
+        "row32.pgm",
+        b"P5\n32 1\n255\nabcdefghijklmnopABCDEFGHIJKLMNOP",
+    ),
     (
         "row128.pgm",
         b"P5\n128 1\n255\nabcdefghijklmnopABCDEFGHIJKLMNOPqrstuvwxyz012345QRSTUVWXYZ6789+-\
