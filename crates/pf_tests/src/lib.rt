@@ -2,19 +2,13 @@
 #![tactic(auto)]
 
 #[cfg(test)]
-mod axioms;
-#[cfg(test)]
 mod faults;
-#[cfg(test)]
-mod forms;
 #[cfg(test)]
 mod images;
 #[cfg(test)]
 mod ints;
 #[cfg(test)]
 mod kernels;
-#[cfg(test)]
-mod laneops;
 #[cfg(test)]
 mod machine;
 #[cfg(test)]

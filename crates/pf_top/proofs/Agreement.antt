@@ -25,7 +25,7 @@ use Rattle.pf_top.specs.declared.run_verdict.NoImage.TheVariants.{Size, Pixel, N
 use Rattle.pf_top.specs.declared.run_verdict.RunVerdict.{RunVerdict}
 use Rattle.pf_top.specs.declared.run_verdict.RunVerdict.TheVariants.{Done, Missing, ReadFailed, TextRefused, Count, ImageRefused, NoImage, WriteFailed, Memory}
 use Rattle.pf_top.specs.declared.text_file.TextRefusal.{TextRefusal}
-use Rattle.pf_top.specs.declared.text_file.TextRefusal.TheVariants.{TooLong, NotBuilt, At}
+use Rattle.pf_top.specs.declared.text_file.TextRefusal.TheVariants.{TooLong, At}
 use Rattle.pf_top.specs.declared.image_files.ImageRefusal.TheVariants.{TooLong as ImageTooLong, At as ImageAt}
 use Rattle.pf_top.specs.Meaning.Completeness.{IsImageThere, IsRunnable}
 use Rattle.pf_top.specs.Meaning.ImageFiles.{HoldsImage}
@@ -45,7 +45,6 @@ run_done r Done b a told = refl
 run_done r (Missing w) b a told = absurd (not_nought _ b a told (omega arith) (omega arith))
 run_done r (ReadFailed w) b a told = absurd (not_nought _ b a told (omega arith) (omega arith))
 run_done r (TextRefused TooLong) b a told = absurd (not_nought _ b a told (omega arith) (omega arith))
-run_done r (TextRefused (NotBuilt target)) b a told = absurd (not_nought _ b a told (omega arith) (omega arith))
 run_done r (TextRefused (At line kind)) b a told = absurd (not_nought _ b a told (omega arith) (omega arith))
 run_done r (Count want got) b a told = absurd (not_nought _ b a told (omega arith) (omega arith))
 run_done r (ImageRefused n ImageTooLong) b a told = absurd (not_nought _ b a told (omega arith) (omega arith))

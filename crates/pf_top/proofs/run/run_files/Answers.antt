@@ -7,13 +7,20 @@ use Rattle.pf_top.specs.Steps.RunSteps.{the_run}
 use Rattle.pf_run.specs.Meaning.AnyPrograms.{head_of}
 use Rattle.pf_top.specs.Meaning.TextFiles.{programs}
 use Rattle.pf_top.proofs.Tellable.{any_among}
-use Rattle.pf_top.proofs.Running.{stopped_images, stopped_output, ended}
+use Rattle.pf_top.proofs.Running.{stopped_count, stopped_images, stopped_output, ended}
 use Rattle.pf_top.proofs.run.run_files.Goals as goal
 
 pub output_of-requires-clause-count : goal.output_of-requires-clause-count
 output_of-requires-clause-count g c =
     let decls : c.as_slice-decls.result.now ≡ (head_of c.in_ok-program.program).images = c.as_slice-decls.ensures ∙ ap (λ h. h.images) c.head.ensures.value in
     AllZip-long _ c.as_slice-decls.result.now c.in_ok-images.images c.in_ok-images.ensures.types ∙ ap (λ (ds : List ImageDecl). length ds) decls
+
+pub returns-in_err-judge_count : goal.returns-in_err-judge_count
+returns-in_err-judge_count g c =
+    let decls : c.as_slice-decls.result.now ≡ (head_of c.in_ok-program.program).images = c.as_slice-decls.ensures ∙ ap (λ h. h.images) c.head.ensures.value in
+    let mapped = length-map c.args.words.now.images.now string_bytes in
+    let p = err_from_is_err_and c.from_residual-in_err-judge_count.result c.from_residual-in_err-judge_count.ensures.1 in
+    rw (p.1, p.2, c.in_err-judge_count.ensures.0) (stopped_count programs (the_run c.args.words.now) c.in_ok-program.program _ _ _ _ c.in_ok-program.ensures.judged (ap (λ (ds : List ImageDecl). length ds) decls) (sym mapped) c.in_err-judge_count.ensures.1)
 
 pub returns-in_err-images : goal.returns-in_err-images
 returns-in_err-images g c =
