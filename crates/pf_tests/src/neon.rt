@@ -1,59 +1,9 @@
-//! Instructions of neon, one at a time: their lines and their effects.
+//! Instructions of neon, one at a time: their lines, and what they name.
 
-ghost use Rattle.std.specs.Prelude.{◌≡◌, ◌∷◌, [], replicate, false, IfOk};
-
-use pf_ints::{Memory, Sequence};
-use pf_isa::{Isa, Reg, RegFile};
+use pf_isa::{Isa, Reg};
 use pf_neon::{Lanes, Neon, Op};
-use std::alloc::Global;
 use std::process::Abort;
 use std::test::Fail;
-
-const LEFT: [u8; 16] = [1, 2, 255, 0, 0, 128, 1, 0, 9, 0, 0, 7, 5, 6, 7, 8];
-
-const RIGHT: [u8; 16] = [3, 1, 0, 1, 255, 127, 2, 0, 0, 9, 7, 0, 8, 7, 6, 5];
-
-/// A file of three vectors: zeros and these two.
-fn file(alloc: Global, left: &[u8; 16], right: &[u8; 16]) -> Result<RegFile, Memory>
-    ensures { IfOk result (λ f. f ≡ record { vectors = replicate 16 0 ∷ left.now ∷ right.now ∷ []; k = 0; q = replicate 16 false }) }
-{
-    let mut vectors = Sequence::new(alloc);
-    vectors.push(Sequence::from_slice(alloc, &[0; 16])?)?;
-    vectors.push(Sequence::from_slice(alloc, left)?)?;
-    vectors.push(Sequence::from_slice(alloc, right)?)?;
-    let q = Sequence::from_slice(alloc, &[false; 16])?;
-    Ok(RegFile { vectors, k: 0, q })
-}
-
-/// The lesser of each two lanes of these vectors.
-const LESSER: &[(Lanes, [u8; 16])] = &[
-    (
-        Lanes::Bytes,
-        [1, 1, 0, 0, 0, 127, 1, 0, 0, 0, 0, 0, 5, 6, 6, 5],
-    ),
-    (
-        Lanes::Halves,
-        [3, 1, 255, 0, 255, 127, 1, 0, 9, 0, 7, 0, 5, 6, 6, 5],
-    ),
-    (
-        Lanes::Words,
-        [1, 2, 255, 0, 0, 128, 1, 0, 0, 9, 7, 0, 8, 7, 6, 5],
-    ),
-];
-
-#[test]
-fn lanes_are_computed(rt: HostRuntime) -> Result<(), Fail> {
-    for &(lanes, wanted) in LESSER {
-        let mut regs = file(rt.alloc(), &LEFT, &RIGHT)?;
-        Neon::effect(&Op::umin(lanes, 0, 1, 2), &mut regs);
-        let least = regs.vectors.get(0).ok_or("no vector")?;
-        assert_eq!(rt; least.as_slice(), wanted.as_slice());
-        Neon::effect(&Op::copy(2, 1), &mut regs);
-        let copied = regs.vectors.get(2).ok_or("no vector")?;
-        assert_eq!(rt; copied.as_slice(), LEFT.as_slice());
-    }
-    Ok(())
-}
 
 /// Lines of vector instructions as they are printed, and with other blanks.
 const VECTOR_LINES: &[(&[u8], &[u8])] = &[
