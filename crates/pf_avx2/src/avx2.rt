@@ -12,10 +12,10 @@ use crate::lines::Avx2Lines;
 use crate::op::{Instruction, Op};
 use crate::rows::Mnemonic;
 use pf_frames::{TableLine, parsed_control, parsed_op, printed_control, printed_line};
-use pf_ints::{Memory, Target};
+use pf_ints::Target;
 use pf_lanes::{Transfer, bytes_of, compute};
 use pf_machine::{Access, Ctl, Isa, Reg, RegFile, RegList};
-use std::alloc::Global;
+use pf_text::ShortLine;
 
 /// The instructions of AVX2.
 pub struct Avx2;
@@ -266,9 +266,9 @@ impl Isa for Avx2 {
         Op::store(from, j)
     }
 
-    fn print(alloc: Global, op: &Op) -> Result<Vec<u8>, Memory> {
+    fn print(op: &Op) -> ShortLine {
         let line = TableLine::Vector(op.instruction);
-        Vec::from_slice(alloc, printed_line::<Avx2Lines>(&line).as_slice())
+        printed_line::<Avx2Lines>(&line)
     }
 
     fn parse(line: &[u8]) -> Option<Op> {
@@ -278,8 +278,8 @@ impl Isa for Avx2 {
         }
     }
 
-    fn print_ctl(alloc: Global, c: &Ctl) -> Result<Vec<u8>, Memory> {
-        Vec::from_slice(alloc, printed_control::<Avx2Lines>(c.control()).as_slice())
+    fn print_ctl(c: &Ctl) -> ShortLine {
+        printed_control::<Avx2Lines>(c.control())
     }
 
     fn parse_ctl(line: &[u8]) -> Option<Ctl> {

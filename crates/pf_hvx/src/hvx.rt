@@ -19,10 +19,10 @@ use crate::op::{Instruction, Op};
 use crate::rows::Mnemonic;
 use crate::sources::Sources;
 use pf_frames::{TableLine, parsed_control, parsed_op, printed_control, printed_line};
-use pf_ints::{LaneType, Memory, Sequence, Target};
+use pf_ints::{LaneType, Sequence, Target};
 use pf_lanes::{Recipe, Transfer, bytes_of, compute, spread};
 use pf_machine::{Access, Ctl, Isa, Reg, RegFile, RegList};
-use std::alloc::Global;
+use pf_text::ShortLine;
 
 /// The instructions of HVX.
 pub struct Hvx;
@@ -409,9 +409,9 @@ impl Isa for Hvx {
         Op::store(from, j)
     }
 
-    fn print(alloc: Global, op: &Op) -> Result<Vec<u8>, Memory> {
+    fn print(op: &Op) -> ShortLine {
         let line = TableLine::Vector(op.instruction);
-        Vec::from_slice(alloc, printed_line::<HvxLines>(&line).as_slice())
+        printed_line::<HvxLines>(&line)
     }
 
     fn parse(line: &[u8]) -> Option<Op> {
@@ -421,8 +421,8 @@ impl Isa for Hvx {
         }
     }
 
-    fn print_ctl(alloc: Global, c: &Ctl) -> Result<Vec<u8>, Memory> {
-        Vec::from_slice(alloc, printed_control::<HvxLines>(c.control()).as_slice())
+    fn print_ctl(c: &Ctl) -> ShortLine {
+        printed_control::<HvxLines>(c.control())
     }
 
     fn parse_ctl(line: &[u8]) -> Option<Ctl> {
