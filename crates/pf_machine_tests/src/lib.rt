@@ -2,6 +2,10 @@
 #![tactic(auto)]
 
 #[cfg(test)]
+mod avx2_programs;
+#[cfg(test)]
+mod hvx_programs;
+#[cfg(test)]
 mod machine;
 #[cfg(test)]
 mod neon;

@@ -1,8 +1,8 @@
 //! Programs that run all control instructions, each many times, and what they leave in memory.
 //!
 //! They and their final memory were made by an implementation that shares nothing with this one,
-//! and the memory was confirmed on an emulator of the processor, for neon qemu-aarch64 7.2. Steps
-//! and addresses follow from the definitions alone.
+//! and the memory was confirmed outside: for neon on qemu-aarch64 7.2, for AVX2 on an Intel Xeon
+//! processor, for HVX on qemu-hexagon 7.2. Steps and addresses follow from the definitions alone.
 //!
 //! A text of such programs has lines of a word and what it says:
 //!
@@ -14,8 +14,12 @@
 //!     memory ADDRESS HEX        bytes of scratch and output behind the last row; all others are 0, as before
 //!     end
 
+use crate::avx2_programs::AVX2;
+use crate::hvx_programs::HVX;
 use crate::machine::{machine_of, region, start_row};
 use crate::neon_programs::NEON;
+use pf_avx2::Avx2;
+use pf_hvx::Hvx;
 use pf_images::read_pgm;
 use pf_ints::{Image, LaneType, Memory, Sequence};
 use pf_isa::{Isa, Machine, RegionList, Trap, read_text};
@@ -312,5 +316,7 @@ fn try_programs<I: Isa, R: Abort + AllocGlobal>(rt: &R, text: &str) -> Result<u3
 #[test]
 fn programs_leave_their_memory(rt: HostRuntime) -> Result<(), Fail> {
     assert_eq!(rt; try_programs::<Neon, HostRuntime>(&rt, NEON)?, 3);
+    assert_eq!(rt; try_programs::<Avx2, HostRuntime>(&rt, AVX2)?, 3);
+    assert_eq!(rt; try_programs::<Hvx, HostRuntime>(&rt, HVX)?, 3);
     Ok(())
 }
