@@ -239,14 +239,22 @@ fn machine_before<I: Isa, R: Abort + AllocGlobal>(
 }
 
 /// Runs the rows on the machine.
-fn try_rows<I: Isa, R: Abort + AllocGlobal>(rt: &R, trial: &Trial) -> Result<(), Fail> {
+fn try_machine<I: Isa, R: Abort + AllocGlobal>(
+    rt: &R,
+    machine: &mut Machine<I>,
+    trial: &Trial,
+) -> Result<(), Fail> {
     let table = trial.spans.first().ok_or("no table")?.start;
-    let mut machine = machine_before::<I, R>(rt, trial)?;
     for row in trial.rows.as_slice() {
-        try_row(rt, &mut machine, table, row);
+        try_row(rt, machine, table, row);
     }
-    try_region(rt, &machine, trial, 1)?;
-    try_region(rt, &machine, trial, 3)
+    try_region(rt, machine, trial, 1)?;
+    try_region(rt, machine, trial, 3)
+}
+
+fn try_rows<I: Isa, R: Abort + AllocGlobal>(rt: &R, trial: &Trial) -> Result<(), Fail> {
+    let mut machine = machine_before::<I, R>(rt, trial)?;
+    try_machine(rt, &mut machine, trial)
 }
 
 /// The file of the image.
