@@ -1,0 +1,7 @@
+pub mod Registers
+pub mod Sets
+pub mod Instructions
+pub mod Effects
+pub mod Lines
+pub mod Tables
+pub mod Laws

@@ -1,0 +1,14 @@
+//! Sets of vector instructions as tables of rows: each row is the line of an instruction, with what it makes of its operands.
+#![tactic(auto)]
+
+mod instruction;
+mod lines;
+mod operands;
+mod row;
+mod set;
+
+pub use instruction::Instruction;
+pub use lines::LinesOf;
+pub use operands::{Ends, Sources};
+pub use row::{Extent, Row, Shape, Style, place};
+pub use set::Rows;
