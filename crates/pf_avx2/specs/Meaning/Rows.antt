@@ -4,7 +4,8 @@ use denote.Enum.Declared.{tag_of}
 use Rattle.pf_tables.specs.declared.row.Row.{Row}
 use Rattle.pf_avx2.specs.contracts.rows.Mnemonic.{the_type as name_type}
 use Rattle.pf_avx2.specs.declared.rows.Mnemonic.{Mnemonic}
-use Rattle.pf_avx2.specs.declared.rows.TheConstants.{ROWS, NONE, NAMED}
+use Rattle.pf_tables.specs.declared.recipes.TheConstants.{NONE}
+use Rattle.pf_avx2.specs.declared.rows.TheConstants.{ROWS, NAMED}
 
 -- the place of a name in the table
 abbrev pub place : Mnemonic → ℕ
