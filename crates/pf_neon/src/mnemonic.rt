@@ -1,10 +1,10 @@
 ghost use Rattle.std.specs.Prelude.{◌≡◌, ◌<◌};
-ghost use Rattle.pf_neon.specs.Meaning.Rows.{place_of};
+ghost use Rattle.pf_neon.specs.Meaning.Rows.{place};
 
-use crate::rows::{FIRST, PLACES};
+use crate::rows::{NAMED, PLACES};
 
-/// The instructions that make lanes: a row of the table each, behind the rows that every table has.
-/// `Low` and `High` are the forms without and with a 2, of the lower and of the upper half.
+/// The names of the rows that make lanes: those behind the rows that each table has. `Low` and
+/// `High` are the forms without and with a 2, of the lower and of the upper half.
 #[derive(Clone, Copy)]
 pub enum Mnemonic {
     Add16b,
@@ -203,11 +203,11 @@ pub enum Mnemonic {
 }
 
 impl Mnemonic {
-    /// The place of the row in the table.
+    /// The place of the name's row.
     pub fn place(self) -> usize
-        ensures value { result ≡ place_of self }
-        ensures small { result < PLACES }
+        ensures value { result ≡ place self }
+        ensures inside { result < PLACES }
     {
-        FIRST + self as usize
+        NAMED + self as usize
     }
 }

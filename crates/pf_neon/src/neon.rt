@@ -1,5 +1,5 @@
 ghost use Rattle.pf_neon.specs.Meaning.Neon.{neon_set};
-ghost use Rattle.pf_neon.specs.Steps.SetLaws.{neon_is_set};
+ghost use Rattle.pf_neon.specs.Steps.SetLaws.{is_neon_set};
 
 use crate::rows::{PLACES, STYLE, entry};
 use pf_tables::{Row, Rows, Style};
@@ -39,5 +39,5 @@ impl Rows for Neon {
         if below { (b"b.lo ", b"") } else { (b"b ", b"") }
     }
 
-    ghost laws = { neon_is_set };
+    ghost laws = { is_neon_set };
 }

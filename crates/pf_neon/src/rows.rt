@@ -2,9 +2,8 @@ ghost use Rattle.std.specs.Prelude.{◌≡◌, ◌<◌, ◌+◌, length};
 ghost use Rattle.pf_neon.specs.Meaning.Rows.{word_at, pattern_at, row_at};
 
 use pf_ints::LaneType;
-use pf_lanes::{Operands, Place, Recipe, View, Work};
-use pf_tables::{Extent, Row, Shape, Style};
-use pf_values::Op;
+use pf_lanes::{Operands, Place, Recipe};
+use pf_tables::{Extent, NONE, Row, Shape, Style, one, same, three, two, view, work};
 
 macro_rules! pattern {
     (B2) => { b" v\0.16b, v\0.16b" };
@@ -39,48 +38,6 @@ macro_rules! pattern {
     (SPLAT) => { b" v\0.4s, w11" };
 }
 
-macro_rules! work {
-    (Negate) => { Work::Negate };
-    (Not) => { Work::Not };
-    (IsEqual) => { Work::IsEqual };
-    (IsGreater) => { Work::IsGreater };
-    (SaturateShift) => { Work::SaturateShift };
-    (SaturateRound) => { Work::SaturateRound };
-    ($op:ident) => { Work::Operator(Op::$op) };
-}
-
-macro_rules! view {
-    ($ty:ident, $place:expr) => {
-        View { ty: LaneType::$ty, place: $place }
-    };
-}
-
-// One lane for each lane of the result.
-macro_rules! one {
-    ($from:ident, $place:expr, $work:ident, $to:ident) => {
-        Recipe { operands: Operands::One(view!($from, $place)), work: work!($work), to: LaneType::$to }
-    };
-}
-
-// One lane of each of two vectors.
-macro_rules! two {
-    ($from:ident, $place:expr, $work:ident, $to:ident) => {
-        Recipe { operands: Operands::Two(view!($from, $place), view!($from, $place)), work: work!($work), to: LaneType::$to }
-    };
-}
-
-macro_rules! same {
-    ($work:ident, $ty:ident) => {
-        two!($ty, Place::Same, $work, $ty)
-    };
-}
-
-macro_rules! distance {
-    ($from:ident, $to:ident, $place:expr) => {
-        two!($from, $place, Absd, $to)
-    };
-}
-
 // The second vector's lanes are of half the width.
 macro_rules! extended {
     ($to:ident, $from:ident, $place:expr) => {
@@ -91,70 +48,35 @@ macro_rules! extended {
 // The product of the second and the third vector's lanes, added to the first one's.
 macro_rules! added {
     ($to:ident, $from:ident, $place:expr) => {
-        Recipe {
-            operands: Operands::Three(view!($to, Place::Same), view!($from, $place), view!($from, $place)),
-            work: Work::MulAdd,
-            to: LaneType::$to,
-        }
-    };
-}
-
-const BIT_SELECT: Recipe = Recipe {
-    operands: Operands::Three(
-        view!(U8, Place::Same),
-        view!(U8, Place::Same),
-        view!(U8, Place::Same),
-    ),
-    work: Work::BitSelect,
-    to: LaneType::U8,
-};
-
-/// Stands where no lanes are made by a row.
-pub const COPIED: Recipe = one!(U8, Place::Same, Cast, U8);
-
-macro_rules! made {
-    ($shape:ident, $recipe:expr, $extent:ident, $amount:literal, $least:literal, $most:literal, $cost:literal) => {
-        Row {
-            shape: Shape::$shape,
-            recipe: $recipe,
-            high: COPIED,
-            extent: Extent::$extent,
-            swapped: false,
-            amount: $amount,
-            least: $least,
-            most: $most,
-            cost: $cost,
-        }
+        Recipe { operands: Operands::Three(view!($to, Place::Same), view!($from, $place), view!($from, $place)), work: work!(MulAdd), to: LaneType::$to }
     };
 }
 
 macro_rules! row {
     ($word:literal, $pattern:ident, $shape:ident, $recipe:expr, $amount:literal, $cost:literal) => {
-        ($word, pattern!($pattern), made!($shape, $recipe, Whole, $amount, 0, 0, $cost))
+        ($word, pattern!($pattern), Row { shape: Shape::$shape, recipe: $recipe, amount: $amount, cost: $cost, ..NONE })
     };
 }
 
+// Shifts by the numbers from `least` to `most`.
 macro_rules! shift {
     ($word:literal, $pattern:ident, $shape:ident, $recipe:expr, $least:literal, $most:literal) => {
-        ($word, pattern!($pattern), made!($shape, $recipe, Whole, 0, $least, $most, 1))
+        ($word, pattern!($pattern), Row { shape: Shape::$shape, recipe: $recipe, least: $least, most: $most, cost: 1, ..NONE })
     };
 }
 
 // The lanes are the lower half of the result.
 macro_rules! lower {
     ($word:literal, $pattern:ident, $shape:ident, $recipe:expr, $least:literal, $most:literal) => {
-        ($word, pattern!($pattern), made!($shape, $recipe, Lower, 0, $least, $most, 1))
+        ($word, pattern!($pattern), Row { shape: Shape::$shape, recipe: $recipe, extent: Extent::Lower, least: $least, most: $most, cost: 1, ..NONE })
     };
 }
 
 macro_rules! plain {
     ($word:literal, $pattern:literal, $shape:ident) => {
-        ($word, $pattern, made!($shape, COPIED, Whole, 0, 0, 0, 0))
+        ($word, $pattern, Row { shape: Shape::$shape, ..NONE })
     };
 }
-
-/// Stands for a row that isn't there.
-pub const NONE: Row = made!(Absent, COPIED, Whole, 0, 0, 0, 0);
 
 /// A line: the word at its front, the rest, and what stands with them.
 type Line = (&'static [u8], &'static [u8], Row);
@@ -222,12 +144,12 @@ pub const PLAIN: &[Line] = &[
     row! { b"sqsub", B3, Binary, same!(SaturatingSub, I8), 0, 1 },
     row! { b"sqsub", H3, Binary, same!(SaturatingSub, I16), 0, 1 },
     row! { b"sqsub", S3, Binary, same!(SaturatingSub, I32), 0, 1 },
-    row! { b"uabd", B3, Binary, distance!(U8, U8, Place::Same), 0, 1 },
-    row! { b"uabd", H3, Binary, distance!(U16, U16, Place::Same), 0, 1 },
-    row! { b"uabd", S3, Binary, distance!(U32, U32, Place::Same), 0, 1 },
-    row! { b"sabd", B3, Binary, distance!(I8, U8, Place::Same), 0, 1 },
-    row! { b"sabd", H3, Binary, distance!(I16, U16, Place::Same), 0, 1 },
-    row! { b"sabd", S3, Binary, distance!(I32, U32, Place::Same), 0, 1 },
+    row! { b"uabd", B3, Binary, two!(U8, Place::Same, Absd, U8), 0, 1 },
+    row! { b"uabd", H3, Binary, two!(U16, Place::Same, Absd, U16), 0, 1 },
+    row! { b"uabd", S3, Binary, two!(U32, Place::Same, Absd, U32), 0, 1 },
+    row! { b"sabd", B3, Binary, two!(I8, Place::Same, Absd, U8), 0, 1 },
+    row! { b"sabd", H3, Binary, two!(I16, Place::Same, Absd, U16), 0, 1 },
+    row! { b"sabd", S3, Binary, two!(I32, Place::Same, Absd, U32), 0, 1 },
     row! { b"umin", B3, Binary, same!(Min, U8), 0, 1 },
     row! { b"umin", H3, Binary, same!(Min, U16), 0, 1 },
     row! { b"umin", S3, Binary, same!(Min, U32), 0, 1 },
@@ -275,7 +197,7 @@ pub const PLAIN: &[Line] = &[
     row! { b"cmhi", B3, Binary, same!(IsGreater, U8), 0, 1 },
     row! { b"cmhi", H3, Binary, same!(IsGreater, U16), 0, 1 },
     row! { b"cmhi", S3, Binary, same!(IsGreater, U32), 0, 1 },
-    row! { b"bsl", B3, Accumulate, BIT_SELECT, 0, 1 },
+    row! { b"bsl", B3, Accumulate, three!(U8, U8, U8, BitSelect, U8), 0, 1 },
 ];
 
 /// The rows of lanes that are wider or narrower, and that of the constant register's.
@@ -304,14 +226,14 @@ pub const RESIZED: &[Line] = &[
     row! { b"smull", S_LOW, Binary, two!(I16, Place::Same, WideningMul, I32), 0, 2 },
     row! { b"smull2", H_HIGH, Binary, two!(I8, Place::From(8), WideningMul, I16), 0, 2 },
     row! { b"smull2", S_HIGH, Binary, two!(I16, Place::From(4), WideningMul, I32), 0, 2 },
-    row! { b"uabdl", H_LOW, Binary, distance!(U8, U16, Place::Same), 0, 1 },
-    row! { b"uabdl", S_LOW, Binary, distance!(U16, U32, Place::Same), 0, 1 },
-    row! { b"uabdl2", H_HIGH, Binary, distance!(U8, U16, Place::From(8)), 0, 1 },
-    row! { b"uabdl2", S_HIGH, Binary, distance!(U16, U32, Place::From(4)), 0, 1 },
-    row! { b"sabdl", H_LOW, Binary, distance!(I8, U16, Place::Same), 0, 1 },
-    row! { b"sabdl", S_LOW, Binary, distance!(I16, U32, Place::Same), 0, 1 },
-    row! { b"sabdl2", H_HIGH, Binary, distance!(I8, U16, Place::From(8)), 0, 1 },
-    row! { b"sabdl2", S_HIGH, Binary, distance!(I16, U32, Place::From(4)), 0, 1 },
+    row! { b"uabdl", H_LOW, Binary, two!(U8, Place::Same, Absd, U16), 0, 1 },
+    row! { b"uabdl", S_LOW, Binary, two!(U16, Place::Same, Absd, U32), 0, 1 },
+    row! { b"uabdl2", H_HIGH, Binary, two!(U8, Place::From(8), Absd, U16), 0, 1 },
+    row! { b"uabdl2", S_HIGH, Binary, two!(U16, Place::From(4), Absd, U32), 0, 1 },
+    row! { b"sabdl", H_LOW, Binary, two!(I8, Place::Same, Absd, U16), 0, 1 },
+    row! { b"sabdl", S_LOW, Binary, two!(I16, Place::Same, Absd, U32), 0, 1 },
+    row! { b"sabdl2", H_HIGH, Binary, two!(I8, Place::From(8), Absd, U16), 0, 1 },
+    row! { b"sabdl2", S_HIGH, Binary, two!(I16, Place::From(4), Absd, U32), 0, 1 },
     row! { b"umlal", H_LOW, Accumulate, added!(U16, U8, Place::Same), 0, 2 },
     row! { b"umlal", S_LOW, Accumulate, added!(U32, U16, Place::Same), 0, 2 },
     row! { b"umlal2", H_HIGH, Accumulate, added!(U16, U8, Place::From(8)), 0, 2 },
@@ -382,8 +304,8 @@ pub const RESIZED: &[Line] = &[
 /// How many rows there are.
 pub const PLACES: usize = PLAIN.len() + RESIZED.len();
 
-/// The place of the first row that not every table has.
-pub const FIRST: usize = 19;
+/// The place of the first name.
+pub const NAMED: usize = 19;
 
 /// Offsets are in bytes, and the constant register has lines of its own.
 pub const STYLE: Style = Style {

@@ -4,11 +4,13 @@
 mod instruction;
 mod lines;
 mod operands;
+mod recipes;
 mod row;
 mod set;
 
 pub use instruction::Instruction;
 pub use lines::LinesOf;
 pub use operands::{Ends, Sources};
+pub use recipes::{COPIED, NONE};
 pub use row::{Extent, Row, Shape, Style, place};
 pub use set::Rows;

@@ -1,10 +1,11 @@
--- The instructions of A64 Advanced SIMD: a set, and the table that it makes.
+-- The instructions of A64 Advanced SIMD as one table.
 use Rattle.std.specs.Prelude.{[], codes}
 use Rattle.pf_ints.specs.declared.target.Target.TheVariants.{Neon}
 use Rattle.pf_machine.specs.Meaning.Tables.{Table}
 use Rattle.pf_frames.specs.Meaning.LineTables.{Jumps}
 use Rattle.pf_tables.specs.declared.instruction.Instruction.{Instruction}
 use Rattle.pf_tables.specs.Meaning.Sets.{InstructionSet}
+use Rattle.pf_tables.specs.Meaning.Instructions.{IsListed}
 use Rattle.pf_tables.specs.Meaning.Tables.{table_of}
 use Rattle.pf_neon.specs.declared.rows.TheConstants.{PLACES, STYLE}
 use Rattle.pf_neon.specs.Meaning.Rows.{word_at, pattern_at, row_at}
@@ -26,5 +27,9 @@ neon_set = record {
   jumps = jumps;
 }
 
-abbrev pub neon_table : Table Instruction
-neon_table = table_of neon_set
+abbrev pub table : Table Instruction
+table = table_of neon_set
+
+-- the values that are instructions
+abbrev pub IsNeonInstruction : Instruction → Type 0
+IsNeonInstruction i = IsListed neon_set i

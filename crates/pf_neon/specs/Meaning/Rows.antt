@@ -2,13 +2,14 @@
 use Rattle.std.specs.Prelude.{ℕ, ◌+◌, ◌++◌, List, [], map, slice_index_or}
 use denote.Enum.Declared.{tag_of}
 use Rattle.pf_tables.specs.declared.row.Row.{Row}
+use Rattle.pf_tables.specs.declared.recipes.TheConstants.{NONE}
 use Rattle.pf_neon.specs.contracts.mnemonic.Mnemonic.{the_type as name_type}
 use Rattle.pf_neon.specs.declared.mnemonic.Mnemonic.{Mnemonic}
-use Rattle.pf_neon.specs.declared.rows.TheConstants.{PLAIN, RESIZED, NONE, FIRST}
+use Rattle.pf_neon.specs.declared.rows.TheConstants.{PLAIN, RESIZED, NAMED}
 
 -- the place of a name in the table
-abbrev pub place_of : Mnemonic → ℕ
-place_of name = FIRST + tag_of name_type name
+abbrev pub place : Mnemonic → ℕ
+place name = NAMED + tag_of name_type name
 
 -- the word and the rest of the line at a place, and what stands with them
 unfoldable pub word_at : ℕ → List ℕ

@@ -27,9 +27,9 @@ fixed_rows = record {
   store_cost = refl;
 }
 
-pub neon_is_set : IsSet neon_set
+pub is_neon_set : IsSet neon_set
 unfolding word_at pattern_at row_at
-neon_is_set = record {
+is_neon_set = record {
   some_bytes = omega arith;
   few_bytes = omega arith;
   whole = refl;

@@ -1,8 +1,9 @@
 use Rattle.std.proofs.Common.{◌≡◌, ℕ, ◌<◌, List, [], length, map, get_or}
 use Rattle.std.specs.Borrow.{Bor}
 use Rattle.pf_lanes.proofs.Columns.{column}
-use Rattle.pf_hvx.specs.declared.rows.Row.{Row}
-use Rattle.pf_hvx.specs.declared.rows.TheConstants.{ROWS, NONE}
+use Rattle.pf_tables.specs.declared.row.Row.{Row}
+use Rattle.pf_tables.specs.declared.recipes.TheConstants.{NONE}
+use Rattle.pf_hvx.specs.declared.rows.TheConstants.{ROWS}
 use Rattle.pf_hvx.specs.Meaning.Rows.{frame_at, row_at}
 use Rattle.pf_hvx.proofs.rows.entry.Goals as goal
 

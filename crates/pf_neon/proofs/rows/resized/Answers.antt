@@ -1,7 +1,8 @@
 use Rattle.std.proofs.Common.{◌≡◌, ℕ, ◌+◌, ◌<◌, List, [], length, map, get_or}
 use Rattle.std.specs.Borrow.{Bor}
 use Rattle.pf_tables.specs.declared.row.Row.{Row}
-use Rattle.pf_neon.specs.declared.rows.TheConstants.{PLAIN, RESIZED, NONE}
+use Rattle.pf_tables.specs.declared.recipes.TheConstants.{NONE}
+use Rattle.pf_neon.specs.declared.rows.TheConstants.{PLAIN, RESIZED}
 use Rattle.pf_neon.specs.Meaning.Rows.{word_at, pattern_at, row_at}
 use Rattle.pf_neon.proofs.Sections.{in_second}
 use Rattle.pf_neon.proofs.rows.resized.Goals as goal
