@@ -14,9 +14,8 @@ use Rattle.pf_machine.specs.declared.program.Head.{Head}
 use Rattle.pf_machine.specs.Meaning.Programs.{ProgramOf}
 use Rattle.pf_machine.specs.Meaning.Tables.{Table}
 use Rattle.pf_neon.specs.declared.neon.Neon.{Neon}
-use Rattle.pf_neon.specs.declared.op.Instruction.{Instruction as NeonInstruction}
-use Rattle.pf_neon.specs.Meaning.Instructions.{IsNeonInstruction}
-use Rattle.pf_neon.specs.Meaning.Neon.{table as neon_table}
+use Rattle.pf_tables.specs.declared.instruction.Instruction.{Instruction as NeonInstruction}
+use Rattle.pf_neon.specs.Meaning.Neon.{table as neon_table, IsNeonInstruction}
 use Rattle.pf_avx2.specs.declared.avx2.Avx2.{Avx2}
 use Rattle.pf_avx2.specs.declared.op.Instruction.{Instruction as Avx2Instruction}
 use Rattle.pf_avx2.specs.Meaning.Instructions.{IsAvx2Instruction}

@@ -5,7 +5,9 @@ ghost use Rattle.pf_select.specs.Meaning.MinOfTaps.{HasTaps, LeavesMin, min_bloc
 
 use pf_ints::{Memory, Sequence};
 use pf_isa::{Block, Head, Item, Program};
-use pf_neon::{Lanes, Neon, Op};
+use pf_lanes::Triple;
+use pf_neon::{Mnemonic, Neon, Op};
+use pf_tables::Instruction;
 use pf_rows::row_program;
 use std::alloc::Global;
 

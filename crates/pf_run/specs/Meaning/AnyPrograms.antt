@@ -17,8 +17,7 @@ use Rattle.pf_isa.specs.declared.fault.TextKind.{TextKind}
 use Rattle.pf_isa.specs.declared.fault.TextKind.TheVariants.{Target as TargetKind}
 use Rattle.pf_isa.specs.Meaning.TextFaults.{IsTextFault, IsFor}
 use Rattle.pf_neon.specs.declared.neon.Neon.{Neon}
-use Rattle.pf_neon.specs.Meaning.Instructions.{IsNeonInstruction}
-use Rattle.pf_neon.specs.Meaning.Neon.{table as neon_table}
+use Rattle.pf_neon.specs.Meaning.Neon.{table as neon_table, IsNeonInstruction}
 use Rattle.pf_avx2.specs.declared.avx2.Avx2.{Avx2}
 use Rattle.pf_avx2.specs.Meaning.Instructions.{IsAvx2Instruction}
 use Rattle.pf_avx2.specs.Meaning.Avx2.{table as avx2_table}
