@@ -9,9 +9,9 @@ use crate::lane::lanewise;
 use crate::lines::{control_line, instruction_line};
 use crate::op::{Instruction, Op};
 use crate::reads;
-use pf_ints::{Memory, Target};
+use pf_ints::Target;
 use pf_machine::{Access, Ctl, Isa, Reg, RegFile, RegList};
-use std::alloc::Global;
+use pf_text::ShortLine;
 
 /// The instructions of A64 Advanced SIMD.
 pub struct Neon;
@@ -195,16 +195,16 @@ impl Isa for Neon {
         Op::store(from, j)
     }
 
-    fn print(alloc: Global, op: &Op) -> Result<Vec<u8>, Memory> {
-        Vec::from_slice(alloc, instruction_line(op.instruction).as_slice())
+    fn print(op: &Op) -> ShortLine {
+        instruction_line(op.instruction)
     }
 
     fn parse(line: &[u8]) -> Option<Op> {
         reads::parse(line)
     }
 
-    fn print_ctl(alloc: Global, c: &Ctl) -> Result<Vec<u8>, Memory> {
-        Vec::from_slice(alloc, control_line(c.control()).as_slice())
+    fn print_ctl(c: &Ctl) -> ShortLine {
+        control_line(c.control())
     }
 
     fn parse_ctl(line: &[u8]) -> Option<Ctl> {
