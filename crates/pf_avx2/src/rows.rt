@@ -2,7 +2,7 @@ ghost use Rattle.std.specs.Prelude.{◌≡◌, ◌<◌};
 ghost use Rattle.pf_avx2.specs.Meaning.Rows.{place, word_at, pattern_at, row_at};
 
 use pf_lanes::Place;
-use pf_tables::{Extent, NONE, Row, Shape, Style, in_turn, one, same, three};
+use pf_tables::{Entry, Extent, NONE, Row, Shape, Style, entry_at, in_turn, one, same, three};
 
 /// The names of the rows that make lanes: those behind the rows that each table has.
 #[derive(Clone, Copy)]
@@ -227,16 +227,13 @@ pub const STYLE: Style = Style {
 
 /// The row at this place: the word and the rest of its line, and what stands with them.
 #[tactic(auto, unfolding(crate::specs::Meaning::Rows::word_at, crate::specs::Meaning::Rows::pattern_at, crate::specs::Meaning::Rows::row_at))]
-pub fn entry(k: usize) -> (&'static [u8], &'static [u8], Row)
+pub fn entry(k: usize) -> Entry
     requires { k < PLACES }
     ensures word { result.0.now ≡ word_at k }
     ensures pattern { result.1.now ≡ pattern_at k }
     ensures row { result.2 ≡ row_at k }
 {
-    match ROWS.get(k) {
-        Some((word, pattern, row)) => (word, pattern, *row),
-        None => unreachable!(),
-    }
+    entry_at(ROWS, k)
 }
 
 impl Mnemonic {

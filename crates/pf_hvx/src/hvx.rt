@@ -27,11 +27,12 @@ impl Rows for Hvx {
     }
 
     fn line(place: usize) -> (&'static [u8], &'static [u8]) {
-        (b"", entry(place).0)
+        let (word, pattern, _) = entry(place);
+        (word, pattern)
     }
 
     fn row(place: usize) -> Row {
-        entry(place).1
+        entry(place).2
     }
 
     fn around(below: bool) -> (&'static [u8], &'static [u8]) {

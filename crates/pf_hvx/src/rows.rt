@@ -1,8 +1,8 @@
 ghost use Rattle.std.specs.Prelude.{◌≡◌, ◌<◌};
-ghost use Rattle.pf_hvx.specs.Meaning.Rows.{place, frame_at, row_at};
+ghost use Rattle.pf_hvx.specs.Meaning.Rows.{place, word_at, pattern_at, row_at};
 
 use pf_lanes::Place;
-use pf_tables::{COPIED, NONE, Row, Shape, Style, in_turn, mixed, one, same, three, two};
+use pf_tables::{COPIED, Entry, NONE, Row, Shape, Style, entry_at, in_turn, mixed, one, same, three, two};
 
 /// The names of the rows that make lanes: those behind the rows that each table has.
 #[derive(Clone, Copy)]
@@ -93,21 +93,21 @@ pub enum Mnemonic {
 
 macro_rules! row {
     ($frame:literal, $shape:ident, $recipe:expr, $amount:literal, $cost:literal) => {
-        ($frame, Row { shape: Shape::$shape, recipe: $recipe, amount: $amount, cost: $cost, ..NONE })
+        (b"", $frame, Row { shape: Shape::$shape, recipe: $recipe, amount: $amount, cost: $cost, ..NONE })
     };
 }
 
 // One that takes the right vector first.
 macro_rules! swapped {
     ($frame:literal, $shape:ident, $recipe:expr, $cost:literal) => {
-        ($frame, Row { shape: Shape::$shape, recipe: $recipe, swapped: true, cost: $cost, ..NONE })
+        (b"", $frame, Row { shape: Shape::$shape, recipe: $recipe, swapped: true, cost: $cost, ..NONE })
     };
 }
 
 // The lower vector of a pair is made of the lanes at even places, the upper one of those at odd ones.
 macro_rules! pair {
     ($frame:literal, $left:ident, $right:ident, $op:ident, $to:ident, $cost:literal) => {
-        ($frame, Row {
+        (b"", $frame, Row {
             shape: Shape::Pair,
             recipe: mixed!($left, $right, Place::Even, $op, $to),
             high: mixed!($left, $right, Place::Odd, $op, $to),
@@ -119,7 +119,7 @@ macro_rules! pair {
 
 macro_rules! pair_unary {
     ($frame:literal, $from:ident, $to:ident) => {
-        ($frame, Row {
+        (b"", $frame, Row {
             shape: Shape::PairUnary,
             recipe: one!($from, Place::Even, Cast, $to),
             high: one!($from, Place::Odd, Cast, $to),
@@ -131,13 +131,13 @@ macro_rules! pair_unary {
 
 macro_rules! plain {
     ($frame:literal, $shape:ident) => {
-        ($frame, Row { shape: Shape::$shape, ..NONE })
+        (b"", $frame, Row { shape: Shape::$shape, ..NONE })
     };
 }
 
 /// The rows that each table has, and then one for each name: its line, and for a name its shape, its
 /// recipes, its amount and its cost.
-pub const ROWS: &[(&[u8], Row)] = &[
+pub const ROWS: &[(&[u8], &[u8], Row)] = &[
     plain! { b"{ r\0 = memw(r\0+#\0) }", LoadPointer },
     plain! { b"{ memw(r\0+#\0) = r\0 }", StorePointer },
     plain! { b"{ r\0 = ##\0 }", SetNumber },
@@ -256,17 +256,15 @@ pub const STYLE: Style = Style {
     packets: true,
 };
 
-/// The row at this place: its line, and what stands with it.
-#[tactic(auto, unfolding(crate::specs::Meaning::Rows::frame_at, crate::specs::Meaning::Rows::row_at))]
-pub fn entry(k: usize) -> (&'static [u8], Row)
+/// The row at this place: its line, whose word is empty, and what stands with it.
+#[tactic(auto, unfolding(crate::specs::Meaning::Rows::word_at, crate::specs::Meaning::Rows::pattern_at, crate::specs::Meaning::Rows::row_at))]
+pub fn entry(k: usize) -> Entry
     requires { k < PLACES }
-    ensures frame { result.0.now ≡ frame_at k }
-    ensures row { result.1 ≡ row_at k }
+    ensures word { result.0.now ≡ word_at k }
+    ensures pattern { result.1.now ≡ pattern_at k }
+    ensures row { result.2 ≡ row_at k }
 {
-    match ROWS.get(k) {
-        Some((frame, row)) => (frame, *row),
-        None => unreachable!(),
-    }
+    entry_at(ROWS, k)
 }
 
 impl Mnemonic {

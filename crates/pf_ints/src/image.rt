@@ -13,7 +13,7 @@ pub const MOST_SIDE: u32 = 8192;
 pub const MOST_PIXELS: u32 = 16_777_216;
 
 /// An image of u8 or u16 pixels, in rows from top to bottom, of 1 by 1 to the limits above.
-#[derive(Debug, Drop)]
+#[derive(Drop)]
 pub struct Image {
     width: u32,
     height: u32,

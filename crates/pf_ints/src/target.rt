@@ -2,7 +2,7 @@ ghost use Rattle.std.specs.Prelude.{◌≡◌};
 ghost use Rattle.pf_ints.specs.Meaning.Targets.{target_word};
 
 /// A set of vector instructions that code is selected for.
-#[derive(Clone, Copy, Debug, PartialEq, Eq)]
+#[derive(Clone, Copy, PartialEq, Eq)]
 pub enum Target {
     /// A64 Advanced SIMD, vectors of 16 bytes.
     Neon,

@@ -196,23 +196,22 @@ fn push_all_labels(text: &mut Vec<u8>, labels: &[Label]) -> Result<(), Memory>
     Ok(())
 }
 
-fn push_instruction<I: Isa>(alloc: Global, text: &mut Vec<u8>, line: &Line<I>) -> Result<(), Memory>
+fn push_instruction<I: Isa>(text: &mut Vec<u8>, line: &Line<I>) -> Result<(), Memory>
     ensures text { OnOk result (text.new.items ≡ text.old.items ++ printed (line_text I.table line.now ∷ [])) }
     ensures known { IsOpOf I.is_op line.now }
 {
     let printed = match line {
         Line::Vector(op) => {
             I::known(op);
-            I::print(alloc, op)
+            I::print(op)
         }
-        Line::Control(c) => I::print_ctl(alloc, c),
+        Line::Control(c) => I::print_ctl(c),
     };
-    text.extend_from_slice(&printed?)?;
+    text.extend_from_slice(printed.as_slice())?;
     text.extend_from_slice(b"\n")
 }
 
 fn push_code<I: Isa>(
-    alloc: Global,
     text: &mut Vec<u8>,
     code: &[Line<I>],
     labels: &[Label],
@@ -224,7 +223,7 @@ fn push_code<I: Isa>(
     let mut n: u64 = 0;
     for line in code {
         rest = push_labels(text, rest, n)?;
-        push_instruction::<I>(alloc, text, line)?;
+        push_instruction::<I>(text, line)?;
         n += 1;
     }
     push_all_labels(text, rest)?;
@@ -281,7 +280,7 @@ fn program_text<I: Isa>(
 {
     let mut text = Vec::new(alloc);
     push_head(alloc, &mut text, I::TARGET, head)?;
-    push_code::<I>(alloc, &mut text, code, labels)?;
+    push_code::<I>(&mut text, code, labels)?;
     Ok(text)
 }
 

@@ -1,5 +1,5 @@
 /// A load or a store of one vector, at the address in a general register plus an offset.
-#[derive(Clone, Copy, Debug, PartialEq, Eq)]
+#[derive(Clone, Copy)]
 pub struct Access {
     /// A load, or else a store.
     pub load: bool,

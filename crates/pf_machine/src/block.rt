@@ -1,7 +1,7 @@
 use pf_ints::Sequence;
 
 /// A step of a block, over vectors by any names.
-#[derive(Debug, Drop)]
+#[derive(Drop)]
 pub enum Item<O> {
     /// An operation that is no load or store.
     Vector(O),

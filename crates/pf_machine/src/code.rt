@@ -16,7 +16,7 @@ pub enum Line<I: Isa> {
 pub type Code<I> = Sequence<Line<I>>;
 
 /// A place in code that a jump may name.
-#[derive(Clone, Copy, Debug, PartialEq, Eq)]
+#[derive(Clone, Copy)]
 pub struct Label {
     pub name: Name,
     /// How many instructions stand before it.

@@ -26,7 +26,7 @@ pub mod role {
 }
 
 /// Control instructions, over general registers by the numbers of their roles.
-#[derive(Clone, Copy, Debug, PartialEq, Eq)]
+#[derive(Clone, Copy)]
 pub enum Control {
     /// Loads a pointer, or the count, from entry number `entry` of a table of 8-byte entries.
     LoadPtr {
@@ -96,7 +96,7 @@ pub enum Control {
 /// A control instruction whose registers, numbers and label are such as an instruction may have:
 /// roles are 0 to 7; `AddImm` adds 0 to 4095 or a multiple of 4096 up to 16,773,120, or takes away
 /// 1 to 4095; a label is a name as kernels have.
-#[derive(Clone, Copy, Debug, PartialEq, Eq)]
+#[derive(Clone, Copy)]
 pub struct Ctl {
     control: Control,
 }

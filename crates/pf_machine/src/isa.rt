@@ -1,4 +1,4 @@
-ghost use Rattle.std.specs.Prelude.{◌≡◌, ℕ, ◌≤◌, IfOk};
+ghost use Rattle.std.specs.Prelude.{◌≡◌, ℕ, ◌≤◌};
 ghost use Rattle.pf_ints.specs.declared.target.Target.{Target};
 ghost use Rattle.pf_machine.specs.Meaning.Effects.{ReadsUses, ChangesDefs, RenamingCommutes};
 ghost use Rattle.pf_machine.specs.Meaning.Tables.{Table, CanRun, IsTable, ReadsOp, ReadsControl, after};
@@ -6,8 +6,8 @@ ghost use Rattle.pf_machine.specs.Meaning.Tables.{Table, CanRun, IsTable, ReadsO
 use crate::access::Access;
 use crate::control::Ctl;
 use crate::registers::{RegFile, RegList};
-use pf_ints::{Memory, Target};
-use std::alloc::Global;
+use pf_ints::Target;
+use pf_text::ShortLine;
 
 /// A set of vector instructions, with its control instructions.
 ///
@@ -83,18 +83,18 @@ pub trait Isa {
         requires { j ≤ 7 }
         ensures { result ≡ table.store from j };
 
-    /// The line of the operation, without its end.
-    fn print(alloc: Global, op: &Self::Op) -> Result<Vec<u8>, Memory>
-        ensures { IfOk result (λ line. line.items ≡ table.text op.now) };
+    /// The line of the operation, without its end. It takes no memory.
+    fn print(op: &Self::Op) -> ShortLine
+        ensures { result ≡ table.text op.now };
 
     /// The operation over the machine's vectors that the line spells, up to blanks, or None where
     /// it spells none. It takes no memory.
     fn parse(line: &[u8]) -> Option<Self::Op>
         ensures { ReadsOp table is_op line.now result };
 
-    /// The line of the control instruction, without its end.
-    fn print_ctl(alloc: Global, c: &Ctl) -> Result<Vec<u8>, Memory>
-        ensures { IfOk result (λ line. line.items ≡ table.control_text c.now) };
+    /// The line of the control instruction, without its end. It takes no memory.
+    fn print_ctl(c: &Ctl) -> ShortLine
+        ensures { result ≡ table.control_text c.now };
 
     /// The control instruction that the line is, up to blanks, or None where it is none. It takes
     /// no memory.

@@ -1,7 +1,7 @@
 use pf_ints::{ByteList, Sequence};
 
 /// A part of memory.
-#[derive(Debug, Drop)]
+#[derive(Drop)]
 pub struct Region {
     /// The address of its first byte.
     pub start: u64,

@@ -4,7 +4,7 @@ use pf_ints::{ByteList, Sequence};
 use std::marker::Model;
 
 /// A register of a vector instruction.
-#[derive(Clone, Copy, Debug, PartialEq, Eq)]
+#[derive(Clone, Copy, PartialEq, Eq)]
 pub enum Reg {
     /// The vector of this name.
     V(u32),
@@ -15,7 +15,7 @@ pub enum Reg {
 }
 
 /// Up to four registers, in order.
-#[derive(Debug, Drop)]
+#[derive(Drop)]
 pub struct RegList {
     registers: [Reg; 4],
     count: usize,
@@ -76,7 +76,7 @@ impl RegList {
 pub type VectorList = Sequence<ByteList>;
 
 /// What the registers of vector instructions hold.
-#[derive(Debug, Drop)]
+#[derive(Drop)]
 pub struct RegFile {
     pub vectors: VectorList,
     /// The constant register.

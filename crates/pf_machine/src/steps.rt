@@ -14,7 +14,7 @@ use crate::registers::RegFile;
 use pf_ints::Target;
 
 /// Why a row didn't come to its return.
-#[derive(Clone, Copy, Debug, PartialEq, Eq)]
+#[derive(Clone, Copy, PartialEq, Eq)]
 pub enum Trap {
     /// The instruction of this number, counted from 1, loads or stores so many bytes at the
     /// address, which don't all lie in one region that allows it.

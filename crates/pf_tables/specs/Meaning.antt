@@ -1,4 +1,5 @@
 pub mod Registers
+pub mod Entries
 pub mod Sets
 pub mod Instructions
 pub mod Effects

@@ -1,6 +1,7 @@
 //! Sets of vector instructions as tables of rows: each row is the line of an instruction, with what it makes of its operands.
 #![tactic(auto)]
 
+mod entries;
 mod instruction;
 mod lines;
 mod operands;
@@ -8,6 +9,7 @@ mod recipes;
 mod row;
 mod set;
 
+pub use entries::{Entry, entry_at};
 pub use instruction::Instruction;
 pub use lines::LinesOf;
 pub use operands::{Ends, Sources};

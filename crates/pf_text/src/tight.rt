@@ -8,7 +8,7 @@ use std::alloc::{AllocError, Global};
 use std::marker::Model;
 
 /// A line of at most 80 bytes. It is made and kept without memory.
-#[derive(Debug, Drop)]
+#[derive(Drop)]
 pub struct ShortLine {
     bytes: [u8; 80],
     count: usize,
@@ -97,7 +97,7 @@ impl ShortLine {
 }
 
 /// What stands before a byte of a line, as far as blanks are concerned.
-#[derive(Clone, Copy, Debug, PartialEq, Eq)]
+#[derive(Clone, Copy)]
 enum Gap {
     /// The front of the line or a comma: blanks don't count.
     Free,

@@ -4,7 +4,7 @@ use pf_ints::{LaneType, Path};
 use std::alloc::{AllocError, AllocFailed};
 
 /// Why a term has no type.
-#[derive(Debug, Drop)]
+#[derive(Drop)]
 pub enum TermFault {
     /// At the node of this path an operand's type, or the stated type, is `got` where `want` is asked for.
     Types {

@@ -14,7 +14,7 @@ pub struct ImageName {
 pub type ImageNames = Sequence<ImageName>;
 
 /// A pixel of the image of this number, `dx` columns right of and `dy` rows below the output pixel.
-#[derive(Clone, Copy, Debug, PartialEq, Eq)]
+#[derive(Clone, Copy, PartialEq, Eq)]
 pub struct Tap {
     pub image: u8,
     pub dx: i16,

@@ -76,27 +76,27 @@ fn output_of<I: Isa>(alloc: Global, trial: &Trial) -> Result<Option<Image>, Fail
 }
 
 /// Whether the line is read as an instruction that is printed so, and costs so much.
-fn reads<I: Isa>(alloc: Global, line: &str, printed: &str, cost: u32) -> Result<bool, Fail> {
+fn reads<I: Isa>(line: &str, printed: &str, cost: u32) -> Result<bool, Fail> {
     let Some(operation) = I::parse(line.as_bytes()) else {
         return Ok(false);
     };
-    let text = I::print(alloc, &operation)?;
+    let text = I::print(&operation);
     Ok(text.as_slice() == printed.as_bytes() && I::cost(&operation) == cost)
 }
 
 /// Whether the instruction and its other spelling are read, printed and cost as the vector says.
-fn is_read<I: Isa>(alloc: Global, vector: &Vector) -> Result<bool, Fail> {
+fn is_read<I: Isa>(vector: &Vector) -> Result<bool, Fail> {
     let printed = vector.instruction.as_str();
     let also = vector.also.as_str();
-    let first = reads::<I>(alloc, printed, printed, vector.cost)?;
-    let second = also.is_empty() || reads::<I>(alloc, also, printed, vector.cost)?;
+    let first = reads::<I>(printed, printed, vector.cost)?;
+    let second = also.is_empty() || reads::<I>(also, printed, vector.cost)?;
     Ok(first && second)
 }
 
 /// Whether the instruction is read, printed and costs as the vector says, and its text leaves what
 /// the vector says.
 pub fn agrees<I: Isa>(alloc: Global, vector: &Vector) -> Result<bool, Fail> {
-    if !is_read::<I>(alloc, vector)? {
+    if !is_read::<I>(vector)? {
         return Ok(false);
     }
     let trial = written::<I>(alloc, vector)?;

@@ -49,55 +49,55 @@ impl Trial {
     }
 
     /// Writes a control instruction.
-    pub fn control<I: Isa>(&mut self, alloc: Global, control: Control) -> Result<(), Fail> {
+    pub fn control<I: Isa>(&mut self, control: Control) -> Result<(), Fail> {
         let instruction = checked(control).ok_or("a control instruction")?;
-        let line = I::print_ctl(alloc, &instruction)?;
+        let line = I::print_ctl(&instruction);
         self.line(line.as_slice())
     }
 
     /// Copies the table's address from the register in which a row has it.
-    pub fn keep_table<I: Isa>(&mut self, alloc: Global) -> Result<(), Fail> {
+    pub fn keep_table<I: Isa>(&mut self) -> Result<(), Fail> {
         let copy = Control::AddReg {
             to: self.table,
             left: role::TABLE,
             right: self.table,
         };
-        self.control::<I>(alloc, copy)
+        self.control::<I>(copy)
     }
 
     /// Adds a number to a general register, or takes it away where `down` holds.
-    pub fn add<I: Isa>(&mut self, alloc: Global, to: u8, down: bool, by: u32) -> Result<(), Fail> {
+    pub fn add<I: Isa>(&mut self, to: u8, down: bool, by: u32) -> Result<(), Fail> {
         let sum = Control::AddImm {
             to,
             from: to,
             down,
             by,
         };
-        self.control::<I>(alloc, sum)
+        self.control::<I>(sum)
     }
 
     /// Puts the address of entry `entry` of the table into a general register: 0 is the image, 1
     /// the output.
-    pub fn point<I: Isa>(&mut self, alloc: Global, to: u8, entry: u8) -> Result<(), Fail> {
+    pub fn point<I: Isa>(&mut self, to: u8, entry: u8) -> Result<(), Fail> {
         let base = self.table;
-        self.control::<I>(alloc, Control::LoadPtr { to, base, entry })
+        self.control::<I>(Control::LoadPtr { to, base, entry })
     }
 
     /// Loads a vector with these bytes, which stand behind those that the image has.
-    pub fn load<I: Isa>(&mut self, alloc: Global, to: u32, bytes: &[u8]) -> Result<(), Fail> {
+    pub fn load<I: Isa>(&mut self, to: u32, bytes: &[u8]) -> Result<(), Fail> {
         let at = u32::try_from(self.image.len())?;
         self.image.extend_from_slice(bytes)?;
-        self.point::<I>(alloc, role::POINTER, 0)?;
-        self.add::<I>(alloc, role::POINTER, false, at)?;
-        let line = I::print(alloc, &I::load(to, 0))?;
+        self.point::<I>(role::POINTER, 0)?;
+        self.add::<I>(role::POINTER, false, at)?;
+        let line = I::print(&I::load(to, 0));
         self.line(line.as_slice())
     }
 
     /// Stores a vector at this place of the output.
-    pub fn store<I: Isa>(&mut self, alloc: Global, from: u32, at: u32) -> Result<(), Fail> {
-        self.point::<I>(alloc, role::POINTER, 1)?;
-        self.add::<I>(alloc, role::POINTER, false, at)?;
-        let line = I::print(alloc, &I::store(from, 0))?;
+    pub fn store<I: Isa>(&mut self, from: u32, at: u32) -> Result<(), Fail> {
+        self.point::<I>(role::POINTER, 1)?;
+        self.add::<I>(role::POINTER, false, at)?;
+        let line = I::print(&I::store(from, 0));
         self.line(line.as_slice())
     }
 }

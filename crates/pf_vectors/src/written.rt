@@ -45,9 +45,9 @@ fn set_constant<I: Isa>(alloc: Global, trial: &mut Trial, bytes: &[u8]) -> Resul
 }
 
 /// Makes the predicate hold where a byte is 1, and not where it is 0.
-fn set_predicate<I: Isa>(alloc: Global, trial: &mut Trial, bytes: &[u8]) -> Result<(), Fail> {
-    trial.load::<I>(alloc, 1, bytes)?;
-    trial.load::<I>(alloc, 2, &[0; 128])?;
+fn set_predicate<I: Isa>(trial: &mut Trial, bytes: &[u8]) -> Result<(), Fail> {
+    trial.load::<I>(1, bytes)?;
+    trial.load::<I>(2, &[0; 128])?;
     trial.line(b"{ q0 = vcmp.gt(v1.ub,v2.ub) }")
 }
 
@@ -55,31 +55,31 @@ fn set_predicate<I: Isa>(alloc: Global, trial: &mut Trial, bytes: &[u8]) -> Resu
 fn set<I: Isa>(alloc: Global, trial: &mut Trial, held: &Held) -> Result<(), Fail> {
     let bytes = held.bytes.as_slice();
     match held.place {
-        Place::Vector(name) => trial.load::<I>(alloc, name, bytes),
+        Place::Vector(name) => trial.load::<I>(name, bytes),
         Place::Constant => set_constant::<I>(alloc, trial, bytes),
-        Place::Predicate => set_predicate::<I>(alloc, trial, bytes),
+        Place::Predicate => set_predicate::<I>(trial, bytes),
         Place::General(_) | Place::Memory(_) => Ok(()),
     }
 }
 
 /// Makes vector 0 hold 1 where the predicate holds, and 0 where not.
-fn spread_predicate<I: Isa>(alloc: Global, trial: &mut Trial) -> Result<(), Fail> {
-    trial.load::<I>(alloc, 1, &[1; 128])?;
-    trial.load::<I>(alloc, 2, &[0; 128])?;
+fn spread_predicate<I: Isa>(trial: &mut Trial) -> Result<(), Fail> {
+    trial.load::<I>(1, &[1; 128])?;
+    trial.load::<I>(2, &[0; 128])?;
     trial.line(b"{ v0 = vmux(q0,v1,v2) }")
 }
 
 /// Stores at a place of the output what a register holds, if it is no general one.
-fn show<I: Isa>(alloc: Global, trial: &mut Trial, place: Place, at: u32) -> Result<(), Fail> {
+fn show<I: Isa>(trial: &mut Trial, place: Place, at: u32) -> Result<(), Fail> {
     match place {
-        Place::Vector(name) => trial.store::<I>(alloc, name, at),
+        Place::Vector(name) => trial.store::<I>(name, at),
         Place::Constant => {
             trial.line(spread_line(I::TARGET).as_bytes())?;
-            trial.store::<I>(alloc, 0, at)
+            trial.store::<I>(0, at)
         }
         Place::Predicate => {
-            spread_predicate::<I>(alloc, trial)?;
-            trial.store::<I>(alloc, 0, at)
+            spread_predicate::<I>(trial)?;
+            trial.store::<I>(0, at)
         }
         Place::General(_) | Place::Memory(_) => Ok(()),
     }
@@ -114,7 +114,7 @@ fn begun<I: Isa>(alloc: Global, vector: &Vector) -> Result<Trial, Fail> {
         _ => 4,
     };
     let mut trial = Trial::new(alloc, I::TARGET, table)?;
-    trial.keep_table::<I>(alloc)?;
+    trial.keep_table::<I>()?;
     for held in &vector.before {
         if let Place::Memory(_) = held.place {
             trial.image.extend_from_slice(held.bytes.as_slice())?;
@@ -125,15 +125,15 @@ fn begun<I: Isa>(alloc: Global, vector: &Vector) -> Result<Trial, Fail> {
 
 /// Points the base so that the vector's memory lies at the front of the image, or of the output for
 /// a store.
-fn aim<I: Isa>(alloc: Global, trial: &mut Trial, vector: &Vector) -> Result<(), Fail> {
+fn aim<I: Isa>(trial: &mut Trial, vector: &Vector) -> Result<(), Fail> {
     let Some(base) = base_of(vector) else {
         return Ok(());
     };
     let address = address_of(vector.before.as_slice()).ok_or("memory")?;
     let stores = address_of(vector.after.as_slice()).is_some();
-    trial.point::<I>(alloc, base.register, u8::from(stores))?;
+    trial.point::<I>(base.register, u8::from(stores))?;
     let down = base.content < address;
-    trial.add::<I>(alloc, base.register, down, base.content.abs_diff(address))
+    trial.add::<I>(base.register, down, base.content.abs_diff(address))
 }
 
 /// The text of a vector: it sets the registers, does the instruction, and shows what it has changed,
@@ -143,13 +143,13 @@ pub fn written<I: Isa>(alloc: Global, vector: &Vector) -> Result<Trial, Fail> {
     for held in &vector.before {
         set::<I>(alloc, &mut trial, held)?;
     }
-    aim::<I>(alloc, &mut trial, vector)?;
+    aim::<I>(&mut trial, vector)?;
     trial.line(vector.instruction.as_bytes())?;
     let mut at: u32 = 0;
     for held in &vector.after {
-        show::<I>(alloc, &mut trial, held.place, at)?;
+        show::<I>(&mut trial, held.place, at)?;
         at = at.saturating_add(I::VECTOR);
     }
-    trial.control::<I>(alloc, Control::Return)?;
+    trial.control::<I>(Control::Return)?;
     Ok(trial)
 }

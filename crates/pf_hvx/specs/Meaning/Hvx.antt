@@ -1,5 +1,5 @@
 -- The instructions of HVX as one table.
-use Rattle.std.specs.Prelude.{[], codes}
+use Rattle.std.specs.Prelude.{codes}
 use Rattle.pf_ints.specs.declared.target.Target.TheVariants.{Hvx}
 use Rattle.pf_machine.specs.Meaning.Tables.{Table}
 use Rattle.pf_frames.specs.Meaning.LineTables.{Jumps}
@@ -8,7 +8,7 @@ use Rattle.pf_tables.specs.Meaning.Sets.{InstructionSet}
 use Rattle.pf_tables.specs.Meaning.Instructions.{IsListed}
 use Rattle.pf_tables.specs.Meaning.Tables.{table_of}
 use Rattle.pf_hvx.specs.declared.rows.TheConstants.{PLACES, STYLE}
-use Rattle.pf_hvx.specs.Meaning.Rows.{frame_at, row_at}
+use Rattle.pf_hvx.specs.Meaning.Rows.{word_at, pattern_at, row_at}
 
 abbrev pub jumps : Jumps
 jumps = record {
@@ -23,8 +23,8 @@ hvx_set = record {
   names = 26;
   vectors = 32;
   places = PLACES;
-  word = λ k. [];
-  pattern = frame_at;
+  word = word_at;
+  pattern = pattern_at;
   row = row_at;
   style = STYLE;
   jumps = jumps;

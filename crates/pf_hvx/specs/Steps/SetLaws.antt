@@ -1,34 +1,12 @@
 -- The table meets the laws of every table of rows: all of it is computed.
 use Rattle.std.proofs.Common.{◌≡◌, true, refl, arith}
-use Rattle.pf_tables.specs.Meaning.Laws.{IsSet, HasFixedRows}
-use Rattle.pf_hvx.specs.Meaning.Rows.{frame_at, row_at}
+use Rattle.pf_tables.specs.Meaning.Laws.{IsSet}
+use Rattle.pf_tables.proofs.FixedRows.{fixed_rows}
+use Rattle.pf_hvx.specs.Meaning.Rows.{word_at, pattern_at, row_at}
 use Rattle.pf_hvx.specs.Meaning.Hvx.{hvx_set}
 
-fixed_rows : HasFixedRows hvx_set
-unfolding row_at
-fixed_rows = record {
-  load_pointer = refl;
-  store_pointer = refl;
-  set_number = refl;
-  add = refl;
-  sub = refl;
-  add_register = refl;
-  load_byte = refl;
-  load_half = refl;
-  store_byte = refl;
-  store_half = refl;
-  compare = refl;
-  return = refl;
-  add_pages = λ paged. absurd (cc);
-  negative = λ packed. refl;
-  load = refl;
-  store = refl;
-  load_cost = refl;
-  store_cost = refl;
-}
-
 pub is_hvx_set : IsSet hvx_set
-unfolding frame_at row_at
+unfolding word_at pattern_at row_at
 is_hvx_set = record {
   some_bytes = omega arith;
   few_bytes = omega arith;
@@ -40,7 +18,7 @@ is_hvx_set = record {
   unit = omega arith;
   small_unit = omega arith;
   constant = refl;
-  fixed_rows = fixed_rows;
+  fixed_rows = fixed_rows hvx_set refl (λ paged. absurd (cc)) (λ packed. refl) refl refl;
   sound = refl;
   suited = refl;
   apart = refl;

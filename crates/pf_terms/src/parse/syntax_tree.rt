@@ -27,7 +27,7 @@ pub enum SyntaxTree {
 pub type SyntaxTrees = Items<SyntaxTree>;
 
 /// Why a text is no expression.
-#[derive(Clone, Copy, Debug)]
+#[derive(Clone, Copy)]
 pub enum TreeFault {
     /// The place of the first fault, counted from 0.
     Syntax { at: usize },
