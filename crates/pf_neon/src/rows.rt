@@ -1,9 +1,9 @@
-ghost use Rattle.std.specs.Prelude.{◌≡◌, ◌<◌, ◌+◌, length};
+ghost use Rattle.std.specs.Prelude.{◌≡◌, ◌<◌};
 ghost use Rattle.pf_neon.specs.Meaning.Rows.{word_at, pattern_at, row_at};
 
 use pf_ints::LaneType;
 use pf_lanes::{Operands, Place, Recipe};
-use pf_tables::{Extent, NONE, Row, Shape, Style, one, same, three, two, view, work};
+use pf_tables::{Entry, Extent, NONE, Row, Shape, Style, entry_at, one, same, three, two, view, work};
 
 macro_rules! pattern {
     (B2) => { b" v\0.16b, v\0.16b" };
@@ -78,11 +78,8 @@ macro_rules! plain {
     };
 }
 
-/// A line: the word at its front, the rest, and what stands with them.
-type Line = (&'static [u8], &'static [u8], Row);
-
 /// The rows of every table, and then those of lanes that are as wide as what they are made of.
-pub const PLAIN: &[Line] = &[
+pub const PLAIN: &[Entry] = &[
     plain! { b"ldr", b" x\0, [x\0, #\0]", LoadPointer },
     plain! { b"str", b" x\0, [x\0, #\0]", StorePointer },
     plain! { b"mov", b" x\0, #\0", SetNumber },
@@ -201,7 +198,7 @@ pub const PLAIN: &[Line] = &[
 ];
 
 /// The rows of lanes that are wider or narrower, and that of the constant register's.
-pub const RESIZED: &[Line] = &[
+pub const RESIZED: &[Entry] = &[
     row! { b"uaddl", H_LOW, Binary, two!(U8, Place::Same, WideningAdd, U16), 0, 1 },
     row! { b"uaddl", S_LOW, Binary, two!(U16, Place::Same, WideningAdd, U32), 0, 1 },
     row! { b"uaddl2", H_HIGH, Binary, two!(U8, Place::From(8), WideningAdd, U16), 0, 1 },
@@ -316,42 +313,16 @@ pub const STYLE: Style = Style {
     packets: false,
 };
 
-#[tactic(auto, unfolding(crate::specs::Meaning::Rows::word_at, crate::specs::Meaning::Rows::pattern_at, crate::specs::Meaning::Rows::row_at))]
-fn plain(k: usize) -> Line
-    requires { k < length PLAIN.now }
-    ensures word { result.0.now ≡ word_at k }
-    ensures pattern { result.1.now ≡ pattern_at k }
-    ensures row { result.2 ≡ row_at k }
-{
-    match PLAIN.get(k) {
-        Some((word, pattern, row)) => (word, pattern, *row),
-        None => unreachable!(),
-    }
-}
-
-#[tactic(auto, unfolding(crate::specs::Meaning::Rows::word_at, crate::specs::Meaning::Rows::pattern_at, crate::specs::Meaning::Rows::row_at))]
-fn resized(k: usize) -> Line
-    requires { k < length RESIZED.now }
-    ensures word { result.0.now ≡ word_at (length PLAIN.now + k) }
-    ensures pattern { result.1.now ≡ pattern_at (length PLAIN.now + k) }
-    ensures row { result.2 ≡ row_at (length PLAIN.now + k) }
-{
-    match RESIZED.get(k) {
-        Some((word, pattern, row)) => (word, pattern, *row),
-        None => unreachable!(),
-    }
-}
-
 /// The row at this place: the word and the rest of its line, and what stands with them.
-pub fn entry(k: usize) -> Line
+pub fn entry(k: usize) -> Entry
     requires { k < PLACES }
     ensures word { result.0.now ≡ word_at k }
     ensures pattern { result.1.now ≡ pattern_at k }
     ensures row { result.2 ≡ row_at k }
 {
     if k < PLAIN.len() {
-        plain(k)
+        entry_at(PLAIN, k)
     } else {
-        resized(k - PLAIN.len())
+        entry_at(RESIZED, k - PLAIN.len())
     }
 }

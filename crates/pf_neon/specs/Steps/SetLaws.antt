@@ -1,31 +1,9 @@
 -- The table of rows meets what is asked of every one: all of it is computed.
 use Rattle.std.proofs.Common.{◌≡◌, refl, arith}
-use Rattle.pf_tables.specs.Meaning.Laws.{IsSet, HasFixedRows}
-use Rattle.pf_neon.specs.Meaning.Rows.{row_at, word_at, pattern_at}
+use Rattle.pf_tables.specs.Meaning.Laws.{IsSet}
+use Rattle.pf_tables.proofs.FixedRows.{fixed_rows}
+use Rattle.pf_neon.specs.Meaning.Rows.{word_at, pattern_at, row_at}
 use Rattle.pf_neon.specs.Meaning.Neon.{neon_set}
-
-fixed_rows : HasFixedRows neon_set
-unfolding row_at
-fixed_rows = record {
-  load_pointer = refl;
-  store_pointer = refl;
-  set_number = refl;
-  add = refl;
-  sub = refl;
-  add_register = refl;
-  load_byte = refl;
-  load_half = refl;
-  store_byte = refl;
-  store_half = refl;
-  compare = refl;
-  return = refl;
-  add_pages = λ h. refl;
-  negative = λ h. absurd (cc);
-  load = refl;
-  store = refl;
-  load_cost = refl;
-  store_cost = refl;
-}
 
 pub is_neon_set : IsSet neon_set
 unfolding word_at pattern_at row_at
@@ -40,7 +18,7 @@ is_neon_set = record {
   unit = omega arith;
   small_unit = omega arith;
   constant = refl;
-  fixed_rows = fixed_rows;
+  fixed_rows = fixed_rows neon_set refl (λ paged. refl) (λ packed. absurd (cc)) refl refl;
   sound = refl;
   suited = refl;
   apart = refl;
