@@ -15,7 +15,11 @@ type Line = TableLine<Instruction>;
 pub fn general<R: Rows>(role: u8) -> u32
     ensures { result ≡ general R.set role }
 {
-    if R::style().packets && role == 7 { 8 } else { u32::from(role) }
+    if R::style().packets && role == 7 {
+        8
+    } else {
+        u32::from(role)
+    }
 }
 
 fn is_pages<R: Rows>(down: bool, by: u32) -> bool
@@ -56,14 +60,18 @@ fn two_registers<R: Rows>(kept: bool, first: u8, last: u8) -> Numbers
     ensures { result ≡ two_registers R.set kept first last }
 {
     let (a, b) = (general::<R>(first), general::<R>(last));
-    if kept { Numbers::new().with(a).with(b) } else { Numbers::new().with(b).with(a) }
+    if kept {
+        Numbers::new().with(a).with(b)
+    } else {
+        Numbers::new().with(b).with(a)
+    }
 }
 
-fn store_pointer_numbers<R: Rows>(base: u8, entry: u8, from: u8) -> Numbers
-    ensures { result ≡ store_pointer_numbers R.set base entry from }
+fn store_pointer_numbers<R: Rows>(last: bool, base: u8, entry: u8, from: u8) -> Numbers
+    ensures { result ≡ store_pointer_numbers R.set last base entry from }
 {
     let (base, offset, from) = (general::<R>(base), 8 * u32::from(entry), general::<R>(from));
-    if R::style().stores_last {
+    if last {
         Numbers::new().with(base).with(offset).with(from)
     } else {
         Numbers::new().with(from).with(base).with(offset)
@@ -80,10 +88,16 @@ pub fn control_numbers<R: Rows>(control: Control) -> Numbers
         Control::LoadPtr { to, base, entry } => {
             two_registers::<R>(true, to, base).with(8 * u32::from(entry))
         }
-        Control::StorePtr { base, entry, from } => store_pointer_numbers::<R>(base, entry, from),
+        Control::StorePtr { base, entry, from } => {
+            store_pointer_numbers::<R>(style.stores_last, base, entry, from)
+        }
         Control::Imm { to, n } => Numbers::new().with(general::<R>(to)).with(u32::from(n)),
         Control::AddImm { to, from, down, by } => {
-            let by = if is_pages::<R>(down, by) { by / 4096 } else { by };
+            let by = if is_pages::<R>(down, by) {
+                by / 4096
+            } else {
+                by
+            };
             two_registers::<R>(true, to, from).with(by)
         }
         Control::AddReg { to, left, right } => {
@@ -115,7 +129,11 @@ pub fn role<R: Rows>(numbers: &[u32], k: usize) -> u8
     ensures { result ≡ role R.set (slice_index numbers.now k) }
 {
     let n = number(numbers, k);
-    if R::style().packets && n == 8 { 7 } else { (n % 256) as u8 }
+    if R::style().packets && n == 8 {
+        7
+    } else {
+        (n % 256) as u8
+    }
 }
 
 // The roles of the first two operands, in this order or the other.
@@ -223,8 +241,14 @@ pub fn made_control<R: Rows>(shape: Shape, _place: usize, ns: &[u32]) -> Option<
         Shape::AddRegister => add_register::<R>(ns),
         Shape::LoadByte => Control::LoadByte { to: a, at: b },
         Shape::LoadHalf => Control::LoadHalf { to: a, at: b },
-        Shape::StoreByte => Control::StoreByte { at: first, from: last },
-        Shape::StoreHalf => Control::StoreHalf { at: first, from: last },
+        Shape::StoreByte => Control::StoreByte {
+            at: first,
+            from: last,
+        },
+        Shape::StoreHalf => Control::StoreHalf {
+            at: first,
+            from: last,
+        },
         Shape::CompareNumbers => Control::Compare { left, right },
         Shape::Return => Control::Return,
         _ => unreachable!(),

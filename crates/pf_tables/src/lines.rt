@@ -5,7 +5,9 @@ ghost use Rattle.pf_tables.specs.Meaning.Lines.{lines, row_place, transfer_numbe
 ghost use Rattle.pf_tables.specs.Steps.ControlShapes.{is_control};
 ghost use Rattle.pf_tables.specs.Steps.LineLaws.{lines_are, texts_are};
 
-use crate::controls::{control_numbers, control_place, general, is_control, made_control, number, role, units};
+use crate::controls::{
+    control_numbers, control_place, general, is_control, made_control, number, role, units,
+};
 use crate::instruction::Instruction;
 use crate::operands::{Ends, Sources};
 use crate::row::{Shape, place};
@@ -163,7 +165,11 @@ fn transfer<R: Rows>(ns: &[u32], vector: usize, memory: usize) -> Transfer
 fn stored<R: Rows>(ns: &[u32]) -> Transfer
     ensures { result ≡ stored R.set ns.now }
 {
-    if R::style().stores_last { transfer::<R>(ns, 2, 0) } else { transfer::<R>(ns, 0, 1) }
+    if R::style().stores_last {
+        transfer::<R>(ns, 2, 0)
+    } else {
+        transfer::<R>(ns, 0, 1)
+    }
 }
 
 fn set_number<R: Rows>(ns: &[u32]) -> Line

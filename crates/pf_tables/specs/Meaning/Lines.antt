@@ -75,12 +75,13 @@ control_place s Return = Places.RETURN
 abbrev pub two_registers : InstructionSet → Bool → (first last : ℕ) → List ℕ
 two_registers s kept first last = if kept then general s first ∷ general s last ∷ [] else general s last ∷ general s first ∷ []
 
-abbrev pub store_pointer_numbers : InstructionSet → (base entry from : ℕ) → List ℕ
-store_pointer_numbers s base entry from = if s.style.stores_last then general s base ∷ 8 * entry ∷ general s from ∷ [] else general s from ∷ general s base ∷ 8 * entry ∷ []
+-- what is stored last, or first
+abbrev pub store_pointer_numbers : InstructionSet → Bool → (base entry from : ℕ) → List ℕ
+store_pointer_numbers s last base entry from = if last then general s base ∷ 8 * entry ∷ general s from ∷ [] else general s from ∷ general s base ∷ 8 * entry ∷ []
 
 abbrev pub control_numbers : InstructionSet → Control → List ℕ
 control_numbers s (LoadPtr to base entry) = general s to ∷ general s base ∷ 8 * entry ∷ []
-control_numbers s (StorePtr base entry from) = store_pointer_numbers s base entry from
+control_numbers s (StorePtr base entry from) = store_pointer_numbers s s.style.stores_last base entry from
 control_numbers s (Imm to n) = general s to ∷ n ∷ []
 control_numbers s (AddImm to from down by) = general s to ∷ general s from ∷ (if is_pages s down by then by / 4096 else by) ∷ []
 control_numbers s (AddReg to left right) = general s to ∷ general s left ∷ general s right ∷ []

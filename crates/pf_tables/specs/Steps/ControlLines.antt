@@ -1,5 +1,5 @@
 -- Control instructions are printed by their rows, and read back.
-use Rattle.std.proofs.Common.{◌≡◌, ℕ, ◌*◌, ◌/◌, ◌%◌, ◌^◌, ◌<◌, ◌≤◌, ◌∷◌, [], IsTrue, Bool, true, false, not, Option, Some, None, refl, arith, ⊎_elim, if◌then◌else◌}
+use Rattle.std.proofs.Common.{List, ◌≡◌, ℕ, ◌*◌, ◌/◌, ◌%◌, ◌^◌, ◌<◌, ◌≤◌, ◌∷◌, [], IsTrue, Bool, true, false, not, Some, refl, arith, ⊎_elim, if◌then◌else◌}
 use Rattle.std.specs.Prelude.{nat_lt, nat_le, ◌&&◌, ◌==◌}
 use Rattle.std.proofs.lemmas.Bool.{ltb-true, leb-true, eqb-true, and_parts, or_cases, cases_Bool}
 use Rattle.pf_machine.specs.declared.control.Control.{Control}
@@ -12,10 +12,10 @@ use Rattle.pf_tables.specs.declared.row.Shape.TheVariants as Shapes
 use Rattle.pf_tables.specs.declared.row.place.TheConstants as Places
 use Rattle.pf_tables.specs.Meaning.Sets.{InstructionSet, general}
 use Rattle.pf_tables.specs.Meaning.Instructions.{IsListed}
-use Rattle.pf_tables.specs.Meaning.Lines.{is_pages, two_registers, store_pointer_numbers, control_place, control_numbers, printed, role, role_at, store_pointer, made_by_shape, is_there, lines}
+use Rattle.pf_tables.specs.Meaning.Lines.{is_pages, two_registers, store_pointer_numbers, control_place, control_numbers, printed, role_at, store_pointer, made_by_shape, is_there, lines}
 use Rattle.pf_tables.specs.Meaning.Tables.{table_of}
 use Rattle.pf_tables.specs.Meaning.Laws.{IsSet, either, sorts, number, register}
-use Rattle.pf_tables.specs.Steps.OperandLaws.{Fit, general_fits, role_back, low_same, no_constant}
+use Rattle.pf_tables.specs.Steps.OperandLaws.{Fit, general_fits, role_back, no_constant}
 use Rattle.pf_tables.specs.Steps.VectorLines.{spelled_by}
 
 entry_same : (n : ℕ) → n < 256 → 8 * n / 8 % 256 ≡ n
@@ -56,14 +56,20 @@ two_back s false a b h k = (role_back s a h, role_back s b k)
 abbrev Spelled : InstructionSet → Control → Type 0
 Spelled s c = IsSpellingOf (lines s) (OfControl c) (printed s (OfControl c))
 
-spelled : (s : InstructionSet) → IsSet s → (c : Control) (shape : Shape) → control_place s c < 19 → (s.row (control_place s c)).shape ≡ shape → is_there shape ≡ true → Fit (sorts s.style shape) (control_numbers s c) → made_by_shape s shape (control_place s c) (control_numbers s c) ≡ Some (OfControl c) → Spelled s c
+spelled : (s : InstructionSet) → IsSet s → (c : Control) (shape : Shape) → control_place s c < 19
+    → (s.row (control_place s c)).shape ≡ shape → is_there shape ≡ true
+    → Fit (sorts s.style shape) (control_numbers s c) → made_by_shape s shape (control_place s c) (control_numbers s c) ≡ Some (OfControl c) → Spelled s c
 spelled s law c shape inside is there fit back = spelled_by s law (OfControl c) shape (printed s (OfControl c)) (let some = law.some_rows in omega arith) is there fit back
 
-store_pointer_fits : (s : InstructionSet) (last : Bool) (base entry from : ℕ) → base < 8 → entry < 256 → from < 8 → Fit (either last (register ∷ number ∷ register ∷ []) (register ∷ register ∷ number ∷ [])) (if last then general s base ∷ 8 * entry ∷ general s from ∷ [] else general s from ∷ general s base ∷ 8 * entry ∷ [])
+abbrev pointer_sorts : Bool → List Bool
+pointer_sorts last = either last (register ∷ number ∷ register ∷ []) (register ∷ register ∷ number ∷ [])
+
+store_pointer_fits : (s : InstructionSet) (last : Bool) (base entry from : ℕ) → base < 8 → entry < 256 → from < 8
+    → Fit (pointer_sorts last) (store_pointer_numbers s last base entry from)
 store_pointer_fits s true base entry from b e f = (general_fits s base b, (entry_fits entry e, (general_fits s from f, tt)))
 store_pointer_fits s false base entry from b e f = (general_fits s from f, (general_fits s base b, (entry_fits entry e, tt)))
 
-store_pointer_back : (s : InstructionSet) (base entry from : ℕ) → base < 8 → entry < 256 → from < 8 → store_pointer s (store_pointer_numbers s base entry from) ≡ StorePtr base entry from
+store_pointer_back : (s : InstructionSet) (base entry from : ℕ) → base < 8 → entry < 256 → from < 8 → store_pointer s (store_pointer_numbers s s.style.stores_last base entry from) ≡ StorePtr base entry from
 store_pointer_back s base entry from b e f =
     ⊎_elim
     (λ (last : s.style.stores_last ≡ true). rw (last, role_back s base b, entry_same entry e, role_back s from f) refl)
@@ -78,16 +84,16 @@ spelled_add : (s : InstructionSet) → IsSet s → (to from by : ℕ) → to < 8
 spelled_add s law to from by t f small =
     ⊎_elim
     (λ (pages : is_pages s false by ≡ true).
-      let parts = and_parts s.style.adds_pages (nat_lt 4095 by) pages in
-      rw pages
-      (spelled_by s law (OfControl (AddImm to from false by)) Shapes.AddHigh (record { place = Places.ADD_PAGES; numbers = general s to ∷ general s from ∷ by / 4096 ∷ [] }) (let some = law.some_rows in omega arith) (law.fixed_rows.add_pages parts.0) refl
-      (three_fit s to from (by / 4096) t f (let less = offset_small false by small in omega arith))
-      (rw (role_back s to t, role_back s from f, pages_back by (ltb-true 4095 by parts.1) small) refl)))
+    let parts = and_parts s.style.adds_pages (nat_lt 4095 by) pages in
+    rw pages
+    (spelled_by s law (OfControl (AddImm to from false by)) Shapes.AddHigh (record { place = Places.ADD_PAGES; numbers = general s to ∷ general s from ∷ by / 4096 ∷ [] }) (let some = law.some_rows in omega arith) (law.fixed_rows.add_pages parts.0) refl
+    (three_fit s to from (by / 4096) t f (let less = offset_small false by small in omega arith))
+    (rw (role_back s to t, role_back s from f, pages_back by (ltb-true 4095 by parts.1) small) refl)))
     (λ (plain : is_pages s false by ≡ false).
-      rw plain
-      (spelled_by s law (OfControl (AddImm to from false by)) Shapes.Add (record { place = Places.ADD; numbers = general s to ∷ general s from ∷ by ∷ [] }) (let some = law.some_rows in omega arith) law.fixed_rows.add refl
-      (three_fit s to from by t f (offset_small false by small))
-      (rw (role_back s to t, role_back s from f) refl)))
+    rw plain
+    (spelled_by s law (OfControl (AddImm to from false by)) Shapes.Add (record { place = Places.ADD; numbers = general s to ∷ general s from ∷ by ∷ [] }) (let some = law.some_rows in omega arith) law.fixed_rows.add refl
+    (three_fit s to from by t f (offset_small false by small))
+    (rw (role_back s to t, role_back s from f) refl)))
     (cases_Bool (is_pages s false by))
 
 pub spelled_control : (s : InstructionSet) → IsSet s → (c : Control) → IsTableLine (table_of s) (IsListed s) (OfControl c) → Spelled s c

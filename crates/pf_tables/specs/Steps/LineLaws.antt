@@ -1,12 +1,9 @@
 -- The lines of a set of instructions meet their laws.
-use Rattle.std.proofs.Common.{◌≡◌, ℕ, ◌-◌, ◌%◌, ◌^◌, ◌<◌, ◌≤◌, ◌∷◌, [], Bool, true, false, Some, MatchOption, refl, arith, ⊎_elim}
+use Rattle.std.proofs.Common.{◌≡◌, ℕ, ◌-◌, ◌%◌, ◌^◌, ◌<◌, ◌∷◌, [], true, false, MatchOption, refl, arith, ⊎_elim}
 use Rattle.std.specs.Prelude.{nat_lt, ◌&&◌}
 use Rattle.std.proofs.lemmas.Bool.{ltb-true, and_parts, cases_Bool}
-use Rattle.pf_machine.specs.declared.control.Control.{Control}
-use Rattle.pf_machine.specs.declared.control.Control.TheVariants.{Below, Jump}
 use Rattle.pf_frames.specs.declared.line.TableLine.{TableLine}
 use Rattle.pf_frames.specs.declared.line.TableLine.TheVariants.{Vector, Control as OfControl}
-use Rattle.pf_frames.specs.Meaning.LineTables.{control_text_of}
 use Rattle.pf_frames.specs.Meaning.Laws.{IsSpellingOf, IsLineTable, IsTableLine, IsPrintedBy}
 use Rattle.pf_tables.specs.declared.row.Shape.TheVariants as Shapes
 use Rattle.pf_tables.specs.declared.row.place.TheConstants as Places
@@ -30,12 +27,12 @@ also_spelled : (s : InstructionSet) → IsSet s → (n : ℕ) → n < 2 ^ 32 →
 also_spelled s law n h =
     ⊎_elim
     (λ (yes : (s.style.packets && nat_lt (2 ^ 32 - 5) n) ≡ true).
-      let parts = and_parts s.style.packets (nat_lt (2 ^ 32 - 5) n) yes in
-      let last : 2 ^ 32 - 5 < n = ltb-true (2 ^ 32 - 5) n parts.1 in
-      let back : (2 ^ 32 - (2 ^ 32 - n)) % 2 ^ 32 ≡ n = omega arith in
-      rw yes
-      (spelled_by s law (Vector (Constant n)) Shapes.NegativeConstant (record { place = Places.NEGATIVE_CONSTANT; numbers = 7 ∷ (2 ^ 32 - n) ∷ [] }) (let some = law.some_rows in omega arith) (law.fixed_rows.negative parts.0) refl
-      (omega arith, (omega arith, tt)) (rw back refl)))
+    let parts = and_parts s.style.packets (nat_lt (2 ^ 32 - 5) n) yes in
+    let last : 2 ^ 32 - 5 < n = ltb-true (2 ^ 32 - 5) n parts.1 in
+    let back : (2 ^ 32 - (2 ^ 32 - n)) % 2 ^ 32 ≡ n = omega arith in
+    rw yes
+    (spelled_by s law (Vector (Constant n)) Shapes.NegativeConstant (record { place = Places.NEGATIVE_CONSTANT; numbers = 7 ∷ (2 ^ 32 - n) ∷ [] }) (let some = law.some_rows in omega arith) (law.fixed_rows.negative parts.0) refl
+    (omega arith, (omega arith, tt)) (rw back refl)))
     (λ (no : (s.style.packets && nat_lt (2 ^ 32 - 5) n) ≡ false). rw no tt)
     (cases_Bool (s.style.packets && nat_lt (2 ^ 32 - 5) n))
 

@@ -1,7 +1,7 @@
 -- Operands at the marks of a row, and registers that are written and read back.
-use Rattle.std.proofs.Common.{◌≡◌, ℕ, zero, suc, ◌*◌, ◌/◌, ◌%◌, ◌^◌, ◌<◌, ◌≤◌, List, [], ◌∷◌, Bool, true, false, not, Option, Some, None, All, refl, arith, ⊎_elim, if◌then◌else◌}
-use Rattle.std.specs.Prelude.{nat_lt, nat_le, ◌&&◌, ◌||◌, ◌==◌}
-use Rattle.std.proofs.lemmas.Bool.{ltb-true, lt-ltb, eqb-true, ne_eqb, and_from, and_parts, cases_eq, cases_Bool}
+use Rattle.std.proofs.Common.{◌≡◌, ℕ, zero, suc, ◌*◌, ◌%◌, ◌^◌, ◌<◌, ◌≤◌, List, [], ◌∷◌, Bool, true, false, Option, Some, None, All, refl, arith, ⊎_elim, if◌then◌else◌}
+use Rattle.std.specs.Prelude.{nat_lt, ◌&&◌, ◌||◌, ◌==◌}
+use Rattle.std.proofs.lemmas.Bool.{ltb-true, lt-ltb, eqb-true, ne_eqb, and_from, and_parts, cases_eq}
 use Rattle.std.proofs.Math.Nat.{mul-div_cancel_left, mul-le-mul_right}
 use Rattle.pf_machine.specs.declared.registers.Reg.{Reg}
 use Rattle.pf_machine.specs.declared.registers.Reg.TheVariants.{V, K, Q}
@@ -12,7 +12,7 @@ use Rattle.pf_frames.specs.Meaning.FrameTests.{all_below}
 use Rattle.pf_tables.specs.Meaning.Sets.{InstructionSet, general}
 use Rattle.pf_tables.specs.Meaning.Instructions.{constant_shape, constant_limit}
 use Rattle.pf_tables.specs.Meaning.Lines.{role, transfer, is_constant, constant_numbers}
-use Rattle.pf_tables.specs.Meaning.Laws.{IsSet, suit, sorts, is_other_register}
+use Rattle.pf_tables.specs.Meaning.Laws.{suit, sorts, is_other_register}
 
 -- a test that passes at all places passes at each
 pub below_at : (test : ℕ → Bool) (n k : ℕ) → all_below test n ≡ true → k < n → test k ≡ true

@@ -1,5 +1,5 @@
 -- Vector instructions are printed by their rows, and read back.
-use Rattle.std.proofs.Common.{◌≡◌, ℕ, ◌-◌, ◌*◌, ◌%◌, ◌^◌, ◌<◌, ◌≤◌, ◌∷◌, [], Bool, true, false, Option, Some, None, MatchOption, refl, arith, ap, ⊎_elim}
+use Rattle.std.proofs.Common.{List, ◌≡◌, ℕ, ◌*◌, ◌^◌, ◌<◌, ◌≤◌, ◌∷◌, [], Bool, true, false, Option, Some, None, refl, arith, ap, ⊎_elim}
 use Rattle.std.specs.Prelude.{nat_lt, nat_le, ◌&&◌}
 use Rattle.std.proofs.lemmas.Bool.{ltb-true, lt-ltb, leb-true, eq-eqb, and_parts, cases_Bool}
 use Rattle.pf_lanes.specs.declared.registers.Transfer.{Transfer}
@@ -12,15 +12,13 @@ use Rattle.pf_frames.specs.Meaning.Frames.{marks}
 use Rattle.pf_frames.specs.Meaning.Laws.{IsSpellingOf}
 use Rattle.pf_tables.specs.declared.row.Row.{Row}
 use Rattle.pf_tables.specs.declared.row.Shape.{Shape}
-use Rattle.pf_tables.specs.declared.row.Shape.TheVariants as Shapes
-use Rattle.pf_tables.specs.declared.row.place.TheConstants as Places
 use Rattle.pf_tables.specs.declared.instruction.Instruction.{Instruction}
 use Rattle.pf_tables.specs.declared.instruction.Instruction.TheVariants.{Load, Store, Copy, Constant, ConstantHigh, FromConstant, Unary, Binary, Accumulate, Shift, ByConstant, JoinedByConstant, Upper, UpperShift, Blend, Choose, Compare, Pair, PairUnary, Move}
 use Rattle.pf_tables.specs.Meaning.Sets.{InstructionSet, general}
 use Rattle.pf_tables.specs.Meaning.Instructions.{IsListed, place_of, shape_of, constant_place, constant_shape, is_amount, uses, defs}
 use Rattle.pf_tables.specs.Meaning.Lines.{transfer_numbers, constant_numbers, numbers, row_place, printed, stored, made_by_shape, is_there, lines}
 use Rattle.pf_tables.specs.Meaning.Tables.{table_of}
-use Rattle.pf_tables.specs.Meaning.Laws.{IsSet, either, sorts, number, register, is_sound_row, is_suited, is_other_register}
+use Rattle.pf_tables.specs.Meaning.Laws.{IsSet, either, sorts, number, register, is_sound_row, is_suited}
 use Rattle.pf_tables.specs.Steps.OperandLaws.{below_at, Fit, suited_fit, Short, short, general_fits, low_same, transfer_back, offset_fits, constant_short, constant_fits}
 
 two_tests : (a m b n : ℕ) → (nat_lt a m && nat_lt b n) ≡ true → (a < m) × (b < n)
@@ -36,11 +34,16 @@ amount_small s law place by inside is =
     let less : by ≤ (s.row place).most = leb-true by (s.row place).most (and_parts (nat_le (s.row place).least by) (nat_le by (s.row place).most) is).1 in
     omega arith
 
-store_fits : (s : InstructionSet) (last : Bool) (r : Transfer) → r.vector < 2 ^ 32 → general s r.base < 9 → s.style.unit * r.j < 2 ^ 32 → Fit (either last (register ∷ number ∷ number ∷ []) (number ∷ register ∷ number ∷ [])) (transfer_numbers s last r)
+abbrev transfer_sorts : Bool → List Bool
+transfer_sorts last = either last (register ∷ number ∷ number ∷ []) (number ∷ register ∷ number ∷ [])
+
+store_fits : (s : InstructionSet) (last : Bool) (r : Transfer) → r.vector < 2 ^ 32 → general s r.base < 9 → s.style.unit * r.j < 2 ^ 32
+    → Fit (transfer_sorts last) (transfer_numbers s last r)
 store_fits s true r v b o = (b, (o, (v, tt)))
 store_fits s false r v b o = (v, (b, (o, tt)))
 
-fits_transfer : (s : InstructionSet) (last : Bool) → IsSet s → (r : Transfer) → (nat_lt r.base 8 && nat_lt r.j 8) ≡ true → r.vector < 2 ^ 32 → Fit (either last (register ∷ number ∷ number ∷ []) (number ∷ register ∷ number ∷ [])) (transfer_numbers s last r)
+fits_transfer : (s : InstructionSet) (last : Bool) → IsSet s → (r : Transfer) → (nat_lt r.base 8 && nat_lt r.j 8) ≡ true → r.vector < 2 ^ 32
+    → Fit (transfer_sorts last) (transfer_numbers s last r)
 fits_transfer s last law r is v =
     let t = two_tests r.base 8 r.j 8 is in
     store_fits s last r v (general_fits s r.base t.0) (offset_fits s.style.unit r.j law.small_unit t.1)
@@ -87,7 +90,9 @@ back_vector s law (UpperShift place r by) is = let less = amount_small s law pla
 back_vector s law _ is = refl
 
 -- a row of the shape is there, and these operands fit it and are read back
-pub spelled_by : (s : InstructionSet) → IsSet s → (x : TableLine Instruction) (shape : Shape) (p : Spelling) → p.place < s.places → (s.row p.place).shape ≡ shape → is_there shape ≡ true → Fit (sorts s.style shape) p.numbers → made_by_shape s shape p.place p.numbers ≡ Some x → IsSpellingOf (lines s) x p
+pub spelled_by : (s : InstructionSet) → IsSet s → (x : TableLine Instruction) (shape : Shape) (p : Spelling)
+    → p.place < s.places → (s.row p.place).shape ≡ shape → is_there shape ≡ true
+    → Fit (sorts s.style shape) p.numbers → made_by_shape s shape p.place p.numbers ≡ Some x → IsSpellingOf (lines s) x p
 spelled_by s law x shape p inside is there fit back = record {
   inside = inside;
   here = rw is there;
