@@ -1,5 +1,5 @@
 -- Control instructions are printed by their rows, and read back.
-use Rattle.std.proofs.Common.{List, ◌≡◌, ℕ, ◌*◌, ◌/◌, ◌%◌, ◌^◌, ◌<◌, ◌≤◌, ◌∷◌, [], IsTrue, Bool, true, false, not, Some, refl, arith, ⊎_elim, if◌then◌else◌}
+use Rattle.std.proofs.Common.{List, ◌≡◌, ℕ, ◌*◌, ◌/◌, ◌%◌, ◌^◌, ◌<◌, ◌≤◌, ◌∷◌, [], IsTrue, Bool, true, false, not, Some, refl, arith, ⊎_elim}
 use Rattle.std.specs.Prelude.{nat_lt, nat_le, ◌&&◌, ◌==◌}
 use Rattle.std.proofs.lemmas.Bool.{ltb-true, leb-true, eqb-true, and_parts, or_cases, cases_Bool}
 use Rattle.pf_machine.specs.declared.control.Control.{Control}
