@@ -8,21 +8,10 @@ use Rattle.pf_machine.specs.declared.registers.Reg.TheVariants.{V, K, Q}
 use Rattle.pf_machine.specs.Meaning.RegisterFiles.{IsRegisterOf}
 use Rattle.pf_lanes.specs.declared.registers.Transfer.{Transfer}
 use Rattle.pf_frames.specs.Meaning.Frames.{limit, are_operands}
-use Rattle.pf_frames.specs.Meaning.FrameTests.{all_below}
 use Rattle.pf_tables.specs.Meaning.Sets.{InstructionSet, general}
 use Rattle.pf_tables.specs.Meaning.Instructions.{constant_shape, constant_limit}
 use Rattle.pf_tables.specs.Meaning.Lines.{role, transfer, is_constant, constant_numbers}
 use Rattle.pf_tables.specs.Meaning.Laws.{suit, sorts, is_other_register}
-
--- a test that passes at all places passes at each
-pub below_at : (test : ℕ → Bool) (n k : ℕ) → all_below test n ≡ true → k < n → test k ≡ true
-below_at test zero k h less = absurd (omega arith)
-below_at test (suc n) k h less =
-    let parts : (test n ≡ true) × (all_below test n ≡ true) = and_parts (test n) (all_below test n) h in
-    ⊎_elim
-    (λ (same : k ≡ n). rw same parts.0)
-    (λ (other : k ≡ n → ⊥). below_at test n k parts.1 (omega arith))
-    (cases_eq k n)
 
 -- numbers that may stand at marks for registers, and at marks for numbers
 abbrev pub end_of : Bool → ℕ

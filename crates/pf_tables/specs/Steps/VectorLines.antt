@@ -9,6 +9,7 @@ use Rattle.pf_frames.specs.declared.line.TableLine.TheVariants.{Vector}
 use Rattle.pf_frames.specs.declared.line.Spelling.{Spelling}
 use Rattle.pf_frames.specs.Meaning.LineTables.{frame}
 use Rattle.pf_frames.specs.Meaning.Frames.{marks}
+use Rattle.pf_frames.proofs.OperandLaws.{all_below_at}
 use Rattle.pf_frames.specs.Meaning.Laws.{IsSpellingOf}
 use Rattle.pf_tables.specs.declared.row.Row.{Row}
 use Rattle.pf_tables.specs.declared.row.Shape.{Shape}
@@ -19,7 +20,7 @@ use Rattle.pf_tables.specs.Meaning.Instructions.{IsListed, place_of, shape_of, c
 use Rattle.pf_tables.specs.Meaning.Lines.{transfer_numbers, constant_numbers, numbers, row_place, printed, stored, made_by_shape, is_there, lines}
 use Rattle.pf_tables.specs.Meaning.Tables.{table_of}
 use Rattle.pf_tables.specs.Meaning.Laws.{IsSet, either, sorts, number, register, is_sound_row, is_suited}
-use Rattle.pf_tables.specs.Steps.OperandLaws.{below_at, Fit, suited_fit, Short, short, general_fits, low_same, transfer_back, offset_fits, constant_short, constant_fits}
+use Rattle.pf_tables.specs.Steps.OperandLaws.{Fit, suited_fit, Short, short, general_fits, low_same, transfer_back, offset_fits, constant_short, constant_fits}
 
 two_tests : (a m b n : ℕ) → (nat_lt a m && nat_lt b n) ≡ true → (a < m) × (b < n)
 two_tests a m b n h = let t = and_parts (nat_lt a m) (nat_lt b n) h in (ltb-true a m t.0, ltb-true b n t.1)
@@ -30,7 +31,7 @@ small_most s r sound = ltb-true r.most 64 (and_parts _ _ sound).1
 
 amount_small : (s : InstructionSet) → IsSet s → (place by : ℕ) → place < s.places → is_amount s place by ≡ true → by < 64
 amount_small s law place by inside is =
-    let most : (s.row place).most < 64 = small_most s (s.row place) (below_at (λ k. is_sound_row s (s.row k)) s.places place law.sound inside) in
+    let most : (s.row place).most < 64 = small_most s (s.row place) (all_below_at (λ k. is_sound_row s (s.row k)) s.places place law.sound inside) in
     let less : by ≤ (s.row place).most = leb-true by (s.row place).most (and_parts (nat_le (s.row place).least by) (nat_le by (s.row place).most) is).1 in
     omega arith
 
@@ -96,7 +97,7 @@ pub spelled_by : (s : InstructionSet) → IsSet s → (x : TableLine Instruction
 spelled_by s law x shape p inside is there fit back = record {
   inside = inside;
   here = rw is there;
-  fits = suited_fit (sorts s.style shape) (marks (frame (lines s) p.place)) p.numbers (rw is at (below_at (is_suited s) s.places p.place law.suited inside)) fit;
+  fits = suited_fit (sorts s.style shape) (marks (frame (lines s) p.place)) p.numbers (rw is at (all_below_at (is_suited s) s.places p.place law.suited inside)) fit;
   back = rw is back;
 }
 
