@@ -1,0 +1,5 @@
+pub mod ControlShapes
+pub mod OperandLaws
+pub mod VectorLines
+pub mod ControlLines
+pub mod LineLaws

@@ -1,6 +1,7 @@
 //! Sets of vector instructions as tables of rows: each row is the line of an instruction, with what it makes of its operands.
 #![tactic(auto)]
 
+mod controls;
 mod entries;
 mod instruction;
 mod lines;
