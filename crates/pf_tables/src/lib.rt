@@ -4,6 +4,7 @@
 mod controls;
 mod entries;
 mod instruction;
+mod isa;
 mod lines;
 mod operands;
 mod recipes;
@@ -12,6 +13,7 @@ mod set;
 
 pub use entries::{Entry, entry_at};
 pub use instruction::Instruction;
+pub use isa::SetOf;
 pub use lines::LinesOf;
 pub use operands::{Ends, Sources};
 pub use recipes::{COPIED, NONE};
