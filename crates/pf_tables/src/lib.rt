@@ -1,14 +1,20 @@
 //! Sets of vector instructions as tables of rows: each row is the line of an instruction, with what it makes of its operands.
 #![tactic(auto)]
 
+mod effects;
 mod instruction;
 mod lines;
+mod op;
 mod operands;
+mod registers;
 mod row;
 mod set;
 
 pub use instruction::Instruction;
 pub use lines::LinesOf;
+pub use op::Op;
 pub use operands::{Ends, Sources};
+pub use effects::effect_of;
+pub use registers::{access_of, cost_of, defs_of, uses_of};
 pub use row::{Extent, Row, Shape, Style, place};
 pub use set::Rows;
