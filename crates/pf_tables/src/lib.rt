@@ -1,6 +1,7 @@
 //! Sets of vector instructions as tables of rows: each row is the line of an instruction, with what it makes of its operands.
 #![tactic(auto)]
 
+mod controls;
 mod effects;
 mod instruction;
 mod lines;
@@ -10,11 +11,11 @@ mod registers;
 mod row;
 mod set;
 
+pub use effects::effect_of;
 pub use instruction::Instruction;
 pub use lines::LinesOf;
 pub use op::Op;
 pub use operands::{Ends, Sources};
-pub use effects::effect_of;
 pub use registers::{access_of, cost_of, defs_of, uses_of};
 pub use row::{Extent, Row, Shape, Style, place};
 pub use set::Rows;

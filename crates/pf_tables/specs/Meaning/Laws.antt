@@ -37,7 +37,7 @@ result_bytes size Shapes.PairUnary e = size
 result_bytes size shape e = made_bytes size e
 
 abbrev pub is_sound_row : InstructionSet → Row → Bool
-is_sound_row s r = recipe_fits s.vector (result_bytes s.vector r.shape r.extent) r.recipe && (recipe_fits s.vector s.vector r.high && (nat_lt r.amount 64 && nat_lt r.most 64))
+is_sound_row s r = recipe_fits s.vector (result_bytes s.vector r.shape r.extent) r.recipe && recipe_fits s.vector s.vector r.high && nat_lt r.amount 64 && nat_lt r.most 64
 
 -- two vectors have the elements that are moved, of each size
 abbrev pub can_move : ℕ → LaneType → Bool

@@ -25,12 +25,13 @@ abbrev pub constant_numbers : Option ℕ → ℕ → List ℕ
 constant_numbers None n = n ∷ []
 constant_numbers (Some k) n = k ∷ n ∷ []
 
-abbrev pub store_numbers : InstructionSet → Transfer → List ℕ
-store_numbers s r = if s.style.stores_last then general s r.base ∷ s.style.unit * r.j ∷ r.vector ∷ [] else r.vector ∷ general s r.base ∷ s.style.unit * r.j ∷ []
+-- the vector last, or first
+abbrev pub transfer_numbers : InstructionSet → Bool → Transfer → List ℕ
+transfer_numbers s last r = if last then general s r.base ∷ s.style.unit * r.j ∷ r.vector ∷ [] else r.vector ∷ general s r.base ∷ s.style.unit * r.j ∷ []
 
 abbrev pub numbers : InstructionSet → Instruction → List ℕ
-numbers s (Load r) = r.vector ∷ general s r.base ∷ s.style.unit * r.j ∷ []
-numbers s (Store r) = store_numbers s r
+numbers s (Load r) = transfer_numbers s false r
+numbers s (Store r) = transfer_numbers s s.style.stores_last r
 numbers s (Copy r) = r.to ∷ r.from ∷ []
 numbers s (Constant n) = constant_numbers s.style.constant n
 numbers s (ConstantHigh n) = n ∷ []
@@ -52,7 +53,7 @@ numbers s (Move place to r) = to.high ∷ to.low ∷ r.left ∷ r.right ∷ []
 
 -- a number that is added in pages of 4096
 abbrev pub is_pages : InstructionSet → Bool → ℕ → Bool
-is_pages s down by = s.style.adds_pages && (not down && nat_lt 4095 by)
+is_pages s down by = not down && (s.style.adds_pages && nat_lt 4095 by)
 
 -- the place of the row of a control instruction, and its operands. Jumps have none.
 abbrev pub control_place : InstructionSet → Control → ℕ
@@ -74,12 +75,13 @@ control_place s Return = Places.RETURN
 abbrev pub two_registers : InstructionSet → Bool → (first last : ℕ) → List ℕ
 two_registers s kept first last = if kept then general s first ∷ general s last ∷ [] else general s last ∷ general s first ∷ []
 
-abbrev pub store_pointer_numbers : InstructionSet → (base entry from : ℕ) → List ℕ
-store_pointer_numbers s base entry from = if s.style.stores_last then general s base ∷ 8 * entry ∷ general s from ∷ [] else general s from ∷ general s base ∷ 8 * entry ∷ []
+-- what is stored last, or first
+abbrev pub store_pointer_numbers : InstructionSet → Bool → (base entry from : ℕ) → List ℕ
+store_pointer_numbers s last base entry from = if last then general s base ∷ 8 * entry ∷ general s from ∷ [] else general s from ∷ general s base ∷ 8 * entry ∷ []
 
 abbrev pub control_numbers : InstructionSet → Control → List ℕ
 control_numbers s (LoadPtr to base entry) = general s to ∷ general s base ∷ 8 * entry ∷ []
-control_numbers s (StorePtr base entry from) = store_pointer_numbers s base entry from
+control_numbers s (StorePtr base entry from) = store_pointer_numbers s s.style.stores_last base entry from
 control_numbers s (Imm to n) = general s to ∷ n ∷ []
 control_numbers s (AddImm to from down by) = general s to ∷ general s from ∷ (if is_pages s down by then by / 4096 else by) ∷ []
 control_numbers s (AddReg to left right) = general s to ∷ general s left ∷ general s right ∷ []
@@ -92,8 +94,12 @@ control_numbers s (Below label) = []
 control_numbers s (Jump label) = []
 control_numbers s Return = []
 
+-- a place of the table. Values that are no instructions may name others; they have the first.
+abbrev pub row_place : InstructionSet → ℕ → ℕ
+row_place s place = if nat_lt place s.places then place else 0
+
 abbrev pub printed : InstructionSet → TableLine Instruction → Spelling
-printed s (Vector i) = record { place = place_of s i; numbers = numbers s i }
+printed s (Vector i) = record { place = row_place s (place_of s i); numbers = numbers s i }
 printed s (OfControl c) = record { place = control_place s c; numbers = control_numbers s c }
 
 -- the constants 2 ^ 32 - 1 to 2 ^ 32 - 4 are also read as -1 to -4 in packets

@@ -1,6 +1,6 @@
 -- What the laws of a set say of the row of an instruction.
 use Rattle.std.proofs.Common.{◌≡◌, ℕ, ◌+◌, ◌*◌, ◌/◌, ◌%◌, ◌<◌, ◌≤◌, ◌&&◌, ◌-◌, ◌^◌, Bool, true, false, refl, arith, ap, sym, ◌∙◌}
-use Rattle.std.specs.Prelude.{nat_lt, nat_le, ◌==◌, if◌then◌else◌, Option, Some, None}
+use Rattle.std.specs.Prelude.{nat_lt, ◌==◌, if◌then◌else◌, Option, Some, None}
 use Rattle.std.proofs.lemmas.Bool.{lt-ltb, ltb-true, and_parts}
 use Rattle.std.proofs.lemmas.Nat.{mod_below}
 use Rattle.pf_ints.specs.declared.lane.LaneType.{LaneType}
@@ -16,7 +16,7 @@ use Rattle.pf_tables.specs.declared.row.place.TheConstants as Places
 use Rattle.pf_tables.specs.declared.instruction.Instruction.{Instruction}
 use Rattle.pf_tables.specs.declared.instruction.Instruction.TheVariants.{Load, Store, FromConstant, Unary, Binary, Accumulate, Shift, ByConstant, JoinedByConstant, Upper, UpperShift, Blend, Choose, Compare, Pair, PairUnary}
 use Rattle.pf_tables.specs.Meaning.Sets.{InstructionSet}
-use Rattle.pf_tables.specs.Meaning.Instructions.{IsListed, place_of, shape_of, is_amount}
+use Rattle.pf_tables.specs.Meaning.Instructions.{IsListed, place_of, shape_of}
 use Rattle.pf_tables.specs.Meaning.Laws.{IsSet, is_sound_row, recipe_fits, result_bytes, made_bytes, can_move, moves_all}
 use Rattle.pf_tables.specs.Meaning.Effects.{elements, lower, upper, unsigned}
 use Rattle.pf_tables.specs.Steps.Kinds.{is_plain, is_half, is_double, FitsPlain, FitsHalf, FitsPair}
@@ -30,10 +30,12 @@ pub record IsSound (s : InstructionSet) (r : Row) : Type 0 where
 
 sound_row : (s : InstructionSet) (r : Row) → is_sound_row s r ≡ true → IsSound s r
 sound_row s r h =
-    let first = and_parts (recipe_fits s.vector (result_bytes s.vector r.shape r.extent) r.recipe) _ h in
-    let second = and_parts (recipe_fits s.vector s.vector r.high) _ first.1 in
-    let third = and_parts (nat_lt r.amount 64) (nat_lt r.most 64) second.1 in
-    record { room = first.0; high = second.0; amount = ltb-true r.amount 64 third.0; most = ltb-true r.most 64 third.1 }
+    let room = recipe_fits s.vector (result_bytes s.vector r.shape r.extent) r.recipe in
+    let high = recipe_fits s.vector s.vector r.high in
+    let third = and_parts (room && high && nat_lt r.amount 64) (nat_lt r.most 64) h in
+    let second = and_parts (room && high) (nat_lt r.amount 64) third.0 in
+    let first = and_parts room high second.0 in
+    record { room = first.0; high = first.1; amount = ltb-true r.amount 64 second.1; most = ltb-true r.most 64 third.1 }
 
 pub row_sound : (s : InstructionSet) → IsSet s → (place : ℕ) → place < s.places → IsSound s (s.row place)
 row_sound s set place inside = sound_row s (s.row place) (all_below_at (λ k. is_sound_row s (s.row k)) s.places place set.sound inside)
@@ -129,12 +131,6 @@ pub moved_fits : (s : InstructionSet) → IsSet s → (separated : Bool) (k : �
 moved_fits s set separated k ty e =
     let t = size_fits s.vector set.moves in
     both_fit s.vector separated ty (element s.vector k (λ ty. can_move s.vector ty ≡ true) t.0 t.1 t.2 ty e)
-
-pub amount_listed : (s : InstructionSet) (place by : ℕ) → is_amount s place by ≡ true → (s.row place).most < 64 → by < 64
-amount_listed s place by is few =
-    let parts = and_parts (nat_le (s.row place).least by) (nat_le by (s.row place).most) is in
-    let most : by ≤ (s.row place).most = grind (arith, parts.1) in
-    omega arith
 
 -- a lane's bytes divide what is a multiple of four
 pub whole_lanes : (n : ℕ) (b : Bits) → n % 4 ≡ 0 → n ≡ byte_count b * (n / byte_count b)
