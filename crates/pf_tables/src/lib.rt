@@ -3,19 +3,28 @@
 
 mod controls;
 mod entries;
+mod effects;
 mod instruction;
 mod isa;
 mod lines;
+mod op;
 mod operands;
 mod recipes;
 mod row;
 mod set;
 
 pub use entries::{Entry, entry_at};
+mod registers;
+mod row;
+mod set;
+
+pub use effects::effect_of;
 pub use instruction::Instruction;
 pub use isa::SetOf;
 pub use lines::LinesOf;
+pub use op::Op;
 pub use operands::{Ends, Sources};
 pub use recipes::{COPIED, NONE};
+pub use registers::{access_of, cost_of, defs_of, uses_of};
 pub use row::{Extent, Row, Shape, Style, place};
 pub use set::Rows;
