@@ -5,7 +5,7 @@ ghost use Rattle.pf_tables.specs.Meaning.Tables.{table_of};
 use crate::effects::effect_of;
 use crate::lines::LinesOf;
 use crate::op::Op;
-use crate::registers::{access_of, cost_of, defs_of, uses_of};
+use crate::registers::{access_of, cost_of, defs_of, is_fixed, uses_of};
 use crate::set::Rows;
 use pf_frames::{TableLine, parsed_control, parsed_op, printed_control, printed_line};
 use pf_ints::Target;
@@ -76,11 +76,11 @@ impl<R: Rows> Isa for SetOf<R> {
     }
 
     fn rename(op: Op<R>, from: u32, to: u32) -> Op<R> {
-        Op::of(op.instruction().renamed(from, to))
+        op.renamed(from, to)
     }
 
     fn fixed(name: u32) -> bool {
-        R::style().packets && (name == 30 || name == 31)
+        is_fixed::<R>(name)
     }
 
     fn load(to: u32, j: u8) -> Op<R> {

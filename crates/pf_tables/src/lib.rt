@@ -2,23 +2,20 @@
 #![tactic(auto)]
 
 mod controls;
-mod entries;
 mod effects;
+mod entries;
 mod instruction;
 mod isa;
 mod lines;
 mod op;
 mod operands;
 mod recipes;
-mod row;
-mod set;
-
-pub use entries::{Entry, entry_at};
 mod registers;
 mod row;
 mod set;
 
 pub use effects::effect_of;
+pub use entries::{Entry, entry_at};
 pub use instruction::Instruction;
 pub use isa::SetOf;
 pub use lines::LinesOf;
