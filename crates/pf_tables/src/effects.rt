@@ -391,7 +391,8 @@ fn put_vector<R: Rows>(instruction: Instruction, regs: &mut RegFile)
     let mut buffer = [0; 128];
     let out = &mut buffer[..size::<R>()];
     write_vector::<R>(instruction, regs, out);
-    regs.vectors.overwrite_item(destination(instruction) as usize, out);
+    regs.vectors
+        .overwrite_item(destination(instruction) as usize, out);
 }
 
 fn compare<R: Rows>(place: usize, r: Sources, regs: &mut RegFile)
@@ -421,7 +422,14 @@ fn write_pair<R: Rows>(row: Row, a: &[u8], b: &[u8], low: &mut [u8], high: &mut 
 }
 
 // Two vectors with their elements moved.
-fn write_moved<R: Rows>(separated: bool, k: u32, a: &[u8], b: &[u8], low: &mut [u8], high: &mut [u8])
+fn write_moved<R: Rows>(
+    separated: bool,
+    k: u32,
+    a: &[u8],
+    b: &[u8],
+    low: &mut [u8],
+    high: &mut [u8],
+)
     requires first { length a.now ≡ R.set.vector }
     requires second { length b.now ≡ R.set.vector }
     requires room { length low.old ≡ R.set.vector }
@@ -507,9 +515,8 @@ pub fn effect_of<R: Rows>(instruction: Instruction, regs: &mut RegFile)
         Instruction::Constant(n) => regs.k = n,
         Instruction::ConstantHigh(n) => regs.k = n * 65536 + regs.k % 65536,
         Instruction::Compare(place, r) => compare::<R>(place, r, regs),
-        Instruction::Pair(_, _, _)
-        | Instruction::PairUnary(_, _, _)
-        | Instruction::Move(_, _, _) => put_pair::<R>(instruction, regs),
+        Instruction::Pair(_, _, _) | Instruction::PairUnary(_, _, _) | Instruction::Move(_, _, _) =>
+            put_pair::<R>(instruction, regs),
         _ => put_vector::<R>(instruction, regs),
     }
 }

@@ -22,6 +22,6 @@ pub use lines::LinesOf;
 pub use op::Op;
 pub use operands::{Ends, Sources};
 pub use recipes::{COPIED, NONE};
-pub use registers::{access_of, cost_of, defs_of, uses_of};
+pub use registers::{access_of, cost_of, defs_of, is_fixed, uses_of};
 pub use row::{Extent, Row, Shape, Style, place};
 pub use set::Rows;

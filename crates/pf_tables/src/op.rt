@@ -1,5 +1,5 @@
 ghost use Rattle.std.specs.Prelude.{◌≡◌, ◌≤◌};
-ghost use Rattle.pf_tables.specs.Meaning.Instructions.{IsListed};
+ghost use Rattle.pf_tables.specs.Meaning.Instructions.{IsListed, renamed};
 
 use crate::instruction::Instruction;
 use crate::set::Rows;
@@ -71,5 +71,12 @@ impl<R: Rows> Op<R> {
         ensures kept { IsListed R.set self.now }
     {
         self.instruction
+    }
+
+    /// With the vector `new` in place of `old`.
+    pub fn renamed(self, old: u32, new: u32) -> Op<R>
+        ensures { result ≡ renamed R.set self old new }
+    {
+        Op::of(self.instruction.renamed::<R>(old, new))
     }
 }

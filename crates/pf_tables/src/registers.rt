@@ -1,7 +1,9 @@
 ghost use Rattle.std.specs.Prelude.{◌≡◌, ◌∷◌, [], ◌<◌};
-ghost use Rattle.pf_tables.specs.Meaning.Instructions.{IsListed, uses, defs, access, cost, renamed};
+ghost use Rattle.pf_tables.specs.Meaning.Sets.{is_fixed};
+ghost use Rattle.pf_tables.specs.Meaning.Instructions.{IsListed, uses, defs, access, cost, renamed, ends_renamed};
 
 use crate::instruction::Instruction;
+use crate::operands::Ends;
 use crate::set::Rows;
 use pf_lanes::{Transfer, renamed_vector};
 use pf_machine::{Access, Reg, RegList};
@@ -93,10 +95,27 @@ pub fn cost_of<R: Rows>(instruction: Instruction) -> u32
     u32::from(R::row(instruction.place::<R>()).cost)
 }
 
+/// Whether the name stands for one vector of the machine for good.
+pub fn is_fixed<R: Rows>(name: u32) -> bool
+    ensures { result ≡ is_fixed R.set name }
+{
+    R::style().packets && (name == 30 || name == 31)
+}
+
+fn ends_renamed<R: Rows>(to: Ends, old: u32, new: u32) -> Ends
+    ensures { result ≡ ends_renamed R.set old new to }
+{
+    if is_fixed::<R>(old) {
+        to
+    } else {
+        to.renamed(old, new)
+    }
+}
+
 impl Instruction {
-    /// With the vector `new` in place of `old`.
-    pub fn renamed(self, old: u32, new: u32) -> Instruction
-        ensures { result ≡ renamed self old new }
+    /// With the vector `new` in place of `old`. A pair of fixed names stays.
+    pub fn renamed<R: Rows>(self, old: u32, new: u32) -> Instruction
+        ensures { result ≡ renamed R.set self old new }
     {
         match self {
             Self::Load(r) => Self::Load(r.renamed(old, new)),
@@ -104,7 +123,7 @@ impl Instruction {
             Self::Copy(r) => Self::Copy(r.renamed(old, new)),
             Self::Constant(n) => Self::Constant(n),
             Self::ConstantHigh(n) => Self::ConstantHigh(n),
-            Self::FromConstant(place, to) => Self::FromConstant(place, renamed_vector(to, old, new)),
+            Self::FromConstant(place, n) => Self::FromConstant(place, renamed_vector(n, old, new)),
             Self::Unary(place, r) => Self::Unary(place, r.renamed(old, new)),
             Self::Binary(place, r) => Self::Binary(place, r.renamed(old, new)),
             Self::Accumulate(place, r) => Self::Accumulate(place, r.renamed(old, new)),
@@ -113,21 +132,19 @@ impl Instruction {
             Self::JoinedByConstant(place, r) => Self::JoinedByConstant(place, r.renamed(old, new)),
             Self::Upper(place, r) => Self::Upper(place, r.renamed(old, new)),
             Self::UpperShift(place, r, by) => Self::UpperShift(place, r.renamed(old, new), by),
-            Self::Blend(place, r, mask) => {
-                let mask = renamed_vector(mask, old, new);
-                Self::Blend(place, r.renamed(old, new), mask)
+            Self::Blend(place, r, n) => {
+                Self::Blend(place, r.renamed(old, new), renamed_vector(n, old, new))
             }
             Self::Choose(place, r) => Self::Choose(place, r.renamed(old, new)),
             Self::Compare(place, r) => Self::Compare(place, r.renamed(old, new)),
             Self::Pair(place, to, r) => {
-                Self::Pair(place, to.renamed(old, new), r.renamed(old, new))
+                Self::Pair(place, ends_renamed::<R>(to, old, new), r.renamed(old, new))
             }
-            Self::PairUnary(place, to, from) => {
-                let from = renamed_vector(from, old, new);
-                Self::PairUnary(place, to.renamed(old, new), from)
+            Self::PairUnary(place, to, n) => {
+                Self::PairUnary(place, ends_renamed::<R>(to, old, new), renamed_vector(n, old, new))
             }
             Self::Move(place, to, r) => {
-                Self::Move(place, to.renamed(old, new), r.renamed(old, new))
+                Self::Move(place, ends_renamed::<R>(to, old, new), r.renamed(old, new))
             }
         }
     }

@@ -1,7 +1,7 @@
 -- What the laws of a set say of the row of an instruction.
-use Rattle.std.proofs.Common.{◌≡◌, ℕ, ◌+◌, ◌*◌, ◌/◌, ◌%◌, ◌<◌, ◌≤◌, ◌&&◌, ◌-◌, ◌^◌, Bool, true, false, refl, arith, ap, sym, ◌∙◌}
-use Rattle.std.specs.Prelude.{nat_lt, ◌==◌, if◌then◌else◌, Option, Some, None}
-use Rattle.std.proofs.lemmas.Bool.{lt-ltb, ltb-true, and_parts}
+use Rattle.std.proofs.Common.{◌≡◌, ℕ, ◌+◌, ◌*◌, ◌/◌, ◌%◌, ◌<◌, ◌≤◌, ◌&&◌, ◌-◌, ◌^◌, Bool, true, false, refl, arith, sym, ⊎_elim}
+use Rattle.std.specs.Prelude.{nat_lt, ◌==◌, ◌||◌, if◌then◌else◌, Option, Some, None}
+use Rattle.std.proofs.lemmas.Bool.{lt-ltb, ltb-true, and_parts, cases_Bool, eqb-true, eqb-false, ne_eqb}
 use Rattle.std.proofs.lemmas.Nat.{mod_below}
 use Rattle.pf_ints.specs.declared.lane.LaneType.{LaneType}
 use Rattle.pf_ints.specs.declared.lane.Bits.{Bits}
@@ -11,12 +11,11 @@ use Rattle.pf_frames.proofs.OperandLaws.{all_below_at}
 use Rattle.pf_lanes.specs.Meaning.Lanes.{byte_count}
 use Rattle.pf_tables.specs.declared.row.Row.{Row}
 use Rattle.pf_tables.specs.declared.row.Extent.{Extent}
-use Rattle.pf_tables.specs.declared.row.Shape.{Shape}
-use Rattle.pf_tables.specs.declared.row.place.TheConstants as Places
 use Rattle.pf_tables.specs.declared.instruction.Instruction.{Instruction}
-use Rattle.pf_tables.specs.declared.instruction.Instruction.TheVariants.{Load, Store, FromConstant, Unary, Binary, Accumulate, Shift, ByConstant, JoinedByConstant, Upper, UpperShift, Blend, Choose, Compare, Pair, PairUnary}
-use Rattle.pf_tables.specs.Meaning.Sets.{InstructionSet}
-use Rattle.pf_tables.specs.Meaning.Instructions.{IsListed, place_of, shape_of}
+use Rattle.pf_tables.specs.declared.instruction.Instruction.TheVariants.{Load, Store, FromConstant, Unary, Binary, Accumulate, Shift, ByConstant, JoinedByConstant, Upper, UpperShift, Blend, Choose, Compare, Pair, PairUnary, Move}
+use Rattle.pf_tables.specs.Meaning.Sets.{InstructionSet, is_fixed}
+use Rattle.pf_tables.specs.declared.operands.Ends.{Ends}
+use Rattle.pf_tables.specs.Meaning.Instructions.{IsListed, place_of, shape_of, is_pair, has_numbers, renamed, ends_renamed}
 use Rattle.pf_tables.specs.Meaning.Laws.{IsSet, is_sound_row, recipe_fits, result_bytes, made_bytes, can_move, moves_all}
 use Rattle.pf_tables.specs.Meaning.Effects.{elements, lower, upper, unsigned}
 use Rattle.pf_tables.specs.Steps.Kinds.{is_plain, is_half, is_double, FitsPlain, FitsHalf, FitsPair}
@@ -142,3 +141,46 @@ pub amount_below : (n : ℕ) (b : Bits) → n % bit_count b < 64
 amount_below n Eight = omega (arith, mod_below n 8)
 amount_below n Sixteen = omega (arith, mod_below n 16)
 amount_below n ThirtyTwo = omega (arith, mod_below n 32)
+
+-- an instruction stays one under other names
+
+neither : (x y : Bool) → (x || y) ≡ false → (x ≡ false) × (y ≡ false)
+neither true y h = absurd (cc)
+neither false y h = (refl, h)
+
+pair_stays : (s : InstructionSet) (to : Ends) (old new : ℕ) → is_pair s to ≡ true → is_pair s (ends_renamed s old new to) ≡ true
+pair_stays s to old new is =
+    ⊎_elim
+    (λ (yes : is_fixed s old ≡ true). rw yes is)
+    (λ (no : is_fixed s old ≡ false).
+    let parts = and_parts s.style.packets (to.low == 30 && to.high == 31) is in
+    let ends = and_parts (to.low == 30) (to.high == 31) parts.1 in
+    let low : to.low ≡ 30 = eqb-true to.low 30 ends.0 in
+    let high : to.high ≡ 31 = eqb-true to.high 31 ends.1 in
+    let free : (old == 30 || old == 31) ≡ false = rw parts.0 at no in
+    let others = neither (old == 30) (old == 31) free in
+    let first : (30 == old) ≡ false = ne_eqb 30 old (λ e. eqb-false old 30 others.0 (sym e)) in
+    let second : (31 == old) ≡ false = ne_eqb 31 old (λ e. eqb-false old 31 others.1 (sym e)) in
+    rw (no, low, high, first, second, parts.0) refl)
+    (cases_Bool (is_fixed s old))
+
+numbers_stay : (s : InstructionSet) (i : Instruction) (old new : ℕ) → has_numbers s i ≡ true → has_numbers s (renamed s i old new) ≡ true
+numbers_stay s (Pair place to r) old new is = pair_stays s to old new is
+numbers_stay s (PairUnary place to from) old new is = pair_stays s to old new is
+numbers_stay s (Move place to r) old new is = pair_stays s to old new is
+numbers_stay s _ old new is = is
+
+place_stays : (s : InstructionSet) (i : Instruction) (old new : ℕ) → place_of s (renamed s i old new) ≡ place_of s i
+place_stays s (Load r) old new = refl
+place_stays s _ old new = refl
+
+shape_stays : (s : InstructionSet) (i : Instruction) (old new : ℕ) → shape_of s (renamed s i old new) ≡ shape_of s i
+shape_stays s (Load r) old new = refl
+shape_stays s _ old new = refl
+
+pub renamed_listed : (s : InstructionSet) (i : Instruction) (old new : ℕ) → IsListed s i → IsListed s (renamed s i old new)
+renamed_listed s i old new is = record {
+  inside = rw (place_stays s i old new) is.inside;
+  shape = rw (place_stays s i old new, shape_stays s i old new) is.shape;
+  numbers = numbers_stay s i old new is.numbers;
+}

@@ -1,5 +1,5 @@
 -- A set's table meets the laws of every set of instructions.
-use Rattle.std.proofs.Common.{◌≡◌, ℕ, ◌+◌, ◌*◌, ◌/◌, ◌%◌, ◌<◌, ◌≤◌, ◌&&◌, List, [], ◌∷◌, ◌++◌, take, All, Bool, true, false, length, map, Option, None, Some, MatchOption, refl, arith, sym, ◌∙◌, ⊎_elim, length-append, length-take}
+use Rattle.std.proofs.Common.{◌≡◌, ℕ, ◌+◌, ◌/◌, ◌%◌, ◌<◌, ◌≤◌, List, [], ◌∷◌, ◌++◌, take, All, Bool, true, false, length, map, Option, None, Some, MatchOption, refl, arith, sym, ◌∙◌, ⊎_elim, length-append, length-take}
 use Rattle.std.specs.Prelude.{nat_lt, ◌||◌, ◌==◌, replicate, slice_index_or, if◌then◌else◌}
 use Rattle.std.specs.Option.{option_map}
 use Rattle.std.proofs.lemmas.Bool.{and_parts, cases_Bool, eqb-true, ltb-true, ne_eqb, or_cases}
@@ -24,7 +24,7 @@ use Rattle.pf_tables.specs.declared.operands.Ends.{Ends}
 use Rattle.pf_tables.specs.declared.instruction.Instruction.{Instruction}
 use Rattle.pf_tables.specs.declared.instruction.Instruction.TheVariants.{Load, Store, Copy, Constant, ConstantHigh, FromConstant, Unary, Binary, Accumulate, Shift, ByConstant, JoinedByConstant, Upper, UpperShift, Blend, Choose, Compare, Pair, PairUnary, Move}
 use Rattle.pf_tables.specs.Meaning.Sets.{InstructionSet, is_fixed}
-use Rattle.pf_tables.specs.Meaning.Instructions.{IsListed, uses, defs, access, cost, renamed}
+use Rattle.pf_tables.specs.Meaning.Instructions.{IsListed, uses, defs, access, cost, renamed, ends_renamed}
 use Rattle.pf_tables.specs.Meaning.Effects.{lanes_of, vector_of, upper_of, truths, made_by, made_by_two, pair_of, moved, elements, lower, upper, outcome}
 use Rattle.pf_tables.specs.Meaning.Lines.{lines}
 use Rattle.pf_tables.specs.Meaning.Tables.{table_of}
@@ -160,23 +160,29 @@ module _ (s : InstructionSet) (set : IsSet s) where
   few (Load r) is = omega arith
   few _ is = omega arith
 
-  rename_uses : (op : Instruction) (old new : ℕ) → uses (renamed op old new) ≡ map (λ r. renamed_register old new r) (uses op)
+  rename_uses : (op : Instruction) (old new : ℕ) → uses (renamed s op old new) ≡ map (λ r. renamed_register old new r) (uses op)
   rename_uses (Load r) old new = refl
   rename_uses _ old new = refl
 
-  rename_defs : (op : Instruction) (old new : ℕ) → defs (renamed op old new) ≡ map (λ r. renamed_register old new r) (defs op)
-  rename_defs (Load r) old new = refl
-  rename_defs _ old new = refl
+  rename_ends : (to : Ends) (old new : ℕ) → is_fixed s old ≡ false
+      → V (ends_renamed s old new to).low ∷ V (ends_renamed s old new to).high ∷ [] ≡ map (λ r. renamed_register old new r) (V to.low ∷ V to.high ∷ [])
+  rename_ends to old new free = rw free refl
 
-  rename_outcome : (op : Instruction) (old new : ℕ) (held : List (List ℕ)) → outcome s (renamed op old new) held ≡ outcome s op held
+  rename_defs : (op : Instruction) (old new : ℕ) → is_fixed s old ≡ false → defs (renamed s op old new) ≡ map (λ r. renamed_register old new r) (defs op)
+  rename_defs (Pair place to r) old new free = rename_ends to old new free
+  rename_defs (PairUnary place to from) old new free = rename_ends to old new free
+  rename_defs (Move place to r) old new free = rename_ends to old new free
+  rename_defs _ old new free = refl
+
+  rename_outcome : (op : Instruction) (old new : ℕ) (held : List (List ℕ)) → outcome s (renamed s op old new) held ≡ outcome s op held
   rename_outcome (Load r) old new held = refl
   rename_outcome _ old new held = refl
 
-  rename_access : (op : Instruction) (old new : ℕ) → access s (renamed op old new) ≡ option_map (λ a. renamed_access old new a) (access s op)
+  rename_access : (op : Instruction) (old new : ℕ) → access s (renamed s op old new) ≡ option_map (λ a. renamed_access old new a) (access s op)
   rename_access (Load r) old new = refl
   rename_access _ old new = refl
 
-  rename_cost : (op : Instruction) (old new : ℕ) → cost s (renamed op old new) ≡ cost s op
+  rename_cost : (op : Instruction) (old new : ℕ) → cost s (renamed s op old new) ≡ cost s op
   rename_cost (Load r) old new = refl
   rename_cost _ old new = refl
 
@@ -212,7 +218,7 @@ module _ (s : InstructionSet) (set : IsSet s) where
     load_over = λ to j h k. record { uses = none_in; defs = one_in to h };
     store_over = λ from j h k. record { uses = one_in from h; defs = none_in };
     rename_uses = λ op old new free other. rename_uses op old new;
-    rename_defs = λ op old new free other. rename_defs op old new;
+    rename_defs = λ op old new free other. rename_defs op old new free;
     rename_outcome = rename_outcome;
     rename_access = rename_access;
     rename_cost = rename_cost;

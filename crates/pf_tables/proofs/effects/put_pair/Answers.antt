@@ -1,4 +1,4 @@
-use Rattle.std.proofs.Common.{◌≡◌, ◌<◌, ◌∙◌, sym, ap, length, get_or, [], arith}
+use Rattle.std.proofs.Common.{◌<◌, ◌∙◌, sym, length, arith}
 use Rattle.std.proofs.lemmas.List.{length-set}
 use Rattle.pf_machine.specs.declared.registers.Reg.TheVariants.{K}
 use Rattle.pf_machine.proofs.FileLaws.{vector_long}
