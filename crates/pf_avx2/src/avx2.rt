@@ -1,13 +1,43 @@
+ghost use Rattle.std.specs.Prelude.{refl};
+ghost use Rattle.pf_ints.specs.declared.target.Target.TheVariants.{Avx2 as Avx2Target};
 ghost use Rattle.pf_avx2.specs.Meaning.Avx2.{avx2_set};
 ghost use Rattle.pf_avx2.specs.Steps.SetLaws.{is_avx2_set};
 
 use crate::rows::{PLACES, STYLE, entry};
-use pf_tables::{Row, Rows, Style};
+use pf_ints::Target;
+use pf_tables::{Row, Rows, SetOf, Style};
 
-/// The instructions of AVX2.
-pub struct Avx2;
+/// The rows of AVX2.
+pub struct Avx2Rows;
 
-impl Rows for Avx2 {
+/// The instructions of AVX2, as a set for the machine.
+pub type Avx2 = SetOf<Avx2Rows>;
+
+impl Rows for Avx2Rows {
+    const TARGET: Target = Target::Avx2;
+
+    const BYTES: u32 = 32;
+
+    const NAMES: u32 = 12;
+
+    const REGISTERS: u32 = 16;
+
+    ghost TARGET = { Avx2Target };
+
+    ghost BYTES = { 32 };
+
+    ghost NAMES = { 12 };
+
+    ghost REGISTERS = { 16 };
+
+    ghost target_is = { refl };
+
+    ghost vector_is = { refl };
+
+    ghost names_are = { refl };
+
+    ghost vectors_are = { refl };
+
     ghost set = { avx2_set };
 
     fn vector() -> usize {

@@ -1,13 +1,43 @@
+ghost use Rattle.std.specs.Prelude.{refl};
+ghost use Rattle.pf_ints.specs.declared.target.Target.TheVariants.{Hvx as HvxTarget};
 ghost use Rattle.pf_hvx.specs.Meaning.Hvx.{hvx_set};
 ghost use Rattle.pf_hvx.specs.Steps.SetLaws.{is_hvx_set};
 
 use crate::rows::{PLACES, STYLE, entry};
-use pf_tables::{Row, Rows, Style};
+use pf_ints::Target;
+use pf_tables::{Row, Rows, SetOf, Style};
 
-/// The instructions of HVX.
-pub struct Hvx;
+/// The rows of HVX.
+pub struct HvxRows;
 
-impl Rows for Hvx {
+/// The instructions of HVX, as a set for the machine.
+pub type Hvx = SetOf<HvxRows>;
+
+impl Rows for HvxRows {
+    const TARGET: Target = Target::Hvx;
+
+    const BYTES: u32 = 128;
+
+    const NAMES: u32 = 26;
+
+    const REGISTERS: u32 = 32;
+
+    ghost TARGET = { HvxTarget };
+
+    ghost BYTES = { 128 };
+
+    ghost NAMES = { 26 };
+
+    ghost REGISTERS = { 32 };
+
+    ghost target_is = { refl };
+
+    ghost vector_is = { refl };
+
+    ghost names_are = { refl };
+
+    ghost vectors_are = { refl };
+
     ghost set = { hvx_set };
 
     fn vector() -> usize {

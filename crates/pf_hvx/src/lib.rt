@@ -4,5 +4,5 @@
 mod hvx;
 mod rows;
 
-pub use hvx::Hvx;
+pub use hvx::{Hvx, HvxRows};
 pub use rows::Mnemonic;

@@ -1,4 +1,4 @@
-//! The instructions of A64 Advanced SIMD, as a table of rows.
+//! The instructions of A64 Advanced SIMD, as a set for the machine.
 #![tactic(auto)]
 
 mod mnemonic;
@@ -6,4 +6,4 @@ mod neon;
 mod rows;
 
 pub use mnemonic::Mnemonic;
-pub use neon::Neon;
+pub use neon::{Neon, NeonRows, Op};

@@ -91,22 +91,40 @@ pub struct Style {
 /// The places of rows that each table has, or lacks, at the same place.
 pub mod place {
     pub const LOAD_POINTER: usize = 0;
+
     pub const STORE_POINTER: usize = 1;
+
     pub const SET_NUMBER: usize = 2;
+
     pub const ADD: usize = 3;
+
     pub const SUB: usize = 4;
+
     pub const ADD_REGISTER: usize = 5;
+
     pub const LOAD_BYTE: usize = 6;
+
     pub const LOAD_HALF: usize = 7;
+
     pub const STORE_BYTE: usize = 8;
+
     pub const STORE_HALF: usize = 9;
+
     pub const COMPARE: usize = 10;
+
     pub const RETURN: usize = 11;
+
     pub const ADD_PAGES: usize = 12;
+
     pub const NEGATIVE_CONSTANT: usize = 13;
+
     pub const LOAD: usize = 14;
+
     pub const STORE: usize = 15;
+
     pub const COPY: usize = 16;
+
     pub const CONSTANT: usize = 17;
+
     pub const CONSTANT_HIGH: usize = 18;
 }

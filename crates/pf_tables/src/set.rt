@@ -1,13 +1,42 @@
-ghost use Rattle.std.specs.Prelude.{◌≡◌, ◌<◌};
+ghost use Rattle.std.specs.Prelude.{◌≡◌, ℕ, ◌<◌};
+ghost use Rattle.pf_ints.specs.declared.target.Target.{Target};
 ghost use Rattle.pf_frames.specs.Meaning.LineTables.{around};
 ghost use Rattle.pf_tables.specs.Meaning.Sets.{InstructionSet};
 ghost use Rattle.pf_tables.specs.Meaning.Laws.{IsSet};
 
 use crate::row::{Row, Style};
+use pf_ints::Target;
 
 /// The table of rows of a set of instructions.
 pub trait Rows {
+    const TARGET: Target;
+
+    /// Bytes of a vector.
+    const BYTES: u32;
+
+    /// How many vectors an allocator may hand out: those of the lowest names.
+    const NAMES: u32;
+
+    /// How many vectors the machine has.
+    const REGISTERS: u32;
+
+    ghost TARGET: { Target };
+
+    ghost BYTES: { ℕ };
+
+    ghost NAMES: { ℕ };
+
+    ghost REGISTERS: { ℕ };
+
     ghost set: { InstructionSet };
+
+    ghost target_is: { set.target ≡ TARGET };
+
+    ghost vector_is: { set.vector ≡ BYTES };
+
+    ghost names_are: { set.names ≡ NAMES };
+
+    ghost vectors_are: { set.vectors ≡ REGISTERS };
 
     /// Bytes of a vector.
     fn vector() -> usize

@@ -19,6 +19,7 @@ is_avx2_set = record {
   small_unit = omega arith;
   constant = refl;
   fixed_rows = fixed_rows avx2_set refl (λ paged. absurd (cc)) (λ packed. absurd (cc)) refl refl;
+  moves = refl;
   sound = refl;
   suited = refl;
   apart = refl;

@@ -19,6 +19,7 @@ is_hvx_set = record {
   small_unit = omega arith;
   constant = refl;
   fixed_rows = fixed_rows hvx_set refl (λ paged. absurd (cc)) (λ packed. refl) refl refl;
+  moves = refl;
   sound = refl;
   suited = refl;
   apart = refl;

@@ -1,9 +1,13 @@
 -- The table of rows meets what is asked of every one: all of it is computed.
-use Rattle.std.proofs.Common.{◌≡◌, refl, arith}
-use Rattle.pf_tables.specs.Meaning.Laws.{IsSet}
+use Rattle.std.proofs.Common.{◌≡◌, true, refl, arith}
+use Rattle.pf_tables.specs.Meaning.Laws.{IsSet, moves_all}
 use Rattle.pf_tables.proofs.FixedRows.{fixed_rows}
 use Rattle.pf_neon.specs.Meaning.Rows.{word_at, pattern_at, row_at}
 use Rattle.pf_neon.specs.Meaning.Neon.{neon_set}
+
+moves : moves_all 16 ≡ true
+unfolding moves_all
+moves = refl
 
 pub is_neon_set : IsSet neon_set
 unfolding word_at pattern_at row_at
@@ -18,6 +22,7 @@ is_neon_set = record {
   unit = omega arith;
   small_unit = omega arith;
   constant = refl;
+  moves = moves;
   fixed_rows = fixed_rows neon_set refl (λ paged. refl) (λ packed. absurd (cc)) refl refl;
   sound = refl;
   suited = refl;

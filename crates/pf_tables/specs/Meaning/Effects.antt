@@ -42,7 +42,7 @@ abbrev pub pair_of : ℕ → Row → (a b : List ℕ) → List (List ℕ)
 pair_of size r a b = lanes_of size r.recipe r.amount a b b ∷ lanes_of size r.high r.amount a b b ∷ []
 
 -- the elements that a constant register of -1, -2 or -4 stands for
-abbrev unsigned : Bits → LaneType
+abbrev pub unsigned : Bits → LaneType
 unsigned bits = record { signed = false; bits = bits }
 
 abbrev pub elements : ℕ → Option LaneType

@@ -1,6 +1,5 @@
 -- Instructions of a table: which there are, what they read and change, what they cost.
-use Rattle.std.specs.Prelude.{◌≡◌, ℕ, ◌<◌, ◌*◌, ◌^◌, nat_lt, nat_le, Bool, ◌&&◌, ◌==◌, List, [], ◌∷◌, true, false, Option, Some, None, if◌then◌else◌, IsTrue}
-use Rattle.std.specs.Option.{is_none}
+use Rattle.std.specs.Prelude.{◌≡◌, ℕ, ◌<◌, ◌*◌, ◌^◌, nat_lt, nat_le, Bool, ◌&&◌, ◌==◌, List, [], ◌∷◌, true, false, if◌then◌else◌, Option, Some, None}
 use Rattle.pf_lanes.specs.Meaning.Registers.{renamed_double, renamed_triple, renamed_transfer}
 use Rattle.pf_machine.specs.declared.registers.Reg.{Reg}
 use Rattle.pf_machine.specs.declared.registers.Reg.TheVariants.{V, K, Q}
@@ -13,7 +12,7 @@ use Rattle.pf_tables.specs.declared.operands.Ends.{Ends}
 use Rattle.pf_tables.specs.declared.instruction.Instruction.{Instruction}
 use Rattle.pf_tables.specs.declared.instruction.Instruction.TheVariants.{Load, Store, Copy, Constant, ConstantHigh, FromConstant, Unary, Binary, Accumulate, Shift, ByConstant, JoinedByConstant, Upper, UpperShift, Blend, Choose, Compare, Pair, PairUnary, Move}
 use Rattle.pf_tables.specs.Meaning.Registers.{renamed_sources, renamed_ends}
-use Rattle.pf_tables.specs.Meaning.Sets.{InstructionSet}
+use Rattle.pf_tables.specs.Meaning.Sets.{InstructionSet, is_fixed}
 
 -- the place of its row. A constant register that is one of the general ones is set by their line.
 abbrev pub constant_place : Option ℕ → ℕ
@@ -160,24 +159,28 @@ access s i = None
 abbrev pub cost : InstructionSet → Instruction → ℕ
 cost s i = (s.row (place_of s i)).cost
 
-abbrev pub renamed : Instruction → ℕ → ℕ → Instruction
-renamed (Load r) old new = Load (renamed_transfer old new r)
-renamed (Store r) old new = Store (renamed_transfer old new r)
-renamed (Copy r) old new = Copy (renamed_double old new r)
-renamed (Constant n) old new = Constant n
-renamed (ConstantHigh n) old new = ConstantHigh n
-renamed (FromConstant place to) old new = FromConstant place (renamed_vector old new to)
-renamed (Unary place r) old new = Unary place (renamed_double old new r)
-renamed (Binary place r) old new = Binary place (renamed_triple old new r)
-renamed (Accumulate place r) old new = Accumulate place (renamed_triple old new r)
-renamed (Shift place r by) old new = Shift place (renamed_double old new r) by
-renamed (ByConstant place r) old new = ByConstant place (renamed_double old new r)
-renamed (JoinedByConstant place r) old new = JoinedByConstant place (renamed_triple old new r)
-renamed (Upper place r) old new = Upper place (renamed_double old new r)
-renamed (UpperShift place r by) old new = UpperShift place (renamed_double old new r) by
-renamed (Blend place r mask) old new = Blend place (renamed_triple old new r) (renamed_vector old new mask)
-renamed (Choose place r) old new = Choose place (renamed_triple old new r)
-renamed (Compare place r) old new = Compare place (renamed_sources old new r)
-renamed (Pair place to r) old new = Pair place (renamed_ends old new to) (renamed_sources old new r)
-renamed (PairUnary place to from) old new = PairUnary place (renamed_ends old new to) (renamed_vector old new from)
-renamed (Move place to r) old new = Move place (renamed_ends old new to) (renamed_sources old new r)
+-- with another name for a vector; a pair stays where the old name is one of those that stand for good
+abbrev pub ends_renamed : InstructionSet → ℕ → ℕ → Ends → Ends
+ends_renamed s old new to = if is_fixed s old then to else renamed_ends old new to
+
+abbrev pub renamed : InstructionSet → Instruction → ℕ → ℕ → Instruction
+renamed s (Load r) old new = Load (renamed_transfer old new r)
+renamed s (Store r) old new = Store (renamed_transfer old new r)
+renamed s (Copy r) old new = Copy (renamed_double old new r)
+renamed s (Constant n) old new = Constant n
+renamed s (ConstantHigh n) old new = ConstantHigh n
+renamed s (FromConstant place to) old new = FromConstant place (renamed_vector old new to)
+renamed s (Unary place r) old new = Unary place (renamed_double old new r)
+renamed s (Binary place r) old new = Binary place (renamed_triple old new r)
+renamed s (Accumulate place r) old new = Accumulate place (renamed_triple old new r)
+renamed s (Shift place r by) old new = Shift place (renamed_double old new r) by
+renamed s (ByConstant place r) old new = ByConstant place (renamed_double old new r)
+renamed s (JoinedByConstant place r) old new = JoinedByConstant place (renamed_triple old new r)
+renamed s (Upper place r) old new = Upper place (renamed_double old new r)
+renamed s (UpperShift place r by) old new = UpperShift place (renamed_double old new r) by
+renamed s (Blend place r mask) old new = Blend place (renamed_triple old new r) (renamed_vector old new mask)
+renamed s (Choose place r) old new = Choose place (renamed_triple old new r)
+renamed s (Compare place r) old new = Compare place (renamed_sources old new r)
+renamed s (Pair place to r) old new = Pair place (ends_renamed s old new to) (renamed_sources old new r)
+renamed s (PairUnary place to from) old new = PairUnary place (ends_renamed s old new to) (renamed_vector old new from)
+renamed s (Move place to r) old new = Move place (ends_renamed s old new to) (renamed_sources old new r)

@@ -1,6 +1,7 @@
 -- What a target owes of its table of rows: all of it is computed, over the whole table.
-use Rattle.std.specs.Prelude.{◌≡◌, ℕ, ◌+◌, ◌*◌, ◌/◌, ◌%◌, ◌≤◌, ◌<◌, ◌^◌, Bool, true, false, not, ◌&&◌, ◌||◌, nat_le, nat_lt, ◌==◌, List, [], ◌∷◌, Option, Some, None, if◌then◌else◌}
-use Rattle.pf_ints.specs.Meaning.Lanes.{lane_width}
+use Rattle.std.specs.Prelude.{◌≡◌, ℕ, ◌+◌, ◌/◌, ◌%◌, ◌≤◌, Bool, true, false, not, ◌&&◌, ◌||◌, nat_lt, ◌==◌, List, [], ◌∷◌, Option, Some, None, if◌then◌else◌}
+use Rattle.pf_ints.specs.declared.lane.LaneType.{LaneType}
+use Rattle.pf_ints.specs.declared.lane.Bits.TheVariants.{Eight, Sixteen, ThirtyTwo}
 use Rattle.pf_frames.specs.Meaning.Frames.{marks}
 use Rattle.pf_frames.specs.Meaning.LineTables.{frame}
 use Rattle.pf_frames.specs.Meaning.FrameTests.{bare, frames_below, are_all_apart, all_below, is_forked, is_around}
@@ -16,7 +17,7 @@ use Rattle.pf_tables.specs.declared.row.Shape.TheVariants as Shapes
 use Rattle.pf_tables.specs.declared.row.place.TheConstants as Places
 use Rattle.pf_tables.specs.declared.row.Style.{Style}
 use Rattle.pf_tables.specs.Meaning.Sets.{InstructionSet}
-use Rattle.pf_tables.specs.Meaning.Instructions.{constant_shape, constant_place}
+use Rattle.pf_tables.specs.Meaning.Effects.{lower, upper, unsigned}
 use Rattle.pf_tables.specs.Meaning.Lines.{lines}
 
 -- three vectors have the lanes that a recipe takes for so many bytes of the result
@@ -28,15 +29,22 @@ made_bytes size Whole = size
 made_bytes size Lower = size / 2
 
 -- a row's recipes fit its shape, and its amounts are none too large
-abbrev pub is_half : Shape → Bool
-is_half Shapes.Upper = true
-is_half Shapes.UpperShift = true
-is_half shape = false
+abbrev pub result_bytes : ℕ → Shape → Extent → ℕ
+result_bytes size Shapes.Upper e = size / 2
+result_bytes size Shapes.UpperShift e = size / 2
+result_bytes size Shapes.Pair e = size
+result_bytes size Shapes.PairUnary e = size
+result_bytes size shape e = made_bytes size e
 
 abbrev pub is_sound_row : InstructionSet → Row → Bool
-is_sound_row s r =
-    (if is_half r.shape then recipe_fits s.vector (s.vector / 2) r.recipe else recipe_fits s.vector (made_bytes s.vector r.extent) r.recipe)
-    && recipe_fits s.vector s.vector r.high && nat_lt r.amount 64 && nat_lt r.most 64
+is_sound_row s r = recipe_fits s.vector (result_bytes s.vector r.shape r.extent) r.recipe && recipe_fits s.vector s.vector r.high && nat_lt r.amount 64 && nat_lt r.most 64
+
+-- two vectors have the elements that are moved, of each size
+abbrev pub can_move : ℕ → LaneType → Bool
+can_move size ty = recipe_fits size size (lower size false ty) && (recipe_fits size size (lower size true ty) && (recipe_fits size size (upper size false ty) && recipe_fits size size (upper size true ty)))
+
+unfoldable pub moves_all : ℕ → Bool
+moves_all size = can_move size (unsigned Eight) && (can_move size (unsigned Sixteen) && can_move size (unsigned ThirtyTwo))
 
 -- what the marks of a row's frame are for: general registers, or numbers
 abbrev pub number : Bool
@@ -135,6 +143,7 @@ pub record IsSet (s : InstructionSet) : Type 0 where
   pub small_unit : s.style.unit ≤ 128
   pub constant : is_other_register s.style.packets s.style.constant ≡ true
   pub fixed_rows : HasFixedRows s
+  pub moves : moves_all s.vector ≡ true
   pub sound : all_below (λ k. is_sound_row s (s.row k)) s.places ≡ true
   pub suited : all_below (is_suited s) s.places ≡ true
   -- its lines

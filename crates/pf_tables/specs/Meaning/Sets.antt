@@ -1,11 +1,9 @@
 -- A set of instructions: its rows by their places, and how it writes registers and numbers.
-use Rattle.std.specs.Prelude.{ℕ, ◌*◌, ◌&&◌, ◌||◌, Bool, true, false, List, ◌==◌, if◌then◌else◌}
+use Rattle.std.specs.Prelude.{ℕ, ◌&&◌, ◌||◌, Bool, List, ◌==◌, if◌then◌else◌}
 use Rattle.pf_ints.specs.declared.target.Target.{Target}
 use Rattle.pf_frames.specs.Meaning.LineTables.{Jumps}
 use Rattle.pf_tables.specs.declared.row.Row.{Row}
 use Rattle.pf_tables.specs.declared.row.Style.{Style}
-use Rattle.pf_tables.specs.declared.row.Shape.{Shape}
-use Rattle.pf_tables.specs.declared.row.Shape.TheVariants.{Absent}
 
 pub record InstructionSet : Type 0 where
   pub target : Target

@@ -1,5 +1,4 @@
 -- The meaning of a set of instructions that a table of rows makes.
-use Rattle.std.specs.Prelude.{ℕ}
 use Rattle.pf_machine.specs.Meaning.Tables.{Table}
 use Rattle.pf_frames.specs.declared.line.TableLine.TheVariants.{Vector}
 use Rattle.pf_frames.specs.Meaning.LineTables.{text_of, others, control_text_of}
@@ -21,7 +20,7 @@ table_of s = record {
   outcome = outcome s;
   access = access s;
   cost = cost s;
-  renamed = renamed;
+  renamed = renamed s;
   fixed = is_fixed s;
   load = λ to j. Load (record { vector = to; base = 5; j = j });
   store = λ from j. Store (record { vector = from; base = 5; j = j });
