@@ -33,9 +33,14 @@ use Rattle.pf_lanes.specs.Meaning.Lanes.{lane, made, residue}
 use Rattle.pf_lanes.proofs.LaneLaws.{part-made}
 use Rattle.pf_tables.specs.declared.instruction.Instruction.{Instruction}
 use Rattle.pf_neon.specs.Meaning.Rows.{row_at}
-use Rattle.pf_neon.specs.Meaning.Neon.{table}
+use Rattle.pf_neon.specs.Meaning.Neon.{table, IsNeonInstruction}
 use Rattle.pf_rows.specs.Meaning.BlockRows.{tap_widths, tap_pixel, IsRowBlock, IsBlockItem, LeavesLanes, StoresEach}
-use Rattle.pf_select.specs.Meaning.MinOfTaps.{byte_type, min_term, min_source, min_block, HasTaps, LeavesMin}
+use Rattle.pf_select.specs.Meaning.MinOfTaps.{byte_type, min_term, min_source, least, min_block, HasTaps, LeavesMin}
+
+-- ---- the instruction is one of the table
+pub is_listed : IsNeonInstruction least
+unfolding row_at
+is_listed = record { inside = omega arith; shape = refl; numbers = refl }
 
 -- ---- what the block stores
 abbrev tap_part : List (List ℕ) → ℕ → List ℕ
