@@ -1,12 +1,12 @@
 -- The table meets the laws of every table of rows: all of it is computed.
 use Rattle.std.proofs.Common.{◌≡◌, true, refl, arith}
-use Rattle.pf_tables.specs.Meaning.Laws.{IsSet}
+use Rattle.pf_tables.specs.Meaning.Laws.{IsSet, moves_all}
 use Rattle.pf_tables.proofs.FixedRows.{fixed_rows}
 use Rattle.pf_hvx.specs.Meaning.Rows.{word_at, pattern_at, row_at}
 use Rattle.pf_hvx.specs.Meaning.Hvx.{hvx_set}
 
 pub is_hvx_set : IsSet hvx_set
-unfolding word_at pattern_at row_at
+unfolding word_at pattern_at row_at moves_all
 is_hvx_set = record {
   some_bytes = omega arith;
   few_bytes = omega arith;
