@@ -3,7 +3,9 @@ ghost use Rattle.pf_neon.specs.Meaning.Rows.{word_at, pattern_at, row_at};
 
 use pf_ints::LaneType;
 use pf_lanes::{Operands, Place, Recipe};
-use pf_tables::{Entry, Extent, NONE, Row, Shape, Style, entry_at, one, same, three, two, view, work};
+use pf_tables::{
+    Entry, Extent, NONE, Row, Shape, Style, entry_at, one, same, three, two, view, work,
+};
 
 macro_rules! pattern {
     (B2) => { b" v\0.16b, v\0.16b" };

@@ -7,8 +7,8 @@ use pf_ints::{Memory, Sequence};
 use pf_isa::{Block, Head, Item, Program};
 use pf_lanes::Triple;
 use pf_neon::{Mnemonic, Neon, Op};
-use pf_tables::Instruction;
 use pf_rows::row_program;
+use pf_tables::Instruction;
 use std::alloc::Global;
 
 // `umin v0.16b, v0.16b, v1.16b`
