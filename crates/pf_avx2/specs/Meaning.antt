@@ -1,4 +1,2 @@
 pub mod Rows
-pub mod Instructions
-pub mod Lines
 pub mod Avx2

@@ -2,10 +2,7 @@
 #![tactic(auto)]
 
 mod avx2;
-mod lines;
-mod op;
 mod rows;
 
-pub use avx2::Avx2;
-pub use op::{Instruction, Op};
-pub use rows::{Mnemonic, Row, Shape};
+pub use avx2::{Avx2, Avx2Rows};
+pub use rows::Mnemonic;

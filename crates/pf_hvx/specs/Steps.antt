@@ -1,3 +1,1 @@
-pub mod RowLaws
-pub mod LineLaws
-pub mod TableLaws
+pub mod SetLaws

@@ -65,15 +65,19 @@ drop_made t (suc n) f k (suc i) less =
     let front : drop (bytes_of t) (bytes (bytes_of t) (residue t (f k)) ++ made_from t n f (k + 1)) ≡ made_from t n f (k + 1) = drop_at (bytes (bytes_of t) (residue t (f k))) (made_from t n f (k + 1)) (bytes_of t) (length-bytes (bytes_of t) (residue t (f k))) in
     rw (next, fewer, there, ← drop-drop (bytes_of t * i) (bytes_of t) (made_from t (suc n) f k), front) (drop_made t n f (k + 1) i (omega arith))
 
--- a lane of what was made is the function's value there, wrapped: all that the proof of an expansion needs of an instruction
-pub lane-made : (t : LaneType) (n : ℕ) (f : ℕ → ℤ) (i : ℕ) → i < n → lane t (made t n f) i ≡ wrapped t (f i)
-unfolding lane made
-lane-made t n f i less =
+-- the bytes of a lane of what was made
+pub part-made : (t : LaneType) (n : ℕ) (f : ℕ → ℤ) (i : ℕ) → i < n → take (bytes_of t) (drop (bytes_of t * i) (made t n f)) ≡ bytes (bytes_of t) (residue t (f i))
+unfolding made
+part-made t n f i less =
     let there : drop (bytes_of t * i) (made_from t n f 0) ≡ made_from t (n - i) f (0 + i) = drop_made t n f 0 i (omega arith) in
     let one : n - i ≡ suc (n - i - 1) = omega arith in
     let start : 0 + i ≡ i = omega arith in
-    let front : take (bytes_of t) (bytes (bytes_of t) (residue t (f i)) ++ made_from t (n - i - 1) f (i + 1)) ≡ bytes (bytes_of t) (residue t (f i)) = take_at (bytes (bytes_of t) (residue t (f i))) (made_from t (n - i - 1) f (i + 1)) (bytes_of t) (length-bytes (bytes_of t) (residue t (f i))) in
-    rw (there, one, start, front, number-bytes (bytes_of t) (residue t (f i)) (residue_fits t (f i))) (wrapped_residue t (f i))
+    rw (there, one, start) (take_at (bytes (bytes_of t) (residue t (f i))) (made_from t (n - i - 1) f (i + 1)) (bytes_of t) (length-bytes (bytes_of t) (residue t (f i))))
+
+-- a lane of what was made is the function's value there, wrapped: all that the proof of an expansion needs of an instruction
+pub lane-made : (t : LaneType) (n : ℕ) (f : ℕ → ℤ) (i : ℕ) → i < n → lane t (made t n f) i ≡ wrapped t (f i)
+unfolding lane
+lane-made t n f i less = rw (part-made t n f i less, number-bytes (bytes_of t) (residue t (f i)) (residue_fits t (f i))) (wrapped_residue t (f i))
 
 -- what is made are bytes
 pub made_are : (t : LaneType) (n : ℕ) (f : ℕ → ℤ) → AreBytes (bytes_of t * n) (made t n f)

@@ -1,3 +1,2 @@
-pub mod Instructions
-pub mod Lines
+pub mod Rows
 pub mod Neon

@@ -1,5 +1,1 @@
-pub mod Reads
-pub mod LaneLengths
-pub mod InstructionLaws
-pub mod ControlLaws
-pub mod TableLaws
+pub mod SetLaws

@@ -1,11 +1,9 @@
-//! The instructions of A64 Advanced SIMD, as a set for pf_isa's machine.
+//! The instructions of A64 Advanced SIMD, as a set for the machine.
 #![tactic(auto)]
 
-mod lane;
-mod lines;
+mod mnemonic;
 mod neon;
-mod op;
-mod reads;
+mod rows;
 
-pub use neon::Neon;
-pub use op::{Instruction, Lanes, Mnemonic, Op};
+pub use mnemonic::Mnemonic;
+pub use neon::{Neon, NeonRows, Op};

@@ -13,18 +13,10 @@ use Rattle.pf_isa.specs.Meaning.TextFaults.{IsFor, IsProgramOr, IsTextRefusal}
 use Rattle.pf_machine.specs.declared.program.Head.{Head}
 use Rattle.pf_machine.specs.Meaning.Programs.{ProgramOf}
 use Rattle.pf_machine.specs.Meaning.Tables.{Table}
-use Rattle.pf_neon.specs.declared.neon.Neon.{Neon}
-use Rattle.pf_neon.specs.declared.op.Instruction.{Instruction as NeonInstruction}
-use Rattle.pf_neon.specs.Meaning.Instructions.{IsNeonInstruction}
-use Rattle.pf_neon.specs.Meaning.Neon.{table as neon_table}
-use Rattle.pf_avx2.specs.declared.avx2.Avx2.{Avx2}
-use Rattle.pf_avx2.specs.declared.op.Instruction.{Instruction as Avx2Instruction}
-use Rattle.pf_avx2.specs.Meaning.Instructions.{IsAvx2Instruction}
-use Rattle.pf_avx2.specs.Meaning.Avx2.{table as avx2_table}
-use Rattle.pf_hvx.specs.declared.hvx.Hvx.{Hvx}
-use Rattle.pf_hvx.specs.declared.op.Instruction.{Instruction as HvxInstruction}
-use Rattle.pf_hvx.specs.Meaning.Instructions.{IsHvxInstruction}
-use Rattle.pf_hvx.specs.Meaning.Hvx.{table as hvx_table}
+use Rattle.pf_neon.specs.Meaning.Neon.{Neon, table as neon_table, IsNeonInstruction}
+use Rattle.pf_tables.specs.declared.instruction.Instruction.{Instruction}
+use Rattle.pf_avx2.specs.Meaning.Avx2.{Avx2, table as avx2_table, IsAvx2Instruction}
+use Rattle.pf_hvx.specs.Meaning.Hvx.{Hvx, table as hvx_table, IsHvxInstruction}
 use Rattle.pf_run.specs.declared.any.AnyProgram.{AnyProgram}
 use Rattle.pf_run.specs.declared.any.AnyProgram.TheVariants.{Neon as NeonProgram, Avx2 as Avx2Program, Hvx as HvxProgram}
 use Rattle.pf_run.specs.Meaning.AnyPrograms.{IsAnyText, IsAnyFault, IsFaultOn}
@@ -75,13 +67,13 @@ apart : (p : AnyProgram) (bytes : List ℕ) (t : Target) → IsAnyText p bytes �
 apart p bytes t is named = one_target (target_of p) t (lines bytes) (names_any p bytes is) named
 
 -- a text for neon that is read, or refused, is one of no other program of any target
-pub read_neon : (bytes : List ℕ) (p : ProgramOf Neon NeonInstruction) → IsFor OnNeon (lines bytes) → ((q : ProgramOf Neon NeonInstruction) → IsText neon_table IsNeonInstruction bytes q → IsProgramOr q (Ok p))
+pub read_neon : (bytes : List ℕ) (p : ProgramOf Neon Instruction) → IsFor OnNeon (lines bytes) → ((q : ProgramOf Neon Instruction) → IsText neon_table IsNeonInstruction bytes q → IsProgramOr q (Ok p))
     → (q : AnyProgram) → IsAnyText q bytes → q ≡ NeonProgram p
 read_neon bytes p named only (NeonProgram q) is = ap NeonProgram (sym (only q is))
 read_neon bytes p named only (Avx2Program q) is = absurd (let other : 1 ≡ 0 = apart (Avx2Program q) bytes OnNeon is named in omega arith)
 read_neon bytes p named only (HvxProgram q) is = absurd (let other : 2 ≡ 0 = apart (HvxProgram q) bytes OnNeon is named in omega arith)
 
-pub refused_neon : (bytes : List ℕ) (fault : TextFault) → IsFor OnNeon (lines bytes) → ((q : ProgramOf Neon NeonInstruction) → IsText neon_table IsNeonInstruction bytes q → IsProgramOr q (Err fault))
+pub refused_neon : (bytes : List ℕ) (fault : TextFault) → IsFor OnNeon (lines bytes) → ((q : ProgramOf Neon Instruction) → IsText neon_table IsNeonInstruction bytes q → IsProgramOr q (Err fault))
     → IsTextRefusal Neon neon_table IsNeonInstruction bytes fault → (IsAnyFault bytes fault × ((q : AnyProgram) → IsAnyText q bytes → ⊥)) ⊎ (fault ≡ Memory)
 refused_neon bytes (At line kind) named only fault = inl (inl (OnNeon, named, fault), none)
   where
@@ -92,13 +84,13 @@ refused_neon bytes (At line kind) named only fault = inl (inl (OnNeon, named, fa
 refused_neon bytes Memory named only fault = inr refl
 
 -- a text for avx2 that is read, or refused, is one of no other program of any target
-pub read_avx2 : (bytes : List ℕ) (p : ProgramOf Avx2 Avx2Instruction) → IsFor OnAvx2 (lines bytes) → ((q : ProgramOf Avx2 Avx2Instruction) → IsText avx2_table IsAvx2Instruction bytes q → IsProgramOr q (Ok p))
+pub read_avx2 : (bytes : List ℕ) (p : ProgramOf Avx2 Instruction) → IsFor OnAvx2 (lines bytes) → ((q : ProgramOf Avx2 Instruction) → IsText avx2_table IsAvx2Instruction bytes q → IsProgramOr q (Ok p))
     → (q : AnyProgram) → IsAnyText q bytes → q ≡ Avx2Program p
 read_avx2 bytes p named only (NeonProgram q) is = absurd (let other : 0 ≡ 1 = apart (NeonProgram q) bytes OnAvx2 is named in omega arith)
 read_avx2 bytes p named only (Avx2Program q) is = ap Avx2Program (sym (only q is))
 read_avx2 bytes p named only (HvxProgram q) is = absurd (let other : 2 ≡ 1 = apart (HvxProgram q) bytes OnAvx2 is named in omega arith)
 
-pub refused_avx2 : (bytes : List ℕ) (fault : TextFault) → IsFor OnAvx2 (lines bytes) → ((q : ProgramOf Avx2 Avx2Instruction) → IsText avx2_table IsAvx2Instruction bytes q → IsProgramOr q (Err fault))
+pub refused_avx2 : (bytes : List ℕ) (fault : TextFault) → IsFor OnAvx2 (lines bytes) → ((q : ProgramOf Avx2 Instruction) → IsText avx2_table IsAvx2Instruction bytes q → IsProgramOr q (Err fault))
     → IsTextRefusal Avx2 avx2_table IsAvx2Instruction bytes fault → (IsAnyFault bytes fault × ((q : AnyProgram) → IsAnyText q bytes → ⊥)) ⊎ (fault ≡ Memory)
 refused_avx2 bytes (At line kind) named only fault = inl (inl (OnAvx2, named, fault), none)
   where
@@ -109,13 +101,13 @@ refused_avx2 bytes (At line kind) named only fault = inl (inl (OnAvx2, named, fa
 refused_avx2 bytes Memory named only fault = inr refl
 
 -- a text for hvx that is read, or refused, is one of no other program of any target
-pub read_hvx : (bytes : List ℕ) (p : ProgramOf Hvx HvxInstruction) → IsFor OnHvx (lines bytes) → ((q : ProgramOf Hvx HvxInstruction) → IsText hvx_table IsHvxInstruction bytes q → IsProgramOr q (Ok p))
+pub read_hvx : (bytes : List ℕ) (p : ProgramOf Hvx Instruction) → IsFor OnHvx (lines bytes) → ((q : ProgramOf Hvx Instruction) → IsText hvx_table IsHvxInstruction bytes q → IsProgramOr q (Ok p))
     → (q : AnyProgram) → IsAnyText q bytes → q ≡ HvxProgram p
 read_hvx bytes p named only (NeonProgram q) is = absurd (let other : 0 ≡ 2 = apart (NeonProgram q) bytes OnHvx is named in omega arith)
 read_hvx bytes p named only (Avx2Program q) is = absurd (let other : 1 ≡ 2 = apart (Avx2Program q) bytes OnHvx is named in omega arith)
 read_hvx bytes p named only (HvxProgram q) is = ap HvxProgram (sym (only q is))
 
-pub refused_hvx : (bytes : List ℕ) (fault : TextFault) → IsFor OnHvx (lines bytes) → ((q : ProgramOf Hvx HvxInstruction) → IsText hvx_table IsHvxInstruction bytes q → IsProgramOr q (Err fault))
+pub refused_hvx : (bytes : List ℕ) (fault : TextFault) → IsFor OnHvx (lines bytes) → ((q : ProgramOf Hvx Instruction) → IsText hvx_table IsHvxInstruction bytes q → IsProgramOr q (Err fault))
     → IsTextRefusal Hvx hvx_table IsHvxInstruction bytes fault → (IsAnyFault bytes fault × ((q : AnyProgram) → IsAnyText q bytes → ⊥)) ⊎ (fault ≡ Memory)
 refused_hvx bytes (At line kind) named only fault = inl (inl (OnHvx, named, fault), none)
   where

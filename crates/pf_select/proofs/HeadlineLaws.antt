@@ -11,10 +11,8 @@ use Rattle.pf_machine.specs.Meaning.Moved.{Moved, Work}
 use Rattle.pf_machine.specs.Meaning.Programs.{ProgramOf}
 use Rattle.pf_isa.specs.Meaning.Texts.{IsText, printed, head_lines, code_lines}
 use Rattle.pf_machine.specs.Meaning.Runs.{Places, IsPlaced, Leaves}
-use Rattle.pf_neon.specs.declared.neon.Neon.{Neon}
-use Rattle.pf_neon.specs.declared.op.Instruction.{Instruction}
-use Rattle.pf_neon.specs.Meaning.Instructions.{IsNeonInstruction}
-use Rattle.pf_neon.specs.Meaning.Neon.{table}
+use Rattle.pf_tables.specs.declared.instruction.Instruction.{Instruction}
+use Rattle.pf_neon.specs.Meaning.Neon.{Neon, table, IsNeonInstruction}
 use Rattle.pf_select.specs.Meaning.MinOfTaps.{byte_type, min_term, min_source, IsMinOfTaps, LeavesMin}
 use Rattle.pf_isa.specs.Meaning.Headline.{Headline}
 use Rattle.pf_select.specs.Meaning.Selected.{IsSelected, head_of}

@@ -1,15 +1,16 @@
 -- The block of the lesser of two taps: what it makes of the taps' bytes, and that a row's program may have it.
-use Rattle.std.proofs.Common.{◌≡◌, ℕ, zero, suc, ◌+◌, ◌*◌, ◌%◌, ◌<◌, List, [], ◌∷◌, length, map, take, drop, get_or, All, refl, arith, ap, sym, subst, ◌∙◌, min, rules, Bool}
+use Rattle.std.proofs.Common.{◌≡◌, ℕ, zero, suc, ◌+◌, ◌-◌, ◌*◌, ◌%◌, ◌<◌, List, [], ◌∷◌, length, map, take, drop, get_or, All, refl, arith, ap, sym, subst, ◌∙◌, min, rules, Bool}
 use Rattle.std.specs.Prelude.{ℤ, pos, zip}
 use Rattle.std.specs.Int.{int_min}
 use Rattle.std.specs.List.{concat}
-use Rattle.std.proofs.Math.Nat.{mod-eq_of_lt}
+use Rattle.std.proofs.Math.Nat.{mod-eq_of_lt, mod-lt}
 use Rattle.std.proofs.lemmas.Int.{ints, int_min_is}
 use Rattle.std.proofs.lemmas.List.{get_or-map, length-map, append-nil, drop-take, take-take}
 use Rattle.std.proofs.lemmas.List.Elements.{All-get_or, All-weaker, All-from_recursion, All-head, All-tail}
 use Rattle.std.proofs.lemmas.Slice.Zip.{get_or-zip, length-zip}
 use Rattle.pf_ints.specs.Meaning.Images.{Picture, IsPicture}
 use Rattle.pf_ints.specs.Meaning.Lanes.{IsIn as IsNumber}
+use Rattle.pf_ints.proofs.LaneLaws.{wrapped_same}
 use Rattle.pf_values.specs.declared.op.Op.TheVariants.{Min}
 use Rattle.pf_values.specs.declared.term.Env.{Env}
 use Rattle.pf_values.specs.declared.term.Leaf.TheVariants.{Tap as TapLeaf}
@@ -22,80 +23,83 @@ use Rattle.pf_values.specs.Meaning.Kernels.{Keeps, KeepsRange, no_picture, out_v
 use Rattle.pf_machine.specs.declared.program.Head.{Head}
 use Rattle.pf_machine.specs.declared.registers.RegFile.{RegFile}
 use Rattle.pf_machine.specs.Meaning.Blocks.{BVal, IsClean, IsWithin, pixel_part, IsLanewise}
-use Rattle.pf_machine.specs.Meaning.Bytes.{bytes, number, lanes, packed, map2}
+use Rattle.pf_machine.specs.Meaning.Bytes.{bytes}
 use Rattle.pf_machine.specs.Meaning.Heads.{IsTap}
 use Rattle.pf_machine.specs.Meaning.Programs.{ProgramOf}
 use Rattle.pf_machine.specs.Meaning.Runs.{pixel_bytes}
 use Rattle.pf_machine.specs.Meaning.Tables.{IsFile}
-use Rattle.pf_machine.proofs.ByteLaws.{lane_at, get_or-lanes, get_or-map2, length-map2, length-lanes, number-bytes_rest}
-use Rattle.pf_neon.specs.declared.op.Instruction.{Instruction}
-use Rattle.pf_neon.specs.declared.op.Lanes.TheVariants.{Bytes}
-use Rattle.pf_neon.specs.Meaning.Instructions.{lanewise}
-use Rattle.pf_neon.specs.Meaning.Neon.{table}
+use Rattle.pf_machine.proofs.ByteLaws.{number-bytes_rest, bytes-mod}
+use Rattle.pf_lanes.specs.Meaning.Lanes.{lane, made, residue}
+use Rattle.pf_lanes.proofs.LaneLaws.{part-made}
+use Rattle.pf_tables.specs.declared.instruction.Instruction.{Instruction}
+use Rattle.pf_neon.specs.Meaning.Rows.{row_at}
+use Rattle.pf_neon.specs.Meaning.Neon.{table, IsNeonInstruction}
 use Rattle.pf_rows.specs.Meaning.BlockRows.{tap_widths, tap_pixel, IsRowBlock, IsBlockItem, LeavesLanes, StoresEach}
-use Rattle.pf_select.specs.Meaning.MinOfTaps.{byte_type, min_term, min_source, min_block, HasTaps, LeavesMin}
+use Rattle.pf_select.specs.Meaning.MinOfTaps.{byte_type, min_term, min_source, least, min_block, HasTaps, LeavesMin}
+
+-- ---- the instruction is one of the table
+pub is_listed : IsNeonInstruction least
+unfolding row_at
+is_listed = record { inside = omega arith; shape = refl; numbers = refl }
 
 -- ---- what the block stores
-abbrev lesser : ℕ → ℕ → ℕ
-lesser y z = min y z
-
 abbrev tap_part : List (List ℕ) → ℕ → List ℕ
 tap_part blocks k = take 16 (drop (16 * 0) (get_or blocks k []))
 
-abbrev tap_lanes : List (List ℕ) → ℕ → List ℕ
-tap_lanes blocks k = lanes 1 16 (get_or blocks k [])
+-- the lesser of two lanes, as the instruction's row has it
+abbrev lesser : (a b : List ℕ) → ℕ → ℤ
+lesser a b i = int_min (lane byte_type a i) (lane byte_type b i)
 
 abbrev stored : List (List ℕ) → (first second : ℕ) → List ℕ
-stored blocks first second = packed 1 (map2 lesser (tap_lanes blocks first) (tap_lanes blocks second))
+stored blocks first second = made byte_type 16 (lesser (tap_part blocks first) (tap_part blocks second))
 
-made : (vectors : List (List ℕ)) (k : ℕ) (q : List Bool) (first second : ℕ) (blocks kept : List (List ℕ)) → length vectors ≡ 32
-    → BVal table 1 (min_block first second) blocks (record { vectors = vectors; k = k; q = q }) kept ≡ lanewise Bytes lesser (tap_part blocks first) (tap_part blocks second) ∷ []
-made [] k q first second blocks kept long = absurd (omega arith)
-made (v ∷ []) k q first second blocks kept long = absurd (omega arith)
-made (v ∷ w ∷ more) k q first second blocks kept long = refl
-
--- lanes are those of their bytes alone
-lanes_front : (w count : ℕ) (v : List ℕ) → lanes w count (take (w * count) v) ≡ lanes w count v
-lanes_front w zero v = refl
-lanes_front w (suc count) v =
-    let size : w * suc count ≡ w + w * count = omega arith in
-    rw (size, take-take w (w + w * count) v (omega arith), drop-take w (w * count) v) (ap (λ ls. number (take w v) ∷ ls) (lanes_front w count (drop w v)))
+block_made : (vectors : List (List ℕ)) (k : ℕ) (q : List Bool) (first second : ℕ) (blocks kept : List (List ℕ)) → length vectors ≡ 32
+    → BVal table 1 (min_block first second) blocks (record { vectors = vectors; k = k; q = q }) kept ≡ stored blocks first second ∷ []
+unfolding row_at
+block_made [] k q first second blocks kept long = absurd (omega arith)
+block_made (v ∷ []) k q first second blocks kept long = absurd (omega arith)
+block_made (v ∷ w ∷ more) k q first second blocks kept long = refl
 
 stores : (first second : ℕ) (blocks kept : List (List ℕ)) (file : RegFile) → IsFile table 32 file → concat (BVal table 1 (min_block first second) blocks file kept) ≡ stored blocks first second
-stores first second blocks kept file is =
-    ap concat (made file.vectors file.k file.q first second blocks kept is.count)
-    ∙ append-nil (lanewise Bytes lesser (tap_part blocks first) (tap_part blocks second))
-    ∙ ap (λ a. packed 1 (map2 lesser a (lanes 1 16 (tap_part blocks second)))) (lanes_front 1 16 (get_or blocks first []))
-    ∙ ap (λ b. packed 1 (map2 lesser (tap_lanes blocks first) b)) (lanes_front 1 16 (get_or blocks second []))
+stores first second blocks kept file is = ap concat (block_made file.vectors file.k file.q first second blocks kept is.count) ∙ append-nil (stored blocks first second)
 
 -- ---- lane by lane
+byte_in : (n : ℕ) → n < 256 → IsNumber byte_type (pos n)
+byte_in n small = record { low = omega (arith, ints); high = omega (arith, ints) }
+
+part_front : (tap : List ℕ) (j : ℕ) → j < 16 → take 1 (drop (1 * j) (take 16 tap)) ≡ take 1 (drop (1 * j) tap)
+part_front tap j inside =
+    let same : 1 * j ≡ j = omega arith in
+    let whole : 16 ≡ j + (16 - j) = omega arith in
+    rw (same, whole, drop-take j (16 - j) tap) (take-take 1 (16 - j) (drop j tap) (omega arith))
 
 -- the number of a lane, where the tap's pixel there has this byte
-lane_is : (blocks : List (List ℕ)) (k j n : ℕ) → j < 16 → pixel_part 1 j (get_or blocks k []) ≡ bytes 1 n → get_or (tap_lanes blocks k) j 0 ≡ n % 256
-lane_is blocks k j n inside is = get_or-lanes 1 16 j (get_or blocks k []) inside ∙ ap number is ∙ number-bytes_rest 1 n
+lane_is : (blocks : List (List ℕ)) (k j n : ℕ) → j < 16 → pixel_part 1 j (get_or blocks k []) ≡ bytes 1 n → lane byte_type (tap_part blocks k) j ≡ pos (n % 256)
+unfolding lane
+lane_is blocks k j n inside is =
+    let tap = get_or blocks k [] in
+    let front : take 1 (drop (1 * j) (take 16 tap)) ≡ take 1 (drop (1 * j) tap) = part_front tap j inside in
+    rw (front, is, number-bytes_rest 1 n) (wrapped_same byte_type (pos (n % 256)) (byte_in (n % 256) (mod-lt n (omega arith))))
+
+int_min-pos : (a b : ℕ) → int_min (pos a) (pos b) ≡ pos (min a b)
+int_min-pos a b = omega (arith, ints, int_min_is (pos a) (pos b))
 
 -- the lesser of two of the numbers, of a byte
 abbrev pub lesser_of : (first second : ℕ) → List ℕ → ℕ
 lesser_of first second numbers = min (get_or numbers first 0 % 256) (get_or numbers second 0 % 256)
 
-stored_at : (blocks : List (List ℕ)) (first second j m n : ℕ) → j < 16 → get_or (tap_lanes blocks first) j 0 ≡ m → get_or (tap_lanes blocks second) j 0 ≡ n
+stored_at : (blocks : List (List ℕ)) (first second j m n : ℕ) → j < 16 → lane byte_type (tap_part blocks first) j ≡ pos m → lane byte_type (tap_part blocks second) j ≡ pos n
     → pixel_part 1 j (stored blocks first second) ≡ bytes 1 (min m n)
 stored_at blocks first second j m n inside left right =
-    let a = tap_lanes blocks first in
-    let b = tap_lanes blocks second in
-    let left_long : length a ≡ 16 = length-lanes 1 16 (get_or blocks first []) in
-    let right_long : length b ≡ 16 = length-lanes 1 16 (get_or blocks second []) in
-    let long : j < length (map2 lesser a b) = omega (arith, length-map2 lesser a b) in
-    lane_at 1 j (map2 lesser a b) long
-    ∙ ap (bytes 1) (get_or-map2 lesser a b j 0 0 (omega arith) (omega arith))
-    ∙ ap (λ l. bytes 1 (min l (get_or b j 0))) left
-    ∙ ap (λ r. bytes 1 (min m r)) right
+    let f = lesser (tap_part blocks first) (tap_part blocks second) in
+    let value : f j ≡ pos (min m n) = rw (left, right) (int_min-pos m n) in
+    part-made byte_type 16 f j inside ∙ ap (λ x. bytes 1 (residue byte_type x)) value ∙ bytes-mod 1 (min m n)
 
 -- ---- a row's program may have the block
 clean : (widths : List ℕ) (first second : ℕ) → IsClean table widths 32 0 1 (min_block first second)
 clean widths first second = record {
   within = All-from_recursion (IsWithin table 32 0) (min_block first second) (search rules);
-  same = λ blocks f g kept other taps f_is g_is kept_are other_are. made f.vectors f.k f.q first second blocks kept f_is.count ∙ sym (made g.vectors g.k g.q first second blocks other g_is.count);
+  same = λ blocks f g kept other taps f_is g_is kept_are other_are. block_made f.vectors f.k f.q first second blocks kept f_is.count ∙ sym (block_made g.vectors g.k g.q first second blocks other g_is.count);
 }
 
 steps_of : (widths : List ℕ) (first second : ℕ) → first < length widths → second < length widths → get_or widths first 0 ≡ 1 → get_or widths second 0 ≡ 1 → All (IsBlockItem widths 1) (min_block first second)
@@ -145,7 +149,7 @@ module _ (h : Head) (first second : ℕ) (has : HasTaps h first second) where
   lanewise_one = record {
     each = λ blocks numbers file kept j taps is kept_are inside count pixels.
         let widths = length-widths in
-        let one : (k : ℕ) → k < length h.taps → get_or (tap_lanes blocks k) j 0 ≡ get_or numbers k 0 % 256 = λ k known.
+        let one : (k : ℕ) → k < length h.taps → lane byte_type (tap_part blocks k) j ≡ pos (get_or numbers k 0 % 256) = λ k known.
         let there : k < length (tap_widths h) = omega arith in
         lane_is blocks k j (get_or numbers k 0) inside (subst (λ w. pixel_part w j (get_or blocks k []) ≡ bytes w (get_or numbers k 0)) (tap_width k known) (pixels k there)) in
         ap (pixel_part 1 j) (stores first second blocks kept file is)
@@ -164,9 +168,6 @@ Val-least env first second =
     let args = Leaf (TapLeaf first) byte_type ∷ Leaf (TapLeaf second) byte_type ∷ [] in
     ap (Val env) (sym (rolls-Node Min byte_type 0 args)) ∙ fold-roll-Term ℤ (value_step env) (NodeLayer Min byte_type 0 args)
     ∙ rw (Val-tap env first, Val-tap env second) refl
-
-int_min-pos : (a b : ℕ) → int_min (pos a) (pos b) ≡ pos (min a b)
-int_min-pos a b = omega (arith, ints, int_min_is (pos a) (pos b))
 
 -- ---- the pixels of the images are bytes
 below : (n : ℕ) → IsNumber byte_type (pos n) → n < 256

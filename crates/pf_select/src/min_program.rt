@@ -1,13 +1,27 @@
 ghost use Rattle.std.specs.Prelude.{◌≡◌, IfOk, length};
 ghost use Rattle.pf_machine.specs.Meaning.Moved.{Moved, Work};
 ghost use Rattle.pf_neon.specs.Meaning.Neon.{table};
-ghost use Rattle.pf_select.specs.Meaning.MinOfTaps.{HasTaps, LeavesMin, min_block};
+ghost use Rattle.pf_select.specs.Meaning.MinOfTaps.{HasTaps, LeavesMin, min_block, least};
 
 use pf_ints::{Memory, Sequence};
 use pf_isa::{Block, Head, Item, Program};
-use pf_neon::{Lanes, Neon, Op};
+use pf_lanes::Triple;
+use pf_neon::{Mnemonic, Neon, Op};
 use pf_rows::row_program;
+use pf_tables::Instruction;
 use std::alloc::Global;
+
+// `umin v0.16b, v0.16b, v1.16b`
+fn least() -> Op
+    ensures { result ≡ least }
+{
+    let vectors = Triple {
+        to: 0,
+        left: 0,
+        right: 1,
+    };
+    Op::of(Instruction::Binary(Mnemonic::Umin16b.place(), vectors))
+}
 
 /// The block that stores the lesser of taps number `first` and `second`, whose pixels are of u8.
 fn min_block(alloc: Global, first: u8, second: u8) -> Result<Block<Op>, Memory>
@@ -24,7 +38,7 @@ fn min_block(alloc: Global, first: u8, second: u8) -> Result<Block<Op>, Memory>
         tap: second,
         part: 0,
     })?;
-    block.push(Item::Vector(Op::umin(Lanes::Bytes, 0, 0, 1)))?;
+    block.push(Item::Vector(least()))?;
     block.push(Item::OutStore { from: 0, part: 0 })?;
     Ok(block)
 }

@@ -13,9 +13,7 @@ use Rattle.pf_images.specs.Meaning.Counts.{Rose}
 use Rattle.pf_images.specs.Meaning.Outside.{Contents}
 use Rattle.pf_images.specs.Meaning.Pgm.{pgm_text}
 use Rattle.pf_isa.specs.Meaning.Headline.{Headline}
-use Rattle.pf_neon.specs.declared.neon.Neon.{Neon}
-use Rattle.pf_neon.specs.Meaning.Instructions.{IsNeonInstruction}
-use Rattle.pf_neon.specs.Meaning.Neon.{table}
+use Rattle.pf_neon.specs.Meaning.Neon.{Neon, table, IsNeonInstruction}
 use Rattle.pf_run.specs.declared.any.AnyProgram.{AnyProgram}
 use Rattle.pf_run.specs.declared.any.AnyProgram.TheVariants.{Neon as NeonProgram}
 use Rattle.pf_run.specs.Meaning.AnyPrograms.{RanAny}

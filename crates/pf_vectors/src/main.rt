@@ -14,6 +14,7 @@ use agreement::agrees;
 use pf_avx2::Avx2;
 use pf_hvx::Hvx;
 use pf_machine::Isa;
+use pf_neon::Neon;
 use std::fs;
 use std::test::Fail;
 use vector::Vector;
@@ -57,6 +58,7 @@ fn try_file<I: Isa>(rt: &HostRuntime, path: &str) -> Result<(), Fail> {
 }
 
 fn main(rt: HostRuntime) -> Result<(), Fail> {
+    try_file::<Neon>(&rt, "neon.txt")?;
     try_file::<Avx2>(&rt, "avx2.txt")?;
     try_file::<Hvx>(&rt, "hvx.txt")
 }

@@ -49,17 +49,17 @@ pub struct Vector {
     pub after: Vec<Held>,
 }
 
-/// The role of a general register other than `r8`, on x86-64 or on Hexagon.
+/// The role of a general register other than `r8`.
 fn role_of(word: &str) -> Option<u8> {
     match word {
-        "rdi" | "r0" => Some(0),
-        "rsi" | "r1" => Some(1),
-        "rdx" | "r2" => Some(2),
-        "rcx" | "r3" => Some(3),
-        "r4" => Some(4),
-        "rax" | "r5" => Some(5),
-        "r9" | "r6" => Some(6),
-        "r10" => Some(7),
+        "x0" | "rdi" | "r0" => Some(0),
+        "x1" | "rsi" | "r1" => Some(1),
+        "x2" | "rdx" | "r2" => Some(2),
+        "x3" | "rcx" | "r3" => Some(3),
+        "x4" | "r4" => Some(4),
+        "x5" | "rax" | "r5" => Some(5),
+        "x6" | "r9" | "r6" => Some(6),
+        "x7" | "r10" => Some(7),
         _ => None,
     }
 }
@@ -76,7 +76,7 @@ fn place_of(word: &str) -> Result<Place, Fail> {
         return Ok(Place::Vector(number.parse::<u32>()?));
     }
     match word {
-        "r11d" | "r7" => Ok(Place::Constant),
+        "w11" | "r11d" | "r7" => Ok(Place::Constant),
         "q0" => Ok(Place::Predicate),
         _ => Ok(Place::General(role_of(word).ok_or("a register")?)),
     }

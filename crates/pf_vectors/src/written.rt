@@ -21,27 +21,30 @@ fn number(bytes: &[u8]) -> u32 {
     number
 }
 
-/// The line that puts a number into the constant register.
-fn constant_line(alloc: Global, target: Target, number: u32) -> Result<String, Fail> {
-    let line = match target {
+/// The lines that put a number into the constant register.
+fn constant_lines(alloc: Global, target: Target, number: u32) -> Result<String, Fail> {
+    let (low, high) = (number % 65536, number / 65536);
+    let lines = match target {
+        Target::Neon => format!(in alloc; "mov w11, #{low}\nmovk w11, #{high}, lsl #16")?,
         Target::Avx2 => format!(in alloc; "mov r11d, {number}")?,
-        _ => format!(in alloc; "{{ r7 = ##{number} }}")?,
+        Target::Hvx => format!(in alloc; "{{ r7 = ##{number} }}")?,
     };
-    Ok(line)
+    Ok(lines)
 }
 
 /// The line that spreads the constant register over vector 0.
 fn spread_line(target: Target) -> &'static str {
     match target {
+        Target::Neon => "dup v0.4s, w11",
         Target::Avx2 => "vmovd xmm0, r11d",
-        _ => "{ v0 = vsplat(r7) }",
+        Target::Hvx => "{ v0 = vsplat(r7) }",
     }
 }
 
 /// Puts into the constant register what it holds.
 fn set_constant<I: Isa>(alloc: Global, trial: &mut Trial, bytes: &[u8]) -> Result<(), Fail> {
-    let line = constant_line(alloc, I::TARGET, number(bytes))?;
-    trial.line(line.as_bytes())
+    let lines = constant_lines(alloc, I::TARGET, number(bytes))?;
+    trial.line(lines.as_bytes())
 }
 
 /// Makes the predicate hold where a byte is 1, and not where it is 0.

@@ -16,15 +16,9 @@ use Rattle.pf_isa.specs.Meaning.Texts.{IsText}
 use Rattle.pf_isa.specs.declared.fault.TextKind.{TextKind}
 use Rattle.pf_isa.specs.declared.fault.TextKind.TheVariants.{Target as TargetKind}
 use Rattle.pf_isa.specs.Meaning.TextFaults.{IsTextFault, IsFor}
-use Rattle.pf_neon.specs.declared.neon.Neon.{Neon}
-use Rattle.pf_neon.specs.Meaning.Instructions.{IsNeonInstruction}
-use Rattle.pf_neon.specs.Meaning.Neon.{table as neon_table}
-use Rattle.pf_avx2.specs.declared.avx2.Avx2.{Avx2}
-use Rattle.pf_avx2.specs.Meaning.Instructions.{IsAvx2Instruction}
-use Rattle.pf_avx2.specs.Meaning.Avx2.{table as avx2_table}
-use Rattle.pf_hvx.specs.declared.hvx.Hvx.{Hvx}
-use Rattle.pf_hvx.specs.Meaning.Instructions.{IsHvxInstruction}
-use Rattle.pf_hvx.specs.Meaning.Hvx.{table as hvx_table}
+use Rattle.pf_neon.specs.Meaning.Neon.{Neon, table as neon_table, IsNeonInstruction}
+use Rattle.pf_avx2.specs.Meaning.Avx2.{Avx2, table as avx2_table, IsAvx2Instruction}
+use Rattle.pf_hvx.specs.Meaning.Hvx.{Hvx, table as hvx_table, IsHvxInstruction}
 use Rattle.pf_run.specs.declared.any.AnyProgram.{AnyProgram}
 use Rattle.pf_run.specs.declared.any.AnyProgram.TheVariants.{Neon as NeonProgram, Avx2 as Avx2Program, Hvx as HvxProgram}
 use Rattle.pf_run.specs.declared.fault.RunFault.{RunFault}

@@ -16,10 +16,10 @@ use Rattle.pf_machine.specs.declared.program.Head.{Head}
 use Rattle.pf_machine.specs.Meaning.Heads.{IsHead}
 use Rattle.pf_machine.specs.Meaning.Programs.{ProgramOf}
 use Rattle.pf_machine.specs.Meaning.Runs.{Places, IsPlaced, Leaves}
-use Rattle.pf_neon.specs.declared.op.Instruction.{Instruction}
-use Rattle.pf_neon.specs.declared.op.Instruction.TheVariants.{Lanewise}
-use Rattle.pf_neon.specs.declared.op.Lanes.TheVariants.{Bytes}
-use Rattle.pf_neon.specs.declared.op.Mnemonic.TheVariants.{Umin}
+use Rattle.pf_tables.specs.declared.instruction.Instruction.{Instruction}
+use Rattle.pf_tables.specs.declared.instruction.Instruction.TheVariants.{Binary}
+use Rattle.pf_neon.specs.declared.mnemonic.Mnemonic.TheVariants.{Umin16b}
+use Rattle.pf_neon.specs.Meaning.Rows.{place}
 use Rattle.pf_neon.specs.Meaning.Neon.{table}
 use Rattle.pf_rows.specs.Meaning.Scratch.{scratch_bytes}
 
@@ -48,9 +48,13 @@ pub record IsMinOfTaps (s : Source) (first second : ℕ) : Type 0 where
   pub out_ty : s.out_ty ≡ byte_type
   pub out : s.out ≡ min_term byte_type first second
 
+-- the lesser of each two lanes of vectors 0 and 1, in vector 0
+abbrev pub least : Instruction
+least = Binary (place Umin16b) (record { to = 0; left = 0; right = 1 })
+
 -- both taps are loaded, and the lesser of each two lanes is stored
 abbrev pub min_block : (first second : ℕ) → List (Item Instruction)
-min_block first second = TapLoad 0 first 0 ∷ TapLoad 1 second 0 ∷ Vector (Lanewise Umin Bytes 0 0 1) ∷ OutStore 0 0 ∷ []
+min_block first second = TapLoad 0 first 0 ∷ TapLoad 1 second 0 ∷ Vector least ∷ OutStore 0 0 ∷ []
 
 -- two taps of a head whose taps and output are of u8, with the scratch that its rows need
 pub record HasTaps (h : Head) (first second : ℕ) : Type 0 where

@@ -6,9 +6,7 @@ use Rattle.pf_values.specs.Meaning.Kernels.{Source}
 use Rattle.pf_machine.specs.declared.program.Head.{Head}
 use Rattle.pf_machine.specs.Meaning.Moved.{Moved, Work}
 use Rattle.pf_isa.specs.Meaning.Texts.{printed, head_lines, code_lines}
-use Rattle.pf_neon.specs.declared.neon.Neon.{Neon}
-use Rattle.pf_neon.specs.Meaning.Instructions.{IsNeonInstruction}
-use Rattle.pf_neon.specs.Meaning.Neon.{table}
+use Rattle.pf_neon.specs.Meaning.Neon.{Neon, table, IsNeonInstruction}
 use Rattle.pf_rows.specs.Meaning.Scratch.{scratch_bytes}
 use Rattle.pf_isa.specs.Meaning.Headline.{Headline}
 

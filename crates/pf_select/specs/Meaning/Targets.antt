@@ -4,9 +4,7 @@ use Rattle.pf_ints.specs.declared.target.Target.{Target}
 use Rattle.pf_ints.specs.declared.target.Target.TheVariants.{Neon as OnNeon, Avx2, Hvx}
 use Rattle.pf_values.specs.Meaning.Kernels.{Source}
 use Rattle.pf_isa.specs.Meaning.Headline.{Headline}
-use Rattle.pf_neon.specs.declared.neon.Neon.{Neon}
-use Rattle.pf_neon.specs.Meaning.Instructions.{IsNeonInstruction}
-use Rattle.pf_neon.specs.Meaning.Neon.{table}
+use Rattle.pf_neon.specs.Meaning.Neon.{Neon, table, IsNeonInstruction}
 use Rattle.pf_select.specs.Meaning.MinOfTaps.{IsMinOfTaps}
 use Rattle.pf_select.specs.Meaning.Selected.{IsSelected}
 

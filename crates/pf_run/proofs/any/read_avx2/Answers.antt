@@ -1,5 +1,4 @@
-use Rattle.pf_avx2.specs.Meaning.Instructions.{IsAvx2Instruction}
-use Rattle.pf_avx2.specs.Meaning.Avx2.{table}
+use Rattle.pf_avx2.specs.Meaning.Avx2.{table, IsAvx2Instruction}
 use Rattle.pf_run.proofs.AnyLaws.{read_avx2, refused_avx2}
 use Rattle.pf_run.proofs.TextLengths.{short_code}
 use Rattle.pf_run.proofs.any.read_avx2.Goals as goal

@@ -1,5 +1,4 @@
-use Rattle.pf_hvx.specs.Meaning.Instructions.{IsHvxInstruction}
-use Rattle.pf_hvx.specs.Meaning.Hvx.{table}
+use Rattle.pf_hvx.specs.Meaning.Hvx.{table, IsHvxInstruction}
 use Rattle.pf_run.proofs.AnyLaws.{read_hvx, refused_hvx}
 use Rattle.pf_run.proofs.TextLengths.{short_code}
 use Rattle.pf_run.proofs.any.read_hvx.Goals as goal

@@ -1,5 +1,4 @@
-use Rattle.pf_neon.specs.Meaning.Instructions.{IsNeonInstruction}
-use Rattle.pf_neon.specs.Meaning.Neon.{table}
+use Rattle.pf_neon.specs.Meaning.Neon.{table, IsNeonInstruction}
 use Rattle.pf_run.proofs.AnyLaws.{read_neon, refused_neon}
 use Rattle.pf_run.proofs.TextLengths.{short_code}
 use Rattle.pf_run.proofs.any.read_neon.Goals as goal

@@ -1,4 +1,5 @@
 use Rattle.std.proofs.Common.{◌≡◌, ◌∙◌, ap, subst}
+use Rattle.pf_neon.specs.Meaning.Rows.{row_at}
 use Rattle.pf_neon.specs.Meaning.Neon.{table}
 use Rattle.pf_rows.specs.Meaning.BlockRows.{IsRowBlock, LeavesLanes, block_cost}
 use Rattle.pf_select.proofs.MinBlock.{is_row_block, leaves_least}
@@ -8,6 +9,7 @@ pub row_program-requires : goal.row_program-requires
 row_program-requires c = rw c.in_ok-block.ensures (0, is_row_block c.args.head c.args.first c.args.second c.requires)
 
 pub returns-clause-work : goal.returns-clause-work
+unfolding row_at
 returns-clause-work c = c.in_ok-program.ensures.work ∙ ap (block_cost table) c.in_ok-block.ensures
 
 pub returns-clause-right : goal.returns-clause-right

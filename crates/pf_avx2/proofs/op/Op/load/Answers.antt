@@ -1,5 +1,0 @@
-use Rattle.pf_avx2.specs.Steps.RowLaws.{load_listed}
-use Rattle.pf_avx2.proofs.op.Op.load.Goals as goal
-
-pub of-requires : goal.of-requires
-of-requires c = load_listed c.args.to c.args.j c.requires

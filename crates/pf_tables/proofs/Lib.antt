@@ -1,0 +1,3 @@
+pub mod FixedRows
+pub mod TruthLaws
+pub mod PairLaws

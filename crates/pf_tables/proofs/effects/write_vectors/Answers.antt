@@ -1,0 +1,18 @@
+use Rattle.std.proofs.Common.{arith}
+use Rattle.pf_machine.specs.declared.registers.Reg.TheVariants.{K}
+use Rattle.pf_tables.proofs.effects.write_vectors.Goals as goal
+
+pub content-left-requires-clause-within : goal.content-left-requires-clause-within
+content-left-requires-clause-within g c = let there = rw c.in-Pair.is at c.requires.there in there 0 K (omega arith)
+
+pub content-right-requires-clause-within : goal.content-right-requires-clause-within
+content-right-requires-clause-within g c = let there = rw c.in-Pair.is at c.requires.there in there 1 K (omega arith)
+
+pub content-a-requires-clause-within : goal.content-a-requires-clause-within
+content-a-requires-clause-within g c = let there = rw c.in-PairUnary.is at c.requires.there in there 0 K (omega arith)
+
+pub content-left-requires-in-Move-clause-within : goal.content-left-requires-in-Move-clause-within
+content-left-requires-in-Move-clause-within g c = let there = rw c.in-Move.is at c.requires.there in there 0 K (omega arith)
+
+pub content-right-requires-in-Move-clause-within : goal.content-right-requires-in-Move-clause-within
+content-right-requires-in-Move-clause-within g c = let there = rw c.in-Move.is at c.requires.there in there 1 K (omega arith)
