@@ -17,7 +17,7 @@
 use crate::machine::{machine_of, region, start_row};
 use crate::neon_programs::NEON;
 use pf_images::read_pgm;
-use pf_ints::{LaneType, Sequence};
+use pf_ints::{Image, LaneType, Memory, Sequence};
 use pf_isa::{Isa, Machine, RegionList, Trap, read_text};
 use pf_neon::Neon;
 use pf_run::run_images;
@@ -80,20 +80,25 @@ impl Trial {
     /// Takes a line that begins with this word.
     fn take(&mut self, alloc: Global, word: &str, rest: &str) -> Result<(), Fail> {
         match word.as_bytes() {
-            b"line" => {
-                self.text.extend_from_slice(rest.as_bytes())?;
-                self.text.push(b'\n')?;
-            }
-            b"image" => self.take_size(rest)?,
-            b"region" => self.take_region(rest)?,
-            b"row" => {
-                let entries = numbers(alloc, rest)?;
-                self.rows.push(Row { entries, steps: 0 })?;
-            }
-            b"steps" => self.take_steps(rest)?,
-            b"memory" => self.take_memory(alloc, rest)?,
-            _ => return Err("no line".into()),
+            b"line" => self.take_line(rest),
+            b"image" => self.take_size(rest),
+            b"region" => self.take_region(rest),
+            b"row" => self.take_row(alloc, rest),
+            b"steps" => self.take_steps(rest),
+            b"memory" => self.take_memory(alloc, rest),
+            _ => Err("no line".into()),
         }
+    }
+
+    fn take_line(&mut self, rest: &str) -> Result<(), Fail> {
+        self.text.extend_from_slice(rest.as_bytes())?;
+        self.text.push(b'\n')?;
+        Ok(())
+    }
+
+    fn take_row(&mut self, alloc: Global, rest: &str) -> Result<(), Fail> {
+        let entries = numbers(alloc, rest)?;
+        self.rows.push(Row { entries, steps: 0 })?;
         Ok(())
     }
 
@@ -140,30 +145,54 @@ impl Trial {
     fn left_in(&self, alloc: Global, span: Span) -> Result<Vec<u8>, AllocError> {
         let mut bytes = vec![in alloc; 0; span.size]?;
         for piece in self.memory.as_slice() {
-            for (i, byte) in piece.bytes.as_slice().iter().enumerate() {
-                let place = piece
-                    .address
-                    .wrapping_add(i as u64)
-                    .wrapping_sub(span.start);
-                if let Some(held) = bytes.get_mut(place as usize) {
-                    *held = *byte;
-                }
-            }
+            put(
+                bytes.as_mut_slice(),
+                span.start,
+                piece.address,
+                piece.bytes.as_slice(),
+            );
         }
         Ok(bytes)
     }
 }
 
+/// Puts these bytes of an address where they lie in a region, if they do.
+fn put(held: &mut [u8], start: u64, address: u64, bytes: &[u8]) {
+    for (i, byte) in bytes.iter().enumerate() {
+        let place = address.wrapping_add(i as u64).wrapping_sub(start);
+        if let Some(at) = held.get_mut(place as usize) {
+            *at = *byte;
+        }
+    }
+}
+
+/// What region n holds before the first row.
+fn held_before(alloc: Global, trial: &Trial, n: usize, size: usize) -> Result<Vec<u8>, AllocError> {
+    if n == 2 {
+        trial.pixels(alloc)
+    } else {
+        vec![in alloc; 0; size]
+    }
+}
+
+/// Adds region n as it is before the first row.
+fn push_region(
+    alloc: Global,
+    regions: &mut RegionList,
+    trial: &Trial,
+    n: usize,
+    span: Span,
+) -> Result<(), Memory> {
+    let bytes = held_before(alloc, trial, n, span.size)?;
+    regions.push(region(alloc, span.start, bytes.as_slice(), n == 1 || n == 3)?)?;
+    Ok(())
+}
+
 /// The memory before the first row.
-fn regions_of(alloc: Global, trial: &Trial) -> Result<RegionList, Fail> {
+fn regions_of(alloc: Global, trial: &Trial) -> Result<RegionList, Memory> {
     let mut regions = Sequence::new(alloc);
     for (n, span) in trial.spans.as_slice().iter().enumerate() {
-        let bytes = if n == 2 {
-            trial.pixels(alloc)?
-        } else {
-            vec![in alloc; 0; span.size]?
-        };
-        regions.push(region(alloc, span.start, bytes.as_slice(), n == 1 || n == 3)?)?;
+        push_region(alloc, &mut regions, trial, n, *span)?;
     }
     Ok(regions)
 }
@@ -182,54 +211,107 @@ fn try_region<I: Isa, R: Abort + AllocGlobal>(
     Ok(())
 }
 
-/// Runs the rows on the machine.
-fn try_rows<I: Isa, R: Abort + AllocGlobal>(rt: &R, trial: &Trial) -> Result<(), Fail> {
+/// Runs a row on the machine.
+fn try_row<I: Isa, R: Abort + AllocGlobal>(
+    rt: &R,
+    machine: &mut Machine<I>,
+    table: u64,
+    row: &Row,
+) {
+    start_row(rt, machine, table, row.entries.as_slice());
+    let before = row.steps.saturating_sub(1);
+    assert!(rt; machine.run_row(before) == Err(Trap::Spent { steps: before }));
+    assert!(rt; machine.run_row(1) == Ok(()));
+}
+
+/// The machine before the first row.
+fn machine_before<I: Isa, R: Abort + AllocGlobal>(
+    rt: &R,
+    trial: &Trial,
+) -> Result<Machine<I>, Fail> {
     let program = read_text::<I>(rt.alloc(), trial.text.as_slice())?;
-    let mut machine = machine_of(rt, program, regions_of(rt.alloc(), trial)?)?;
+    let regions = regions_of(rt.alloc(), trial)?;
+    Ok(machine_of(rt, program, regions)?)
+}
+
+/// Runs the rows on the machine.
+fn try_machine<I: Isa, R: Abort + AllocGlobal>(
+    rt: &R,
+    machine: &mut Machine<I>,
+    trial: &Trial,
+) -> Result<(), Fail> {
     let table = trial.spans.first().ok_or("no table")?.start;
     for row in trial.rows.as_slice() {
-        start_row(rt, &mut machine, table, row.entries.as_slice());
-        let before = row.steps.saturating_sub(1);
-        assert!(rt; machine.run_row(before) == Err(Trap::Spent { steps: before }));
-        assert!(rt; machine.run_row(1) == Ok(()));
+        try_row(rt, machine, table, row);
     }
-    try_region(rt, &machine, trial, 1)?;
-    try_region(rt, &machine, trial, 3)
+    try_region(rt, machine, trial, 1)?;
+    try_region(rt, machine, trial, 3)
+}
+
+fn try_rows<I: Isa, R: Abort + AllocGlobal>(rt: &R, trial: &Trial) -> Result<(), Fail> {
+    let mut machine = machine_before::<I, R>(rt, trial)?;
+    try_machine(rt, &mut machine, trial)
+}
+
+/// The file of the image.
+fn file_of(alloc: Global, trial: &Trial) -> Result<Vec<u8>, Fail> {
+    let (width, height) = trial.size;
+    let header = format!(in alloc; "P5\n{width} {height}\n255\n")?;
+    let pixels = trial.pixels(alloc)?;
+    let mut file = Vec::from_slice(alloc, header.as_bytes())?;
+    file.extend_from_slice(pixels.as_slice())?;
+    Ok(file)
+}
+
+/// What the text leaves on the image.
+fn output_of<R: Abort + AllocGlobal>(rt: &R, trial: &Trial) -> Result<Image, Fail> {
+    let file = file_of(rt.alloc(), trial)?;
+    let mut images = Sequence::new(rt.alloc());
+    images.push(read_pgm(rt.alloc(), file.as_slice(), LaneType::U8)?)?;
+    assert!(rt; trial.text.len() < 0x8000_0000);
+    Ok(run_images(rt.alloc(), trial.text.as_slice(), &images)?)
+}
+
+/// Whether these are the pixels.
+fn are_pixels(pixels: &[u16], bytes: &[u8]) -> bool {
+    pixels.len() == bytes.len()
+        && pixels
+            .iter()
+            .zip(bytes)
+            .all(|(pixel, byte)| *pixel == u16::from(*byte))
 }
 
 /// Runs the text on the image, which places the regions and fills the table by itself.
 fn try_run<R: Abort + AllocGlobal>(rt: &R, trial: &Trial) -> Result<(), Fail> {
-    let alloc = rt.alloc();
-    let (width, height) = trial.size;
-    let header = format!(in alloc; "P5\n{width} {height}\n255\n")?;
-    let mut file = Vec::from_slice(alloc, header.as_bytes())?;
-    file.extend_from_slice(trial.pixels(alloc)?.as_slice())?;
-    let mut images = Sequence::new(alloc);
-    images.push(read_pgm(alloc, file.as_slice(), LaneType::U8)?)?;
-    assert!(rt; trial.text.len() < 0x8000_0000);
-    let output = run_images(alloc, trial.text.as_slice(), &images)?;
+    let output = output_of(rt, trial)?;
     let span = *trial.spans.get(3).ok_or("no output")?;
-    let wanted = trial.left_in(alloc, span)?;
-    assert_eq!(rt; output.pixels().len(), wanted.len());
-    for (pixel, byte) in output.pixels().iter().zip(wanted.as_slice()) {
-        assert_eq!(rt; *pixel, u16::from(*byte));
-    }
+    let wanted = trial.left_in(rt.alloc(), span)?;
+    assert!(rt; are_pixels(output.pixels(), wanted.as_slice()));
     Ok(())
 }
 
+/// Tries a program.
+fn try_program<I: Isa, R: Abort + AllocGlobal>(rt: &R, trial: &Trial) -> Result<(), Fail> {
+    try_rows::<I, R>(rt, trial)?;
+    try_run(rt, trial)
+}
+
+/// Takes a line of a program's text.
+fn take_line(alloc: Global, trial: &mut Trial, line: &str) -> Result<(), Fail> {
+    let (word, rest) = line.split_once(' ').ok_or("no word")?;
+    trial.take(alloc, word, rest)
+}
+
 fn try_programs<I: Isa, R: Abort + AllocGlobal>(rt: &R, text: &str) -> Result<u32, Fail> {
-    let alloc = rt.alloc();
-    let mut trial = Trial::new(alloc);
+    let mut trial = Trial::new(rt.alloc());
     let mut count: u32 = 0;
     for line in text.lines() {
         if line == "end" {
-            try_rows::<I, R>(rt, &trial)?;
-            try_run(rt, &trial)?;
-            trial = Trial::new(alloc);
+            try_program::<I, R>(rt, &trial)?;
+            trial = Trial::new(rt.alloc());
             count = count.saturating_add(1);
         } else {
-            let (word, rest) = line.split_once(' ').ok_or("no word")?;
-            trial.take(alloc, word, rest)?;
+            take_line(rt.alloc(), &mut trial, line)?;
         }
     }
     Ok(count)

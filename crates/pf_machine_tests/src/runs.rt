@@ -1,10 +1,11 @@
 //! Sets of images that are judged, and kernels that are evaluated on images.
 
+ghost use Rattle.std.specs.Prelude.{◌≤◌, length};
 ghost use Rattle.pf_ints.specs.Meaning.Images.{IsPixelType};
 
 use pf_images::read_pgm;
-use pf_ints::{ImageSet, LaneType, Name, Sequence};
-use pf_kernel::read_kernel;
+use pf_ints::{Image, ImageSet, LaneType, Name, Sequence};
+use pf_kernel::{Kernel, read_kernel};
 use pf_run::{SetFault, eval_images, judge_set};
 use pf_terms::{ImageDecl, Tap};
 use std::alloc::Global;
@@ -28,11 +29,18 @@ fn decl(name: &[u8], hi: u32) -> Result<ImageDecl, Fail> {
     })
 }
 
+/// Adds the image of a file.
+fn push_file(alloc: Global, set: &mut ImageSet, bytes: &[u8], is_wide: bool) -> Result<(), Fail> {
+    let image = read_pgm(alloc, bytes, pixel_type(is_wide))?;
+    set.push(image)?;
+    Ok(())
+}
+
 /// The images of these files, read for u16 where so told.
 fn set_of(alloc: Global, files: &[(&[u8], bool)]) -> Result<ImageSet, Fail> {
     let mut set = Sequence::new(alloc);
     for (bytes, is_wide) in files {
-        set.push(read_pgm(alloc, bytes, pixel_type(*is_wide))?)?;
+        push_file(alloc, &mut set, bytes, *is_wide)?;
     }
     Ok(set)
 }
@@ -87,18 +95,32 @@ const SETS: &[(&[(&[u8], bool)], Option<SetFault>)] = &[
     ),
 ];
 
+/// What is wrong with the images of these files.
+fn fault_of(
+    alloc: Global,
+    images: &[ImageDecl],
+    taps: &[Tap],
+    files: &[(&[u8], bool)],
+) -> Result<Option<SetFault>, Fail>
+    requires { length images.now ≤ 8 }
+{
+    let set = set_of(alloc, files)?;
+    Ok(judge_set(images, taps, &set))
+}
+
+fn tap(image: u8, dx: i16) -> Tap {
+    Tap { image, dx, dy: 0 }
+}
+
 fn try_sets<R: Abort + AllocGlobal>(
     rt: &R,
     rows: &[(&[(&[u8], bool)], Option<SetFault>)],
 ) -> Result<(), Fail> {
     let images = [decl(b"a", 100)?, decl(b"b", 255)?];
-    let (image, dx, dy) = (0, -1, 0);
-    let left = Tap { image, dx, dy };
-    let (image, dx) = (1, 1);
-    let taps = [left, Tap { image, dx, dy }];
-    for &(files, fault) in rows {
-        let set = set_of(rt.alloc(), files)?;
-        assert!(rt; judge_set(&images, &taps, &set) == fault);
+    let taps = [tap(0, -1), tap(1, 1)];
+    for &(files, wanted) in rows {
+        let fault = fault_of(rt.alloc(), &images, &taps, files)?;
+        assert!(rt; fault == wanted);
     }
     Ok(())
 }
@@ -139,16 +161,30 @@ const KERNELS: &[(&[u8], &[u8], u32, &[u16])] = &[
     ),
 ];
 
+/// The output of a kernel on the image of a file.
+fn output_on(alloc: Global, kernel: &Kernel, file: &[u8]) -> Result<Image, Fail> {
+    let set = set_of(alloc, &[(file, false)])?;
+    Ok(eval_images(alloc, kernel, &set)?)
+}
+
+fn output_of(alloc: Global, text: &[u8], file: &[u8]) -> Result<Image, Fail> {
+    let kernel = read_kernel(alloc, text)?;
+    output_on(alloc, &kernel, file)
+}
+
+/// Tries the width and the pixels of an image.
+fn try_image<R: Abort>(rt: &R, image: &Image, width: u32, pixels: &[u16]) {
+    assert!(rt; image.width() == width);
+    assert!(rt; image.pixels() == pixels);
+}
+
 fn try_kernels<R: Abort + AllocGlobal>(
     rt: &R,
     rows: &[(&[u8], &[u8], u32, &[u16])],
 ) -> Result<(), Fail> {
     for &(text, file, width, pixels) in rows {
-        let kernel = read_kernel(rt.alloc(), text)?;
-        let set = set_of(rt.alloc(), &[(file, false)])?;
-        let image = eval_images(rt.alloc(), &kernel, &set)?;
-        assert_eq!(rt; image.width(), width);
-        assert_eq!(rt; image.pixels(), pixels);
+        let image = output_of(rt.alloc(), text, file)?;
+        try_image(rt, &image, width, pixels);
     }
     Ok(())
 }

@@ -1,8 +1,8 @@
 use Rattle.std.proofs.Common.{sym, ◌∙◌, arith}
 use Rattle.std.proofs.lemmas.Bool.{ltb-true}
-use Rattle.pf_tests.proofs.Memories.{front_memory}
-use Rattle.pf_tests.proofs.machine.+is_memory.Goals as goal
-use Rattle.pf_tests.proofs.machine.+is_memory.Goals.{then-end-lt2147483648, else-end-lt2147483648}
+use Rattle.pf_machine_tests.proofs.Memories.{front_memory}
+use Rattle.pf_machine_tests.proofs.machine.+is_memory.Goals as goal
+use Rattle.pf_machine_tests.proofs.machine.+is_memory.Goals.{then-end-lt2147483648, else-end-lt2147483648}
 
 pub returns-then-are_behind : goal.returns-then-are_behind
 returns-then-are_behind t c ok =

@@ -3,7 +3,6 @@
 ghost use Rattle.std.specs.Prelude.{◌≡◌, ◌≤◌, ◌<◌, ◌^◌, All, IsTrue, length};
 ghost use Rattle.pf_machine.specs.Meaning.Machines.{HasTable, IsMemory};
 
-use crate::tables::{cells, joined, lines_of, same};
 use pf_ints::{Memory, Sequence};
 use pf_isa::{Isa, Machine, Program, Region, RegionList, Trap, read_text};
 use pf_neon::Neon;
@@ -78,9 +77,18 @@ const HEAD: &[u8] = b".target neon
 .cost 0
 ";
 
+/// The text of a head and this code, in which `;` stands for a line feed.
+fn text_of(alloc: Global, code: &str) -> Result<Vec<u8>, AllocError> {
+    let mut text = Vec::from_slice(alloc, HEAD)?;
+    for byte in code.as_bytes() {
+        text.push(if *byte == b';' { b'\n' } else { *byte })?;
+    }
+    Ok(text)
+}
+
 /// The program of this code.
-fn program(alloc: Global, code: &[u8]) -> Result<Program<Neon>, Fail> {
-    let text = joined(alloc, HEAD, code)?;
+fn program(alloc: Global, code: &str) -> Result<Program<Neon>, Fail> {
+    let text = text_of(alloc, code)?;
     Ok(read_text::<Neon>(alloc, text.as_slice())?)
 }
 
@@ -124,17 +132,40 @@ const TRIALS: &str = "\
     cmp x3, x6;b.lo low;strb w6, [x4];low:;add x4, x4, #1;cmp x6, x3;b.lo end;strb w6, [x4];end:;ret
 16 11 | returned 10021000200400000000000000000000 | ldr x4, [x0, #8];mov x6, #65535;add x6, x6, #529;\
     strh w6, [x4];ldrh w3, [x4];add x4, x4, #2;strb w6, [x4];add x3, x3, x3;add x4, x4, #2;strh w3, [x4];ret
+16 10 | returned 00010203807f07080908000000000000 | ldr x5, [x0, #0];ldr q0, [x5, #0];ldr x2, [x0, #16];str q0, [x2, #0];\
+    add x2, x2, #6;ldr q1, [x2, #0];umin v2.16b, v0.16b, v1.16b;ldr x4, [x0, #8];str q2, [x4, #0];ret
+16 10 | returned 00010203807f07081008000000000000 | ldr x5, [x0, #0];ldr q0, [x5, #0];ldr x2, [x0, #16];str q0, [x2, #0];\
+    add x2, x2, #6;ldr q1, [x2, #0];umin v2.8h, v0.8h, v1.8h;ldr x4, [x0, #8];str q2, [x4, #0];ret
+16 10 | returned 00010203fffe07081008000000000000 | ldr x5, [x0, #0];ldr q0, [x5, #0];ldr x2, [x0, #16];str q0, [x2, #0];\
+    add x2, x2, #6;ldr q1, [x2, #0];umin v2.4s, v0.4s, v1.4s;ldr x4, [x0, #8];str q2, [x4, #0];ret
+16 7 | returned 00010203fffe0708090a807f40201008 | ldr x5, [x0, #0];ldr q0, [x5, #0];mov v9.16b, v0.16b;mov v3.16b, v9.16b;\
+    ldr x4, [x0, #8];str q3, [x4, #0];ret
 ";
 
-/// The memory of a row over an image of these pixels, of which so many are there.
-fn memory(alloc: Global, count: u64, pixels: &[u8]) -> Result<RegionList, Memory> {
+const BLANK: [u8; 192] = [0; 192];
+
+/// Adds a region of the first of these bytes.
+fn push_region(
+    alloc: Global,
+    regions: &mut RegionList,
+    start: u64,
+    bytes: &[u8],
+    writes: bool,
+) -> Result<(), Memory> {
+    regions.push(region(alloc, start, bytes, writes)?)?;
+    Ok(())
+}
+
+/// The memory of a row over an image of so many pixels.
+fn memory(alloc: Global, pixels: usize) -> Result<RegionList, Memory>
+    requires { pixels ≤ 16 }
+{
     let mut regions = Sequence::new(alloc);
-    regions.push(region(alloc, 65_536, &[0; 32], false)?)?;
-    regions.push(region(alloc, 73_728, &[0; 192], true)?)?;
-    regions.push(region(alloc, 81_920, pixels, false)?)?;
-    let output = vec![in alloc; 0; pixels.len()]?;
-    let start = 81_920_u64.saturating_add(count);
-    regions.push(region(alloc, start, output.as_slice(), true)?)?;
+    push_region(alloc, &mut regions, 65_536, &BLANK[..32], false)?;
+    push_region(alloc, &mut regions, 73_728, &BLANK, true)?;
+    push_region(alloc, &mut regions, 81_920, &PIXELS[..pixels], false)?;
+    let output = 81_920 + pixels as u64;
+    push_region(alloc, &mut regions, output, &BLANK[..pixels], true)?;
     Ok(regions)
 }
 
@@ -145,9 +176,8 @@ fn machine_over<R: Abort + AllocGlobal>(
     pixels: usize,
 ) -> Result<Machine<Neon>, Fail> {
     assert!(rt; pixels <= 16);
-    let memory = memory(rt.alloc(), pixels as u64, &PIXELS[..pixels])?;
-    let code = lines_of(rt.alloc(), code)?;
-    let program = program(rt.alloc(), code.as_slice())?;
+    let program = program(rt.alloc(), code)?;
+    let memory = memory(rt.alloc(), pixels)?;
     Ok(machine_of(rt, program, memory)?)
 }
 
@@ -165,6 +195,15 @@ fn ended(alloc: Global, end: Result<(), Trap>) -> Result<String, AllocError> {
     }
 }
 
+/// Adds what the output holds.
+fn push_output(alloc: Global, text: &mut String, machine: &Machine<Neon>) -> Result<(), Fail> {
+    let output = machine.region(3).ok_or("no output")?;
+    let held = hex::encode(alloc, output.bytes.as_slice())?;
+    text.push_str(" ")?;
+    text.push_str(held.as_str())?;
+    Ok(())
+}
+
 /// How a row ends, and what the output then holds.
 fn told<R: Abort + AllocGlobal>(
     rt: &R,
@@ -175,20 +214,42 @@ fn told<R: Abort + AllocGlobal>(
     let output = 81_920_u64.saturating_add(count);
     start_row(rt, machine, 65_536, &[81_920, output, 73_728, count]);
     let mut text = ended(rt.alloc(), machine.run_row(steps))?;
-    let output = machine.region(3).ok_or("no output")?;
-    text.push_str(" ")?;
-    let held = hex::encode(rt.alloc(), output.bytes.as_slice())?;
-    text.push_str(held.as_str())?;
+    push_output(rt.alloc(), &mut text, machine)?;
     Ok(text)
+}
+
+/// The same of a row of the code.
+fn row_told<R: Abort + AllocGlobal>(
+    rt: &R,
+    code: &str,
+    pixels: usize,
+    steps: u64,
+) -> Result<String, Fail> {
+    let mut machine = machine_over(rt, code, pixels)?;
+    told(rt, &mut machine, pixels as u64, steps)
+}
+
+/// How many pixels and steps a row has.
+fn counts(front: &str) -> Result<(usize, u64), Fail> {
+    let (pixels, steps) = front.split_once(' ').ok_or("no steps")?;
+    Ok((pixels.parse::<usize>()?, steps.parse::<u64>()?))
+}
+
+/// Tries that this is told.
+fn same<R: Abort>(rt: &R, told: &str, wanted: &str) {
+    assert_eq!(rt; told, wanted);
+}
+
+/// What stands before and behind the first bar of a row.
+fn cells(row: &str) -> Result<(&str, &str), Fail> {
+    Ok(row.split_once(" | ").ok_or("no bar")?)
 }
 
 fn try_row<R: Abort + AllocGlobal>(rt: &R, row: &str) -> Result<(), Fail> {
     let (front, back) = cells(row)?;
     let (wanted, code) = cells(back)?;
-    let (pixels, steps) = front.split_once(' ').ok_or("no steps")?;
-    let (pixels, steps) = (pixels.parse::<usize>()?, steps.parse::<u64>()?);
-    let mut machine = machine_over(rt, code, pixels)?;
-    let told = told(rt, &mut machine, pixels as u64, steps)?;
+    let (pixels, steps) = counts(front)?;
+    let told = row_told(rt, code, pixels, steps)?;
     same(rt, told.as_str(), wanted);
     Ok(())
 }

@@ -17,7 +17,7 @@ use Rattle.pf_neon.specs.declared.op.Instruction.{Instruction}
 use Rattle.pf_neon.specs.Meaning.Neon.{table}
 use Rattle.pf_rows.specs.Meaning.BlockRows.{IsRowBlock, IsBlockItem, StoresEach, tap_widths}
 use Rattle.pf_values.specs.Meaning.Kernels.{no_decl}
-use Rattle.pf_tests.specs.Steps.RowBlocks.{copy_block, least_block}
+use Rattle.pf_machine_tests.specs.Steps.RowBlocks.{copy_block, least_block}
 
 abbrev zeros : RegFile
 zeros = record { vectors = [] ∷ [] ∷ [] ∷ [] ∷ []; k = 0; q = [] }
