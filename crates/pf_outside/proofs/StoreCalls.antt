@@ -131,3 +131,17 @@ judged_stop P S Q R n name most room b c (Refused k e) same more step = record {
 judged_stop P S Q R n name most room b c (Failed f) same more step = absurd step.at
 judged_stop P S Q R n name most room b c Unwritten same more step = absurd step.at
 judged_stop P S Q R n name most room b c Memory same more step = record { at = step.at; went = step.went }
+
+-- what was read is lost, since memory is wanting
+pub judged_lost : {A E F : Type 0} (P : A → List ℕ → Type 0) (R : E → List ℕ → Type 0) (n : ℕ) (name : List ℕ) (most : ℕ) (b c : Store) (x : A)
+    → Judged {A = A} {E = E} {F = F} P R n name most b (Ok x) c → Judged {A = A} {E = E} {F = F} P R n name most b (Err Memory) c
+judged_lost P R n name most b c x step = record {
+  at = tt;
+  went = record { contents = changes_weaker _ _ (λ m o p. (tt, p.1)) b.held c.held step.went.contents; faults = step.went.faults; calls = (1, omega arith, step.went.calls) };
+}
+
+-- memory is wanting before it is read
+pub judged_none : {A E F : Type 0} (P : A → List ℕ → Type 0) (R : E → List ℕ → Type 0) (n : ℕ) (name : List ℕ) (most : ℕ) (b : Store) → Judged {A = A} {E = E} {F = F} P R n name most b (Err Memory) b
+judged_none P R n name most b =
+    let start = after_none b in
+    record { at = tt; went = record { contents = start.contents; faults = start.faults; calls = (0, omega arith, start.calls) } }

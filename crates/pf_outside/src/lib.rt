@@ -7,5 +7,5 @@ mod report;
 mod stop;
 
 pub use judging::{read_front, write_file};
-pub use report::{Lines, Piece, Poor, line_of, tell, tell_line, tell_want, tell_write_failed};
+pub use report::{Lines, Piece, line_of, tell_line, tell_lines, tell_want, tell_write_failed};
 pub use stop::Stop;

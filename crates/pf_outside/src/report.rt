@@ -2,7 +2,7 @@
 
 ghost use Rattle.std.specs.Prelude.{◌≡◌, ◌∷◌, [], ◌++◌, map, IfOk, OnOk};
 ghost use Rattle.pf_images.specs.Meaning.Counts.{raised};
-ghost use Rattle.pf_outside.specs.Meaning.Reports.{told, line_of, memory_line, wanting, write_failed, Reports, seen_output};
+ghost use Rattle.pf_outside.specs.Meaning.Reports.{report, told, line_of, memory_line, wanting, write_failed, Reports, seen_output};
 ghost use Rattle.pf_outside.specs.Steps.LineSteps.{piece_text, Put, PutsPoor};
 
 use pf_images::{FilesFault, Sink};
@@ -23,9 +23,9 @@ pub enum Piece<'a> {
 
 /// What is answered where memory is wanting for a line, and the line that is put then, if any.
 #[derive(Clone, Copy)]
-pub struct Poor<'a> {
-    pub status: u8,
-    pub line: &'a [u8],
+struct Poor<'a> {
+    status: u8,
+    line: &'a [u8],
 }
 
 /// 13, and the line of want of memory.
@@ -79,7 +79,7 @@ fn tell_poor<S: Sink>(alloc: Global, out: &mut S, poor: Poor<'_>) -> u8
 }
 
 /// Puts the lines, and answers the status: 4 where the output failed, or that of want of memory.
-pub fn tell<S: Sink>(
+fn tell<S: Sink>(
     alloc: Global,
     out: &mut S,
     status: u8,
@@ -124,6 +124,14 @@ pub fn tell_line<S: Sink>(alloc: Global, out: &mut S, status: u8, pieces: &[Piec
         result (seen_output S.written S.faults S.calls out.new) }
 {
     tell_pieces(alloc, out, status, pieces, out_of_memory())
+}
+
+/// Puts the lines, and answers the status, 4 where the output failed, or 13 where memory is wanting.
+pub fn tell_lines<S: Sink>(alloc: Global, out: &mut S, status: u8, lines: &[ByteList]) -> u8
+    ensures { Reports (report status lines.now) (seen_output S.written S.faults S.calls out.old)
+        result (seen_output S.written S.faults S.calls out.new) }
+{
+    tell(alloc, out, status, lines, out_of_memory())
 }
 
 /// Puts that memory is wanting, and answers 13, or 4 where the output failed.

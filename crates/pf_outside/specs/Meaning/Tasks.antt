@@ -1,5 +1,6 @@
 -- What the words of a command ask for, and what a call comes to.
 use Rattle.std.specs.Prelude.{◌≡◌, ◌↔◌, ℕ, ◌+◌, ◌<◌, List, [], Option, Some, None, IsSome, Result, Ok, Err, length, slice_index_or}
+use Rattle.std.specs.Option.{unwrap_or}
 use Rattle.pf_images.specs.Meaning.Outside.{Contents, SameContents, Puts, PutsPart}
 use Rattle.pf_outside.specs.declared.stop.Stop.{Stop}
 use Rattle.pf_outside.specs.declared.stop.Stop.TheVariants.{Missing, Unreadable, Refused, Failed, Unwritten, Memory}
@@ -32,6 +33,10 @@ Verdict E F = Result (List (List ℕ)) (Stop E F)
 -- the name of a file that is read
 abbrev pub file_name : {E F : Type 0} → Task E F → ℕ → List ℕ
 file_name t n = slice_index_or t.names n []
+
+-- the name of the file that is written
+abbrev pub out_name : {E F : Type 0} → Task E F → List ℕ
+out_name t = unwrap_or t.out []
 
 -- the file is written whole, or in part; where there is none, nothing is
 abbrev pub Leaves : Option (List ℕ) → List ℕ → Contents → Contents → Type 0
