@@ -47,9 +47,9 @@ module _ {E F : Type 0} (t : Task E F) (free : (f : F) → t.Bars f → ⊥) whe
       stopped s step = stop_of s k refl step
 
     -- it can't go on
-    pub failed : (f : F) → t.reads f ≡ k → 0 < k → ((m : Contents) → Q m → t.Fails f m) → EndsWith t b (Err (Failed f)) c
-    failed f count some fails =
-        came (Err (Failed f)) (Well k) b c tt (λ g e. let same : f ≡ g = cc in subst (λ g. 0 < t.reads g) same (omega (arith, count, some))) (ap Well (sym count))
+    pub failed : (f : F) → t.Allows f → t.reads f ≡ k → 0 < k → ((m : Contents) → Q m → t.Fails f m) → EndsWith t b (Err (Failed f)) c
+    failed f allowed count some fails =
+        came (Err (Failed f)) (Well k) b c allowed (λ g e. let same : f ≡ g = cc in subst (λ g. 0 < t.reads g) same (omega (arith, count, some))) (ap Well (sym count))
         (record { contents = changes_weaker _ _ (λ m o p. (fails m p.0, p.1)) b.held c.held good.contents; faults = good.faults; calls = good.calls })
 
     -- memory is wanting
@@ -93,11 +93,11 @@ after_judged P R Q S name most k n b c d x f first next =
     went_then _ _ _ k (Well 1) b c d (λ m o q p r. (f m p.0 (begins_before name most (P x) m o p.1 r.0), same_then m o q p.1 r.1)) first next.went
 
 -- the words alone bar it
-pub barred : {E F : Type 0} (t : Task E F) (f : F) (b : Store) → t.reads f ≡ 0 → t.Bars f → ((g : F) → t.Bars g → f ≡ g) → ((m : Contents) → t.Fails f m) → EndsWith t b (Err (Failed f)) b
-barred t f b none bars only fails =
+pub barred : {E F : Type 0} (t : Task E F) (f : F) (b : Store) → t.Allows f → t.reads f ≡ 0 → t.Bars f → ((g : F) → t.Bars g → f ≡ g) → ((m : Contents) → t.Fails f m) → EndsWith t b (Err (Failed f)) b
+barred t f b allowed none bars only fails =
     let start = after_none b in
     record {
-      among = tt;
+      among = allowed;
       barred = λ g. (λ p. let same : f ≡ g = cc in subst t.Bars same bars, λ other. let same : f ≡ g = only g other in (ap (λ h. Err (Failed h)) same, subst (λ h. t.reads h ≡ 0) same none));
       went = subst (λ k. StoreAfter (Effect t (Err (Failed f))) (Well k) b b) (sym none) (record { contents = changes_weaker _ _ (λ m o p. (fails m, p.1)) b.held b.held start.contents; faults = start.faults; calls = start.calls });
     }

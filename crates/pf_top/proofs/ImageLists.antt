@@ -3,7 +3,7 @@ use Rattle.std.proofs.Common.{◌≡◌, ℕ, zero, suc, ◌+◌, ◌<◌, List,
 use Rattle.std.specs.Prelude.{slice_get}
 use Rattle.std.specs.List.{AllZip}
 use Rattle.std.specs.Option.{option_map}
-use Rattle.std.proofs.lemmas.List.{take_more, length-map}
+use Rattle.std.proofs.lemmas.List.{take_more, take_all, length-map}
 use Rattle.std.proofs.lemmas.Option.{slice_get_within, get_or_from_slice_get, slice_get-map}
 use Rattle.pf_ints.specs.Meaning.Images.{Picture}
 use Rattle.pf_values.specs.declared.kernel.ImageDecl.{ImageDecl}
@@ -33,7 +33,7 @@ push R (a ∷ more) [] x y all this = absurd all
 push R (a ∷ more) (b ∷ rest) x y all this = (all.0, push R more rest x y all.1 this)
 
 -- one more pair
-all_zip_next : {A B : Type 0} (R : A → B → Type 0) (xs : List A) (ys : List B) (n : ℕ) (x : A) (y : B) → slice_get xs n ≡ Some x → AllZip R (take n xs) ys → R x y → AllZip R (take (n + 1) xs) (ys ++ y ∷ [])
+pub all_zip_next : {A B : Type 0} (R : A → B → Type 0) (xs : List A) (ys : List B) (n : ℕ) (x : A) (y : B) → slice_get xs n ≡ Some x → AllZip R (take n xs) ys → R x y → AllZip R (take (n + 1) xs) (ys ++ y ∷ [])
 all_zip_next R xs ys n x y there all this =
     let longer : take (n + 1) xs ≡ take n xs ++ get_or xs n x ∷ [] = take_more xs n x (slice_get_within xs n x there) in
     let same : get_or xs n x ≡ x = get_or_from_slice_get xs n x x there in
@@ -92,3 +92,6 @@ images_all g names decls n pictures b c count most least read =
     let mapped : length (map g names) ≡ length names = length-map names g in
     let same : n ≡ length (map g names) = omega (arith, mapped, most, least) in
     (mapped ∙ count, subst (λ k. HeldImages (zip (map g names) decls) k pictures b c) same read)
+
+pub types_all : (R : ImageDecl → Picture → Type 0) (decls : List ImageDecl) (n : ℕ) (pictures : List Picture) → length decls ≤ n → AllZip R (take n decls) pictures → AllZip R decls pictures
+types_all R decls n pictures least types = subst (λ ds. AllZip R ds pictures) (take_all n decls least) types

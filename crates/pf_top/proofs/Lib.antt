@@ -6,6 +6,7 @@ pub mod Files
 pub mod KernelFiles
 pub mod ImageLists
 pub mod Running
+pub mod Allowing
 pub mod Selecting
 pub mod Completing
 pub mod Agreement

@@ -16,11 +16,12 @@ use Rattle.pf_outside.specs.Meaning.Tasks.{EndsWith, Verdict}
 use Rattle.pf_outside.specs.Steps.FileSteps.{Written}
 use Rattle.pf_outside.proofs.StoreCalls.{After, after_none, begins_before, went_then, same_then}
 use Rattle.pf_outside.proofs.Tasks.{after_judged, stopped, failed, wanted, written}
+use Rattle.pf_run.specs.declared.fault.RunFault.{RunFault}
 use Rattle.pf_top.specs.declared.fault.Failure.{Failure}
 use Rattle.pf_top.specs.declared.fault.Failure.TheVariants.{Target, NoText, Count, Run as RunFailure}
 use Rattle.pf_top.specs.declared.fault.FileFault.{FileFault}
 use Rattle.pf_top.specs.Meaning.Files.{image_file, image_limit}
-use Rattle.pf_top.specs.Meaning.Running.{Language, Run, FilesHold, HoldsImage, running}
+use Rattle.pf_top.specs.Meaning.Running.{Language, Run, FilesHold, HoldsImage, AllowsRun, running}
 use Rattle.pf_top.specs.Steps.RunSteps.{JudgedAs, HeldImages, StopsAtImage, ReadsImages, StopsAs}
 
 never : (f : Failure) → ⊥ → ⊥
@@ -62,7 +63,7 @@ module _ {P : Type 0} (l : Language P) (r : Run) (p : P) (b c : Store) (one : Ju
     miscounted : (f : Failure) → f ≡ Count (length (l.decls p)) (length r.images) → length (l.decls p) ≢ length r.images → EndsWith (running l r) b (Err (Failed f)) c
     miscounted f is differ =
         subst (λ f. EndsWith (running l r) b (Err (Failed f)) c) (sym is)
-        (failed (running l r) never (Holds l.file r.text p) 1 b c has_text (Count (length (l.decls p)) (length r.images)) refl (omega arith) (λ m text. (p, text, refl, refl, differ)))
+        (failed (running l r) never (Holds l.file r.text p) 1 b c has_text (Count (length (l.decls p)) (length r.images)) tt refl (omega arith) (λ m text. (p, text, refl, refl, differ)))
 
     stop_at : (s : Stop FileFault Failure) → ReadsImages r.images (l.decls p) c (Err s) d → EndsWith (running l r) b (Err s) d
     stop_at (Missing n) step = image_stop (Missing n) step.0 step.1
@@ -87,17 +88,17 @@ module _ {P : Type 0} (l : Language P) (r : Run) (p : P) (b c : Store) (one : Ju
       has_all = has_images read.0 (length r.images) pictures d read.1
 
       -- the text makes no image, or memory was wanting
-      pub output_stopped : (s : Stop FileFault Failure) → StopsAs l p pictures s → EndsWith (running l r) b (Err s) d
-      output_stopped (Failed (RunFailure e)) ends =
-          failed (running l r) never All (length r.images + 1) b d has_all (RunFailure e) refl (omega arith) (λ m is. (p, pictures, is, ends))
-      output_stopped (Failed (Target t)) ends = absurd ends
-      output_stopped (Failed NoText) ends = absurd ends
-      output_stopped (Failed (Count want got)) ends = absurd ends
-      output_stopped (Missing n) ends = absurd ends
-      output_stopped (Unreadable n) ends = absurd ends
-      output_stopped (Refused n e) ends = absurd ends
-      output_stopped Unwritten ends = absurd ends
-      output_stopped Memory ends =
+      pub output_stopped : ((e : RunFault) → l.Ends p pictures (Err e) → AllowsRun r (RunFailure e)) → (s : Stop FileFault Failure) → StopsAs l p pictures s → EndsWith (running l r) b (Err s) d
+      output_stopped allowed (Failed (RunFailure e)) ends =
+          failed (running l r) never All (length r.images + 1) b d has_all (RunFailure e) (allowed e ends) refl (omega arith) (λ m is. (p, pictures, is, ends))
+      output_stopped allowed (Failed (Target t)) ends = absurd ends
+      output_stopped allowed (Failed NoText) ends = absurd ends
+      output_stopped allowed (Failed (Count want got)) ends = absurd ends
+      output_stopped allowed (Missing n) ends = absurd ends
+      output_stopped allowed (Unreadable n) ends = absurd ends
+      output_stopped allowed (Refused n e) ends = absurd ends
+      output_stopped allowed Unwritten ends = absurd ends
+      output_stopped allowed Memory ends =
           let most : length r.images + 1 ≤ suc (length r.images) = omega arith in
           wanted (running l r) never All (length r.images + 1) b d has_all most
 

@@ -40,7 +40,7 @@ some_built t b is built = built.0 is
 
 -- the target isn't built
 pub no_target : (s : Select) (b : Store) → IsUnbuilt s.target → EndsWith (selecting s) b (Err (Failed (NoTarget s.target))) b
-no_target s b none = barred (selecting s) (NoTarget s.target) b refl (refl, none) only (λ m. (refl, none))
+no_target s b none = barred (selecting s) (NoTarget s.target) b tt refl (refl, none) only (λ m. (refl, none))
   where
     only : (f : Failure) → BarsSelect s f → NoTarget s.target ≡ f
     only (NoTarget t) bars = ap NoTarget (sym bars.0)
@@ -68,7 +68,7 @@ module _ (s : Select) (some : (source : Source) × IsBuilt s.target source) wher
 
     -- no text is selected for it, or memory was wanting
     pub unselected : (e : Stop FileFault Failure) → Unselected (IsBuilt s.target k.source) e → EndsWith (selecting s) b (Err e) c
-    unselected (Failed NoText) none = failed (selecting s) free HasKernel 1 b c has_kernel NoText refl (omega arith) (λ m is. (k, is, none))
+    unselected (Failed NoText) none = failed (selecting s) free HasKernel 1 b c has_kernel NoText tt refl (omega arith) (λ m is. (k, is, none))
     unselected (Failed (NoTarget t)) why = absurd why
     unselected (Failed (Count want got)) why = absurd why
     unselected (Failed (Run e)) why = absurd why

@@ -1,6 +1,7 @@
 //! The files of images.
 
-ghost use Rattle.std.specs.Prelude.{◌≡◌, ◌<◌, All, map, string_bytes};
+ghost use Rattle.std.specs.Prelude.{◌≡◌, ◌<◌, All, IfOk, map, string_bytes};
+ghost use Rattle.std.specs.List.{AllZip};
 ghost use Rattle.pf_ints.specs.Meaning.Images.{IsPixelType};
 ghost use Rattle.pf_outside.specs.Meaning.StoreCalls.{seen};
 ghost use Rattle.pf_top.specs.Meaning.Files.{image_limit, image_file};
@@ -25,7 +26,8 @@ fn image_limit() -> u64
 /// The image that the bytes of the file of this number are.
 fn image_of(alloc: Global, number: usize, bytes: &[u8], ty: LaneType) -> Result<Image, Stop>
     requires { IsPixelType ty }
-    ensures { JudgesAs (image_file ty) number result bytes.now }
+    ensures found { JudgesAs (image_file ty) number result bytes.now }
+    ensures ty { IfOk result (λ image. image.ty ≡ ty) }
 {
     if bytes.len() as u64 > image_limit() {
         return Err(Stop::Refused(number, FileFault::LongImage));
@@ -49,8 +51,9 @@ fn read_image<F: Files>(
     ty: LaneType,
 ) -> Result<Image, Stop>
     requires { IsPixelType ty }
-    ensures { JudgedAs (image_file ty) number name.now
+    ensures judged { JudgedAs (image_file ty) number name.now
         (seen F.held F.faults F.calls files.old) result (seen F.held F.faults F.calls files.new) }
+    ensures ty { IfOk result (λ image. image.ty ≡ ty) }
 {
     let bytes = read_front(alloc, files, number, name, image_limit() + 1)?;
     image_of(alloc, number, bytes.as_slice(), ty)
@@ -65,8 +68,9 @@ pub fn read_images<F: Files>(
     decls: &[ImageDecl],
 ) -> Result<ImageSet, Stop>
     requires { All (λ d. IsPixelType d.ty) decls.now }
-    ensures { ReadsImages (map string_bytes names.now) decls.now
+    ensures read { ReadsImages (map string_bytes names.now) decls.now
         (seen F.held F.faults F.calls files.old) result (seen F.held F.faults F.calls files.new) }
+    ensures types { IfOk result (λ images. AllZip (λ d p. p.ty ≡ d.ty) decls.now images) }
 {
     if names.len() != decls.len() {
         return Err(Stop::Failed(Failure::Count {

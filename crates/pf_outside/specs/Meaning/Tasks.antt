@@ -19,6 +19,8 @@ pub record Task (E F : Type 0) : Type 1 where
   -- it stops for this reason, and behind how many files
   pub Fails : F → Contents → Type 0
   pub reads : F → ℕ
+  -- what the words leave room for, whatever the files hold: a reason tells of files of theirs
+  pub Allows : F → Type 0
   -- the words alone are the reason
   pub Bars : F → Type 0
   -- the lines that it puts, and the bytes of the file that it writes
@@ -72,11 +74,12 @@ calls_of t (Err (Failed f)) = Well (t.reads f)
 calls_of t (Err Unwritten) = Failing (length t.names + 1)
 calls_of t (Err Memory) = Wanting (length t.names + writes t.out)
 
--- the file that a verdict tells of is one of the task's
+-- what a verdict tells of is the task's
 abbrev pub IsAmong : {E F : Type 0} → Task E F → Verdict E F → Type 0
 IsAmong t (Err (Missing n)) = n < length t.names
 IsAmong t (Err (Unreadable n)) = n < length t.names
 IsAmong t (Err (Refused n e)) = n < length t.names
+IsAmong t (Err (Failed f)) = t.Allows f
 IsAmong t (Err Unwritten) = IsSome t.out
 IsAmong t _ = Unit {0}
 

@@ -13,7 +13,8 @@ use Rattle.pf_outside.specs.Meaning.Tasks.{Task}
 use Rattle.pf_run.specs.declared.any.AnyProgram.{AnyProgram}
 use Rattle.pf_run.specs.declared.fault.EvalFault.TheVariants.{Set as EvalSet}
 use Rattle.pf_run.specs.declared.fault.RunFault.{RunFault}
-use Rattle.pf_run.specs.declared.fault.RunFault.TheVariants.{Set, Memory}
+use Rattle.pf_run.specs.declared.fault.RunFault.TheVariants.{Set, Outside, Spent, Memory}
+use Rattle.pf_run.specs.declared.fault.SetFault.TheVariants.{Size, Pixel, NoOutput}
 use Rattle.pf_run.specs.Meaning.AnyPrograms.{RanAny, ReturnsAny, head_of}
 use Rattle.pf_run.specs.Meaning.Evaluations.{Evaluated}
 use Rattle.pf_top.specs.declared.fault.Failure.{Failure}
@@ -75,6 +76,16 @@ FailsRun l r (Count want got) files = Miscounts l r want got files
 FailsRun l r (RunFailure e) files = EndsIn l r (Err e) files
 FailsRun l r _ files = ⊥
 
+-- the images are as many as declared, and of the declared types, the text is one, and an image that is told of is one of them
+abbrev pub AllowsRun : Run → Failure → Type 0
+AllowsRun r (Count want got) = Unit {0}
+AllowsRun r (RunFailure (Set (Size n width height))) = n < length r.images
+AllowsRun r (RunFailure (Set (Pixel n x y value))) = n < length r.images
+AllowsRun r (RunFailure (Set NoOutput)) = Unit {0}
+AllowsRun r (RunFailure (Outside at address count)) = Unit {0}
+AllowsRun r (RunFailure (Spent steps)) = Unit {0}
+AllowsRun r _ = ⊥
+
 abbrev pub reads_run : Run → Failure → ℕ
 reads_run r (RunFailure e) = length r.images + 1
 reads_run r _ = 1
@@ -104,6 +115,7 @@ running l r = record {
   Refuses = RefusesRun l r;
   Fails = FailsRun l r;
   reads = reads_run r;
+  Allows = AllowsRun r;
   Bars = λ _. ⊥;
   Makes = MakesImage l r;
   Works = IsRunnable l r;

@@ -76,6 +76,11 @@ FailsSelect s (NoTarget t) files = BarsSelect s (NoTarget t)
 FailsSelect s NoText files = (k : Meaning) × Holds kernel_file s.kernel k files × (IsBuilt s.target k.source → ⊥)
 FailsSelect s _ files = ⊥
 
+abbrev pub AllowsSelect : Failure → Type 0
+AllowsSelect (NoTarget t) = Unit {0}
+AllowsSelect NoText = Unit {0}
+AllowsSelect _ = ⊥
+
 abbrev pub reads_select : Failure → ℕ
 reads_select (NoTarget t) = 0
 reads_select _ = 1
@@ -110,6 +115,7 @@ selecting s = record {
   Refuses = RefusesSelect s;
   Fails = FailsSelect s;
   reads = reads_select;
+  Allows = AllowsSelect;
   Bars = BarsSelect s;
   Makes = Selects s;
   Works = IsSelectable s;

@@ -35,8 +35,7 @@ report_of_file name (Text TextMemory) = wanting
 report_of_file name LongText = told 10 (name ∷ codes ":0: limit" ∷ [])
 
 -- 8: the target or the kernel isn't built; 9: the images don't suit the text, image n being file n + 1; 11: a load or a store that
--- no region allows; 12: a row that took all its steps. A text that has a program has no fault, and an image is read as one of
--- the declared type: no call comes to `RunText` or `Kind`
+-- no region allows; 12: a row that took all its steps. No call comes to `RunText`, `SetCount` or `Kind` (`AllowsRun`)
 abbrev pub report_of_failure : Task FileFault Failure → Failure → Report
 report_of_failure t (Target target) = told 8 (codes "not built: " ∷ target_word target ∷ [])
 report_of_failure t NoText = told 8 (codes "not built: " ∷ file_name t 0 ∷ [])
