@@ -5,6 +5,8 @@ mod controls;
 mod effects;
 mod instruction;
 mod lines;
+mod made;
+mod moves;
 mod op;
 mod operands;
 mod registers;
