@@ -1,13 +1,10 @@
-ghost use Rattle.std.specs.Prelude.{◌≡◌, ◌≤◌, ◌<◌, ◌%◌, ◌/◌, ◌++◌, ◌-◌, ◌∷◌, [], true, All, length, map, nat_lt, replicate, slice_index_or, if◌then◌else◌};
-ghost use Rattle.pf_lanes.specs.Meaning.Lanes.{bytes_of};
-ghost use Rattle.pf_lanes.specs.Meaning.Recipes.{have_room};
+ghost use Rattle.std.specs.Prelude.{◌≡◌, ◌<◌, ◌∷◌, [], true, All, length, slice_index_or};
 ghost use Rattle.pf_machine.specs.Meaning.Bytes.{AreBytes};
 ghost use Rattle.pf_machine.specs.Meaning.RegisterFiles.{reads, IsRegisterOf};
 ghost use Rattle.pf_machine.specs.Meaning.Tables.{CanRun, after};
 ghost use Rattle.pf_tables.specs.Meaning.Instructions.{IsListed, place_of, uses, defs};
 ghost use Rattle.pf_tables.specs.Meaning.Tables.{table_of};
-ghost use Rattle.pf_tables.specs.Meaning.Effects.{lanes_of, vector_of, upper_of, spread, made_by, made_by_two, amount_in, pair_of, moved, elements, lower, upper, turns, half_count, outcome};
-ghost use Rattle.pf_tables.specs.Meaning.Laws.{recipe_fits, made_bytes};
+ghost use Rattle.pf_tables.specs.Meaning.Effects.{outcome};
 ghost use Rattle.pf_tables.specs.Steps.Kinds.{is_plain, is_special, is_half, is_double, makes_vector, makes_pair, FitsPlain, FitsHalf, FitsPair};
 
 use crate::instruction::Instruction;
