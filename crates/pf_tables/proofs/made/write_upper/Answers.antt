@@ -1,5 +1,5 @@
 use Rattle.std.proofs.Common.{◌≡◌, ◌/◌, ◌%◌, length, arith}
-use Rattle.pf_tables.proofs.effects.write_upper.Goals as goal
+use Rattle.pf_tables.proofs.made.write_upper.Goals as goal
 
 pub write_lanes-requires-clause-room : goal.write_lanes-requires-clause-room
 write_lanes-requires-clause-room g c =

@@ -1,5 +1,5 @@
 use Rattle.std.proofs.Common.{◌≡◌, take, length, map, nat_lt}
-use Rattle.pf_tables.proofs.effects.set_truths.Given as goal
+use Rattle.pf_tables.proofs.made.set_truths.Given as goal
 
 abbrev pub invariant-loop-n : goal.invariant-loop-n
 invariant-loop-n l = record {

@@ -1,5 +1,5 @@
 use Rattle.pf_tables.specs.Steps.RowLaws.{moved_fits}
-use Rattle.pf_tables.proofs.effects.write_moved.Goals as goal
+use Rattle.pf_tables.proofs.moves.write_moved.Goals as goal
 
 pub write_lanes-requires-clause-room : goal.write_lanes-requires-clause-room
 write_lanes-requires-clause-room g c =

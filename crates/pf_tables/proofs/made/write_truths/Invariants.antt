@@ -1,5 +1,5 @@
 use Rattle.std.proofs.Common.{◌≡◌, take, length, map, if◌then◌else◌}
-use Rattle.pf_tables.proofs.effects.write_truths.Given as goal
+use Rattle.pf_tables.proofs.made.write_truths.Given as goal
 
 abbrev pub invariant-loop-n : goal.invariant-loop-n
 invariant-loop-n l = record {

@@ -2,7 +2,7 @@ use Rattle.std.proofs.Common.{◌≡◌, ◌∙◌, ◌<◌, length, false, rule
 use Rattle.std.specs.Prelude.{if◌then◌else◌}
 use Rattle.std.proofs.lemmas.List.{length-set}
 use Rattle.pf_tables.proofs.TruthLaws.{item_more}
-use Rattle.pf_tables.proofs.effects.write_truths.Goals as goal
+use Rattle.pf_tables.proofs.made.write_truths.Goals as goal
 
 pub loop-n-preserved : goal.loop-n-preserved
 loop-n-preserved c =

@@ -2,7 +2,7 @@ use Rattle.std.proofs.Common.{◌∙◌, ◌<◌, ◌+◌, ap, length, take, fal
 use Rattle.std.specs.Prelude.{nat_lt}
 use Rattle.std.proofs.lemmas.List.{length-set}
 use Rattle.pf_tables.proofs.TruthLaws.{item_more}
-use Rattle.pf_tables.proofs.effects.set_truths.Goals as goal
+use Rattle.pf_tables.proofs.made.set_truths.Goals as goal
 
 pub loop-n-preserved : goal.loop-n-preserved
 loop-n-preserved c =
