@@ -19,9 +19,9 @@ module _ (s : InstructionSet) (same : shapes_of s ≡ fixed_shapes) where
   nth k = ap (λ l. get_or l k Shapes.Absent) same
 
   pub fixed_rows :
-    (s.style.adds_pages ≡ true → (s.row Places.ADD_PAGES).shape ≡ Shapes.AddHigh)
-    → (s.style.packets ≡ true → (s.row Places.NEGATIVE_CONSTANT).shape ≡ Shapes.NegativeConstant)
-    → (s.row Places.LOAD).cost ≡ 0 → (s.row Places.STORE).cost ≡ 0 → HasFixedRows s
+      (s.style.adds_pages ≡ true → (s.row Places.ADD_PAGES).shape ≡ Shapes.AddHigh)
+      → (s.style.packets ≡ true → (s.row Places.NEGATIVE_CONSTANT).shape ≡ Shapes.NegativeConstant)
+      → (s.row Places.LOAD).cost ≡ 0 → (s.row Places.STORE).cost ≡ 0 → HasFixedRows s
   fixed_rows pages negative load store = record {
     load_pointer = nth 0;
     store_pointer = nth 1;
