@@ -1,6 +1,6 @@
 -- How the steps of `select` make the whole call.
-use Rattle.std.proofs.Common.{◌≡◌, ◌↔◌, Bool, true, false, ℕ, suc, ◌+◌, ◌≤◌, ◌<◌, List, [], Result, Ok, Err, ◌∙◌, refl, sym, ap, subst, arith}
-use Rattle.std.specs.Prelude.{⊤, IsTrue}
+use Rattle.std.proofs.Common.{◌≡◌, ◌↔◌, Bool, true, false, ℕ, ◌+◌, List, [], Result, Ok, Err, refl, sym, ap, subst, arith}
+use Rattle.std.specs.Prelude.{IsTrue}
 use Rattle.pf_ints.specs.declared.target.Target.{Target}
 use Rattle.pf_ints.specs.declared.target.Target.TheVariants.{Neon}
 use Rattle.pf_values.specs.Meaning.Kernels.{Source}

@@ -34,11 +34,7 @@ fn text_of(alloc: Global, kernel: &Kernel, target: Target) -> Result<Vec<u8>, St
 
 /// Reads and judges the files in the order of the words, each before the next is read, and writes
 /// the text of the kernel.
-pub fn select<F: Files>(
-    alloc: Global,
-    words: &Selection<'_>,
-    files: &mut F,
-) -> Result<Lines, Stop>
+pub fn select<F: Files>(alloc: Global, words: &Selection<'_>, files: &mut F) -> Result<Lines, Stop>
     ensures { EndsWith (selecting (the_words words.now)) (seen F.held F.faults F.calls files.old) result
         (seen F.held F.faults F.calls files.new) }
 {
