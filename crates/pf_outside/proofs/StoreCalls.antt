@@ -6,7 +6,7 @@ use Rattle.pf_images.specs.Meaning.Outside.{Contents, SameContents, Puts, PutsPa
 use Rattle.pf_outside.specs.declared.stop.Stop.{Stop}
 use Rattle.pf_outside.specs.declared.stop.Stop.TheVariants.{Missing, Unreadable, Refused, Failed, Unwritten, Memory}
 use Rattle.pf_outside.specs.Meaning.StoreCalls.{Store, Calls, Well, Lacking, Failing, Wanting, FaultsAre, CallsAre, StoreAfter, FileStartsWith}
-use Rattle.pf_outside.specs.Steps.FileSteps.{later, Finds, JudgesBytes, Judged}
+use Rattle.pf_outside.specs.Steps.FileSteps.{later, JudgesBytes, Judged}
 
 -- two changes one after the other
 pub changes_then : {T : Type 0} (P Q R : T → T → Type 0) → ((m n o : T) → P m n → Q n o → R m o) → (a b c : Option T) → Changes P a b → Changes Q b c → Changes R a c

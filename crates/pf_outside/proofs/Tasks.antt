@@ -1,13 +1,13 @@
 -- How the steps of a command make the whole call.
-use Rattle.std.proofs.Common.{◌≡◌, ◌↔◌, ℕ, zero, suc, ◌+◌, ◌≤◌, ◌<◌, ◌⊎◌, inl, inr, length, List, [], ◌∷◌, Option, Some, None, Result, Ok, Err, ◌∙◌, refl, sym, ap, subst, arith}
-use Rattle.std.specs.Prelude.{⊤, IsSome}
+use Rattle.std.proofs.Common.{◌≡◌, ◌↔◌, ℕ, ◌+◌, ◌≤◌, ◌<◌, ◌⊎◌, inl, inr, length, List, Option, Some, None, Result, Ok, Err, ◌∙◌, refl, sym, ap, subst, arith}
+use Rattle.std.specs.Prelude.{IsSome}
 use Rattle.pf_images.specs.Meaning.Counts.{Rose}
-use Rattle.pf_images.specs.Meaning.Outside.{Contents, SameContents, Puts, PutsPart, Changes}
+use Rattle.pf_images.specs.Meaning.Outside.{Contents, SameContents, Changes}
 use Rattle.pf_outside.specs.declared.stop.Stop.{Stop}
 use Rattle.pf_outside.specs.declared.stop.Stop.TheVariants.{Missing, Unreadable, Refused, Failed, Unwritten, Memory}
 use Rattle.pf_outside.specs.Meaning.StoreCalls.{Store, Calls, Well, Lacking, Failing, Wanting, StoreAfter, FileStartsWith}
 use Rattle.pf_outside.specs.Meaning.Tasks.{Task, Verdict, Effect, EndsWith, IsAmong, Leaves, LeavesPart, calls_of, writes, file_name}
-use Rattle.pf_outside.specs.Steps.FileSteps.{Finds, Judged, Written, calls_of_file}
+use Rattle.pf_outside.specs.Steps.FileSteps.{Judged, Written}
 use Rattle.pf_outside.proofs.StoreCalls.{After, after_none, begins_before, changes_weaker, went_then, same_then, puts_then, puts_part_then}
 
 module _ {E F : Type 0} (t : Task E F) (free : (f : F) → t.Bars f → ⊥) where

@@ -1,15 +1,12 @@
 -- How the lines of a report are put.
-use Rattle.std.proofs.Common.{◌≡◌, ◌≢◌, ℕ, zero, suc, ◌+◌, ◌<◌, ◌≤◌, ◌⊎◌, inl, inr, List, [], ◌∷◌, ◌++◌, take, length, get_or, Option, Some, None, Result, Ok, Err, ◌∙◌, refl, sym, ap, subst, append-nil, arith}
-use Rattle.std.specs.Prelude.{⊤, slice_index_or}
+use Rattle.std.proofs.Common.{◌≡◌, ℕ, zero, suc, ◌+◌, ◌<◌, ◌≤◌, inl, inr, List, [], ◌∷◌, ◌++◌, take, length, get_or, Option, Some, None, ◌∙◌, refl, sym, ap, subst, append-nil, arith}
 use Rattle.std.specs.List.{concat}
 use Rattle.std.proofs.lemmas.List.{append_assoc, take_more, take_all}
 use Rattle.std.proofs.lemmas.List.Folds.{concat-append}
-use Rattle.pf_images.specs.declared.files.FilesFault.{FilesFault}
-use Rattle.pf_images.specs.declared.files.FilesFault.TheVariants.{Failed as FailedFault, Memory as MemoryFault}
 use Rattle.pf_images.specs.Meaning.Counts.{raised, raised_by, Rose}
-use Rattle.pf_images.specs.Meaning.Outside.{Changes, Appends, AppendsPart, Adds, HasCause}
+use Rattle.pf_images.specs.Meaning.Outside.{Changes, Appends, AppendsPart}
 use Rattle.pf_outside.specs.Meaning.StoreCalls.{RaisedUpTo}
-use Rattle.pf_outside.specs.Meaning.Reports.{Report, memory_line, wanting, Output, AppendsLines, Reports}
+use Rattle.pf_outside.specs.Meaning.Reports.{Report, memory_line, wanting, Output, Reports}
 use Rattle.pf_outside.specs.Steps.LineSteps.{Put, PutsPoor, NonePut, AllPut, PartPut}
 use Rattle.pf_outside.proofs.StoreCalls.{changes_then, changes_weaker, raised_later}
 

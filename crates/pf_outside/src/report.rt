@@ -79,13 +79,7 @@ fn tell_poor<S: Sink>(alloc: Global, out: &mut S, poor: Poor<'_>) -> u8
 }
 
 /// Puts the lines, and answers the status: 4 where the output failed, or that of want of memory.
-fn tell<S: Sink>(
-    alloc: Global,
-    out: &mut S,
-    status: u8,
-    lines: &[ByteList],
-    poor: Poor<'_>,
-) -> u8
+fn tell<S: Sink>(alloc: Global, out: &mut S, status: u8, lines: &[ByteList], poor: Poor<'_>) -> u8
     ensures { Reports (record { lines = lines.now; status = status; poor_status = poor.entry.status; poor_line = poor.entry.line.now })
         (seen_output S.written S.faults S.calls out.old) result (seen_output S.written S.faults S.calls out.new) }
 {

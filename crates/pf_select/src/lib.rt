@@ -6,4 +6,4 @@ mod operands;
 mod passes;
 mod selected;
 
-pub use passes::{SelectFault, select};
+pub use passes::{SelectFault, is_built, select};

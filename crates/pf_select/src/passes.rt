@@ -1,5 +1,6 @@
-ghost use Rattle.std.specs.Prelude.{◌≡◌, MatchResult};
+ghost use Rattle.std.specs.Prelude.{◌≡◌, ◌↔◌, IsTrue, MatchResult};
 ghost use Rattle.pf_ints.specs.declared.target.Target.TheVariants.{Neon as OnNeon};
+ghost use Rattle.pf_values.specs.Meaning.Kernels.{Source};
 ghost use Rattle.pf_select.specs.Meaning.Targets.{IsBuilt, IsSelectedOn};
 
 use crate::operands::operands_of;
@@ -47,5 +48,15 @@ pub fn select(alloc: Global, kernel: &Kernel, target: Target) -> Result<Vec<u8>,
     match target {
         Target::Neon => select_neon(alloc, kernel),
         Target::Avx2 | Target::Hvx => Err(SelectFault::NotBuilt),
+    }
+}
+
+/// Whether a text is selected for the target, of some kernel.
+pub fn is_built(target: Target) -> bool
+    ensures { IsTrue result ↔ ((s : Source) × IsBuilt target s) }
+{
+    match target {
+        Target::Neon => true,
+        Target::Avx2 | Target::Hvx => false,
     }
 }

@@ -1,5 +1,5 @@
 -- The reasons that a run or an evaluation may have on as many images as declared, of their types.
-use Rattle.std.proofs.Common.{◌≡◌, ℕ, ℤ, ◌+◌, ◌<◌, arith, List, [], ◌∷◌, length, Err, inl, inr, refl, subst}
+use Rattle.std.proofs.Common.{◌≡◌, ℕ, ◌+◌, ◌<◌, arith, List, [], ◌∷◌, length, Err, inl, inr, refl, subst}
 use Rattle.std.specs.List.{AllZip}
 use Rattle.std.proofs.lemmas.Slice.Zip.{AllZip-long}
 use Rattle.pf_ints.specs.Meaning.Images.{Picture}
@@ -20,7 +20,7 @@ use Rattle.pf_run.specs.declared.fault.SetFault.TheVariants.{Count, Kind, Size, 
 use Rattle.pf_run.specs.Meaning.Answers.{Ran}
 use Rattle.pf_run.specs.Meaning.Sets.{IsFirstBadImage, IsSetFault}
 use Rattle.pf_top.specs.declared.fault.Failure.TheVariants.{Run as RunFailure}
-use Rattle.pf_top.specs.Meaning.Running.{Run, Language, AllowsRun, Evaluates, RunsTo, kernels, programs}
+use Rattle.pf_top.specs.Meaning.Running.{Run, AllowsRun, Evaluates, RunsTo, programs}
 
 -- each image is of the declared type
 abbrev pub AreTyped : List ImageDecl → List Picture → Type 0

@@ -1,5 +1,5 @@
 -- What a call of the program comes to, from what its command does.
-use Rattle.std.proofs.Common.{◌≡◌, ℕ, ◌≤◌, ◌⊎◌, List, length, zip, Option, Some, Ok, refl, sym, ap, subst, ◌∙◌}
+use Rattle.std.proofs.Common.{◌≡◌, ℕ, ◌≤◌, ◌⊎◌, List, length, zip, Some, Ok, ap, subst, ◌∙◌}
 use Rattle.std.specs.Prelude.{codes}
 use Rattle.std.specs.List.{AllZip}
 use Rattle.pf_ints.specs.declared.target.Target.{Target}
@@ -8,15 +8,15 @@ use Rattle.pf_values.specs.Meaning.Kernels.{Source, Keeps, Out}
 use Rattle.pf_images.specs.Meaning.Outside.{Contents}
 use Rattle.pf_images.specs.Meaning.Pgm.{pgm_text}
 use Rattle.pf_kernel.specs.Meaning.Kernels.{Meaning}
-use Rattle.pf_outside.specs.Meaning.Reports.{Output, Reports}
+use Rattle.pf_outside.specs.Meaning.Reports.{Output}
 use Rattle.pf_outside.specs.Meaning.StoreCalls.{Store}
 use Rattle.pf_outside.specs.Meaning.Tasks.{Effect, EndsWith}
 use Rattle.pf_outside.proofs.Tasks.{told_after, works}
-use Rattle.pf_select.specs.Meaning.Targets.{HeadlineOn, IsSelectedOn}
-use Rattle.pf_top.specs.Meaning.Commands.{Command, Selecting, Running, Evaluating, IsCommand, IsCalm, Does, CanDo, task_of}
+use Rattle.pf_select.specs.Meaning.Targets.{HeadlineOn}
+use Rattle.pf_top.specs.Meaning.Commands.{Command, Selecting, Running, IsCommand, IsCalm, Does, CanDo, task_of}
 use Rattle.pf_top.specs.Meaning.Files.{kernel_file, text_limit}
-use Rattle.pf_top.specs.Meaning.Running.{Run, IsImageThere, IsRunCommand, programs, running}
-use Rattle.pf_top.specs.Meaning.Selections.{Select, IsSelect, Selects, SpellsKernel, selecting}
+use Rattle.pf_top.specs.Meaning.Running.{Run, IsImageThere, IsRunCommand}
+use Rattle.pf_top.specs.Meaning.Selections.{Select, IsSelect, Selects, SpellsKernel}
 use Rattle.pf_top.proofs.Agreement.{Agrees, agreed, headline_of}
 use Rattle.pf_top.proofs.Completing.{fits, same_held}
 use Rattle.pf_top.proofs.OneCommand.{one_command}
@@ -58,8 +58,7 @@ pub agrees : (words : List (List ℕ)) (c : Command) (r : Run) (target : Target)
     → (IsCalm b.faults a.faults → IsCalm ob.faults oa.faults → (n ≡ 0) ⊎ (n ≡ 13)) × (n ≡ 0 → (new : Contents) × (a.held ≡ Some new) × (new r.out ≡ Some (pgm_text o)))
 agrees words c r target source text pictures o old b a ob n oa is also done told there low h count images keeps out picture =
     let this = does words c (Running r) b a ob n oa is also done in
-    let agree : Agrees r old o = agreed r target source text pictures o old there low h count images keeps out picture in
-    (
+    let agree : Agrees r old o = agreed r target source text pictures o old there low h count images keeps out picture in (
       (λ calm quiet. completes_at (Running r) old b a ob n oa this told agree.0 calm quiet),
       (λ nought.
           let after = left (Running r) old b a ob n oa this told nought in

@@ -1,5 +1,5 @@
 -- Each command does its work wherever it can.
-use Rattle.std.proofs.Common.{◌≡◌, ℕ, zero, suc, ◌+◌, ◌≤◌, ◌<◌, take, zip, length, List, [], ◌∷◌, Option, Some, None, Err, ◌∙◌, refl, sym, ap, subst, get_or, arith}
+use Rattle.std.proofs.Common.{◌≡◌, ℕ, zero, suc, ◌+◌, ◌<◌, take, zip, length, List, [], ◌∷◌, Option, Some, None, Err, ◌∙◌, refl, sym, ap, subst, get_or, arith}
 use Rattle.std.specs.Prelude.{IsSomeAnd, slice_get}
 use Rattle.std.specs.List.{AllZip}
 use Rattle.std.proofs.lemmas.List.{take_all}
@@ -10,7 +10,6 @@ use Rattle.pf_values.specs.declared.kernel.ImageDecl.{ImageDecl}
 use Rattle.pf_values.specs.Meaning.Kernels.{Keeps}
 use Rattle.pf_images.specs.Meaning.Outside.{Contents}
 use Rattle.pf_kernel.specs.Meaning.Kernels.{Meaning}
-use Rattle.pf_kernel.specs.Meaning.Texts.{IsKernel}
 use Rattle.pf_machine.specs.Meaning.Programs.{ProgramOf}
 use Rattle.pf_machine.specs.Meaning.Tables.{Table}
 use Rattle.pf_avx2.specs.Meaning.Avx2.{table as avx2_table}
@@ -31,8 +30,8 @@ use Rattle.pf_top.specs.declared.fault.Failure.TheVariants.{Target as NoTarget, 
 use Rattle.pf_top.specs.declared.fault.FileFault.{FileFault}
 use Rattle.pf_top.specs.Meaning.Commands.{Command, Selecting, Running, Evaluating, task_of}
 use Rattle.pf_top.specs.Meaning.Files.{image_file, image_limit, kernel_file, rule_file, IsImageFile}
-use Rattle.pf_top.specs.Meaning.Running.{Language, Run, FilesHold, HoldsImage, IsImageThere, IsRunnable, GoodRun, RefusesRun, FailsRun, RunsTo, Evaluates, kernels, programs, running}
-use Rattle.pf_top.specs.Meaning.Selections.{Select, IsSelectable, GoodSelect, RefusesSelect, FailsSelect, lift_text, lower_text, selecting}
+use Rattle.pf_top.specs.Meaning.Running.{Language, Run, FilesHold, HoldsImage, IsImageThere, IsRunnable, RefusesRun, FailsRun, RunsTo, Evaluates, kernels, programs, running}
+use Rattle.pf_top.specs.Meaning.Selections.{Select, IsSelectable, RefusesSelect, FailsSelect, lift_text, lower_text, selecting}
 use Rattle.pf_select.specs.Meaning.Targets.{IsBuilt}
 
 -- two facts of what a name holds

@@ -1,5 +1,5 @@
 -- Lists of images beside their names and declarations.
-use Rattle.std.proofs.Common.{◌≡◌, ℕ, zero, suc, ◌+◌, ◌<◌, List, [], ◌∷◌, ◌++◌, take, zip, map, length, ◌≤◌, Some, Ok, Err, arith, subst, sym, ap, get_or, ◌∙◌}
+use Rattle.std.proofs.Common.{◌≡◌, ℕ, zero, suc, ◌+◌, List, [], ◌∷◌, ◌++◌, take, zip, map, length, ◌≤◌, Some, Ok, Err, arith, subst, sym, ap, get_or, ◌∙◌}
 use Rattle.std.specs.Prelude.{slice_get}
 use Rattle.std.specs.List.{AllZip}
 use Rattle.std.specs.Option.{option_map}
@@ -74,7 +74,7 @@ module _ {X : Type 0} (g : X → List ℕ) (names : List X) (decls : List ImageD
   pub images_next : (picture : Picture) → JudgedAs (image_file d.ty) number name c (Ok picture) e → HeldImages (zip (map g names) decls) (n + 1) (pictures ++ picture ∷ []) b e
   images_next picture step =
       let went : StoreAfter (λ old new. Next old × SameContents old new) (Well (1 + n)) b e = after_judged (Means (image_file d.ty)) (IsRefused (image_file d.ty)) _ Next name (image_limit + 1) n number b c e picture
-          (λ m held this. all_zip_next (HoldsImage m) (zip (map g names) decls) pictures n (name, d) picture (zip_at (map g names) decls n name d named here) held this) before step in
+      (λ m held this. all_zip_next (HoldsImage m) (zip (map g names) decls) pictures n (name, d) picture (zip_at (map g names) decls n name d named here) held this) before step in
       let same : 1 + n ≡ n + 1 = omega arith in
       subst (λ k. StoreAfter (λ old new. Next old × SameContents old new) (Well k) b e) same went
     where

@@ -1,9 +1,7 @@
 -- How the steps of `run` and `eval` make the whole call.
-use Rattle.std.proofs.Common.{◌≡◌, ◌≢◌, ℕ, suc, ◌+◌, ◌≤◌, ◌<◌, take, zip, length, List, [], ◌∷◌, Some, Result, Ok, Err, ◌∙◌, refl, sym, ap, subst, get_or, arith}
+use Rattle.std.proofs.Common.{◌≡◌, ◌≢◌, ℕ, suc, ◌+◌, ◌≤◌, ◌<◌, take, zip, length, List, [], ◌∷◌, Result, Ok, Err, ◌∙◌, refl, sym, subst, get_or, arith}
 use Rattle.std.specs.List.{AllZip}
-use Rattle.std.proofs.lemmas.List.{take_all}
 use Rattle.std.proofs.lemmas.Option.{get_or_from_slice_get}
-use Rattle.std.proofs.lemmas.Slice.Zip.{length-zip}
 use Rattle.pf_ints.specs.Meaning.Images.{Picture}
 use Rattle.pf_values.specs.declared.kernel.ImageDecl.{ImageDecl}
 use Rattle.pf_images.specs.Meaning.Outside.{Contents, SameContents}
@@ -11,7 +9,7 @@ use Rattle.pf_images.specs.Meaning.Pgm.{pgm_text}
 use Rattle.pf_outside.specs.declared.stop.Stop.{Stop}
 use Rattle.pf_outside.specs.declared.stop.Stop.TheVariants.{Missing, Unreadable, Refused, Failed, Unwritten, Memory}
 use Rattle.pf_outside.specs.Meaning.Formats.{Holds, HoldsNone, Means, IsRefused}
-use Rattle.pf_outside.specs.Meaning.StoreCalls.{Store, StoreAfter, Well, FileStartsWith}
+use Rattle.pf_outside.specs.Meaning.StoreCalls.{Store, Well}
 use Rattle.pf_outside.specs.Meaning.Tasks.{EndsWith, Verdict}
 use Rattle.pf_outside.specs.Steps.FileSteps.{Written}
 use Rattle.pf_outside.proofs.StoreCalls.{After, after_none, begins_before, went_then, same_then}

@@ -1,8 +1,7 @@
 -- How the steps of `select` make the whole call.
-use Rattle.std.proofs.Common.{◌≡◌, ◌↔◌, Bool, true, false, ℕ, suc, ◌+◌, ◌≤◌, ◌<◌, List, [], Result, Ok, Err, ◌∙◌, refl, sym, ap, subst, arith}
-use Rattle.std.specs.Prelude.{⊤, IsTrue}
+use Rattle.std.proofs.Common.{◌≡◌, ◌↔◌, Bool, true, false, ℕ, ◌+◌, List, [], Result, Ok, Err, refl, sym, ap, subst, arith}
+use Rattle.std.specs.Prelude.{IsTrue}
 use Rattle.pf_ints.specs.declared.target.Target.{Target}
-use Rattle.pf_ints.specs.declared.target.Target.TheVariants.{Neon}
 use Rattle.pf_values.specs.Meaning.Kernels.{Source}
 use Rattle.pf_images.specs.Meaning.Outside.{Contents}
 use Rattle.pf_kernel.specs.Meaning.Kernels.{Meaning}
@@ -15,7 +14,6 @@ use Rattle.pf_outside.specs.Meaning.Tasks.{EndsWith, Verdict}
 use Rattle.pf_outside.specs.Steps.FileSteps.{Written}
 use Rattle.pf_outside.proofs.StoreCalls.{After, after_none}
 use Rattle.pf_outside.proofs.Tasks.{after_judged, barred, stopped, failed, wanted, written}
-use Rattle.pf_select.specs.Meaning.MinOfTaps.{byte_type, min_term}
 use Rattle.pf_select.specs.Meaning.Targets.{IsBuilt, IsSelectedOn}
 use Rattle.pf_top.specs.declared.fault.Failure.{Failure}
 use Rattle.pf_top.specs.declared.fault.Failure.TheVariants.{Target as NoTarget, NoText, Count, Run}
@@ -23,13 +21,6 @@ use Rattle.pf_top.specs.declared.fault.FileFault.{FileFault}
 use Rattle.pf_top.specs.Meaning.Files.{kernel_file, rule_file, rule_limit}
 use Rattle.pf_top.specs.Meaning.Selections.{Select, IsUnbuilt, BarsSelect, Selects, HoldsLift, HoldsLower, lift_text, lower_text, selecting}
 use Rattle.pf_top.specs.Steps.RunSteps.{JudgedAs, Unselected}
-
--- a kernel that a text is selected for
-pub neon_built : (source : Source) × IsBuilt Neon source
-neon_built = (
-  record { images = []; taps = []; defs = []; out_ty = byte_type; out = min_term byte_type 0 0 },
-  (0, 0, record { taps = λ n d low. absurd (omega (arith, low)); defs = refl; out_ty = refl; out = refl }),
-)
 
 -- what the test of a target finds
 pub not_built : (t : Target) (b : Bool) → b ≡ false → IsTrue b ↔ ((source : Source) × IsBuilt t source) → IsUnbuilt t

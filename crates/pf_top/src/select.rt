@@ -12,12 +12,11 @@ use crate::command::Selection;
 use crate::fault::{Failure, Stop};
 use crate::kernel_file::read_kernel_file;
 use crate::rules::{lift_text, lower_text, read_rules};
-use crate::targets::is_built;
 use pf_images::Files;
 use pf_ints::{Sequence, Target};
 use pf_kernel::Kernel;
 use pf_outside::{Lines, write_file};
-use pf_select::{SelectFault, select as select_text};
+use pf_select::{SelectFault, is_built, select as select_text};
 use std::alloc::Global;
 
 /// The text of the kernel.
@@ -34,11 +33,7 @@ fn text_of(alloc: Global, kernel: &Kernel, target: Target) -> Result<Vec<u8>, St
 
 /// Reads and judges the files in the order of the words, each before the next is read, and writes
 /// the text of the kernel.
-pub fn select<F: Files>(
-    alloc: Global,
-    words: &Selection<'_>,
-    files: &mut F,
-) -> Result<Lines, Stop>
+pub fn select<F: Files>(alloc: Global, words: &Selection<'_>, files: &mut F) -> Result<Lines, Stop>
     ensures { EndsWith (selecting (the_words words.now)) (seen F.held F.faults F.calls files.old) result
         (seen F.held F.faults F.calls files.new) }
 {

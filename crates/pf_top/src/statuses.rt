@@ -83,12 +83,24 @@ fn tell_file<S: Sink>(alloc: Global, out: &mut S, file: &[u8], fault: FileFault)
         FileFault::Kernel(fault) => tell_kernel(alloc, out, file, fault),
         FileFault::NotBuilt => tell_line(alloc, out, 8, &[Word(b"not built: "), name]),
         FileFault::Image(ImageFault::At { at, kind }) => {
-            let pieces = [name, Word(b": byte "), Number(at), Word(b": "), Word(kind.word())];
+            let pieces = [
+                name,
+                Word(b": byte "),
+                Number(at),
+                Word(b": "),
+                Word(kind.word()),
+            ];
             tell_line(alloc, out, 9, &pieces)
         }
         FileFault::LongImage => tell_line(alloc, out, 9, &[name, Word(b": byte 33619968: limit")]),
         FileFault::Text(TextFault::At { line, kind }) => {
-            let pieces = [name, Word(b":"), Number(line), Word(b": "), Word(kind.word())];
+            let pieces = [
+                name,
+                Word(b":"),
+                Number(line),
+                Word(b": "),
+                Word(kind.word()),
+            ];
             tell_line(alloc, out, 10, &pieces)
         }
         FileFault::LongText => tell_line(alloc, out, 10, &[name, Word(b":0: limit")]),
@@ -103,7 +115,12 @@ fn tell_count<S: Sink>(alloc: Global, out: &mut S, want: u64, got: u64) -> u8
     ensures { Reports (told 9 (codes "want " ∷ decimal want ∷ codes " images, got " ∷ decimal got ∷ []))
         (seen_output S.written S.faults S.calls out.old) result (seen_output S.written S.faults S.calls out.new) }
 {
-    let pieces = [Word(b"want "), Number(want), Word(b" images, got "), Number(got)];
+    let pieces = [
+        Word(b"want "),
+        Number(want),
+        Word(b" images, got "),
+        Number(got),
+    ];
     tell_line(alloc, out, 9, &pieces)
 }
 
@@ -118,18 +135,35 @@ fn tell_set<S: Sink>(alloc: Global, out: &mut S, command: &Command<'_>, fault: S
             let name = Word(file_name(command, image as usize + 1));
             tell_line(alloc, out, 9, &[name, Word(b": type")])
         }
-        SetFault::Size { image, width, height } => {
+        SetFault::Size {
+            image,
+            width,
+            height,
+        } => {
             let name = Word(file_name(command, image as usize + 1));
             let width = Number(u64::from(width));
             let height = Number(u64::from(height));
-            tell_line(alloc, out, 9, &[name, Word(b": size "), width, Word(b" "), height])
+            tell_line(
+                alloc,
+                out,
+                9,
+                &[name, Word(b": size "), width, Word(b" "), height],
+            )
         }
         SetFault::Pixel { image, x, y, value } => {
             let name = Word(file_name(command, image as usize + 1));
             let x = Number(u64::from(x));
             let y = Number(u64::from(y));
             let value = Whole(value);
-            let pieces = [name, Word(b": pixel "), x, Word(b" "), y, Word(b" is "), value];
+            let pieces = [
+                name,
+                Word(b": pixel "),
+                x,
+                Word(b" "),
+                y,
+                Word(b" is "),
+                value,
+            ];
             tell_line(alloc, out, 9, &pieces)
         }
         SetFault::NoOutput => tell_line(alloc, out, 9, &[Word(b"no output pixel")]),
@@ -145,18 +179,40 @@ fn tell_run<S: Sink>(alloc: Global, out: &mut S, command: &Command<'_>, fault: R
         RunFault::Set(fault) => tell_set(alloc, out, command, fault),
         RunFault::Text { line, kind } => {
             let name = Word(file_name(command, 0));
-            let pieces = [name, Word(b":"), Number(line), Word(b": "), Word(kind.word())];
+            let pieces = [
+                name,
+                Word(b":"),
+                Number(line),
+                Word(b": "),
+                Word(kind.word()),
+            ];
             tell_line(alloc, out, 10, &pieces)
         }
-        RunFault::Outside { at, address, length } => {
+        RunFault::Outside {
+            at,
+            address,
+            length,
+        } => {
             let head = Word(b"outside: instruction ");
             let address = Number(address);
             let length = Number(u64::from(length));
-            let pieces = [head, Number(at), Word(b", address "), address, Word(b", length "), length];
+            let pieces = [
+                head,
+                Number(at),
+                Word(b", address "),
+                address,
+                Word(b", length "),
+                length,
+            ];
             tell_line(alloc, out, 11, &pieces)
         }
         RunFault::Spent { steps } => {
-            tell_line(alloc, out, 12, &[Word(b"spent: "), Number(steps), Word(b" steps")])
+            tell_line(
+                alloc,
+                out,
+                12,
+                &[Word(b"spent: "), Number(steps), Word(b" steps")],
+            )
         }
         RunFault::Memory => tell_want(alloc, out),
     }
@@ -172,7 +228,12 @@ fn tell_failure<S: Sink>(alloc: Global, out: &mut S, command: &Command<'_>, why:
             tell_line(alloc, out, 8, &[Word(b"not built: "), Word(target.word())])
         }
         Failure::NoText => {
-            tell_line(alloc, out, 8, &[Word(b"not built: "), Word(file_name(command, 0))])
+            tell_line(
+                alloc,
+                out,
+                8,
+                &[Word(b"not built: "), Word(file_name(command, 0))],
+            )
         }
         Failure::Count { want, got } => tell_count(alloc, out, want, got),
         Failure::Run(fault) => tell_run(alloc, out, command, fault),

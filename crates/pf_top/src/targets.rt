@@ -1,9 +1,7 @@
-//! The targets: their words, and which are built.
+//! The words of targets.
 
-ghost use Rattle.std.specs.Prelude.{◌≡◌, ◌↔◌, MatchOption, IsTrue};
+ghost use Rattle.std.specs.Prelude.{◌≡◌, MatchOption};
 ghost use Rattle.pf_ints.specs.Meaning.Targets.{target_word};
-ghost use Rattle.pf_values.specs.Meaning.Kernels.{Source};
-ghost use Rattle.pf_select.specs.Meaning.Targets.{IsBuilt};
 
 use pf_ints::Target;
 
@@ -16,15 +14,5 @@ pub fn target_of(word: &str) -> Option<Target>
         "avx2" => Some(Target::Avx2),
         "hvx" => Some(Target::Hvx),
         _ => None,
-    }
-}
-
-/// Whether a text is selected for the target, of some kernel.
-pub fn is_built(target: Target) -> bool
-    ensures { IsTrue result ↔ ((s : Source) × IsBuilt target s) }
-{
-    match target {
-        Target::Neon => true,
-        Target::Avx2 | Target::Hvx => false,
     }
 }

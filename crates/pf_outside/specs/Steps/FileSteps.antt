@@ -2,7 +2,7 @@
 use Rattle.std.specs.Prelude.{◌≡◌, ℕ, ◌+◌, List, None, Result, Ok, Err}
 use Rattle.pf_images.specs.Meaning.Outside.{Contents, SameContents, Puts, PutsPart}
 use Rattle.pf_outside.specs.declared.stop.Stop.{Stop}
-use Rattle.pf_outside.specs.declared.stop.Stop.TheVariants.{Missing, Unreadable, Refused, Failed, Unwritten, Memory}
+use Rattle.pf_outside.specs.declared.stop.Stop.TheVariants.{Missing, Unreadable, Refused, Unwritten, Memory}
 use Rattle.pf_outside.specs.Meaning.StoreCalls.{Calls, Failing, FileStartsWith, Lacking, Store, StoreAfter, Wanting, Well}
 
 -- these calls, behind so many that went well

@@ -65,4 +65,3 @@ BlamesRules _ bytes = ⊥
 
 abbrev pub rule_file : List ℕ → Format FileFault ⊤
 rule_file text = record { most = rule_limit; Spells = λ _ bytes. bytes ≡ text; Blames = BlamesRules }
-

@@ -18,7 +18,7 @@ use Rattle.pf_run.specs.declared.fault.SetFault.TheVariants.{Size, Pixel, NoOutp
 use Rattle.pf_run.specs.Meaning.AnyPrograms.{RanAny, ReturnsAny, head_of}
 use Rattle.pf_run.specs.Meaning.Evaluations.{Evaluated}
 use Rattle.pf_top.specs.declared.fault.Failure.{Failure}
-use Rattle.pf_top.specs.declared.fault.Failure.TheVariants.{Target, NoText, Count, Run as RunFailure}
+use Rattle.pf_top.specs.declared.fault.Failure.TheVariants.{Count, Run as RunFailure}
 use Rattle.pf_top.specs.declared.fault.FileFault.{FileFault}
 use Rattle.pf_top.specs.Meaning.Files.{image_limit, image_file, IsImageFile, kernel_file, text_file}
 

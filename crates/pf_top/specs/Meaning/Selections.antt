@@ -1,5 +1,5 @@
 -- The command `select`: its words, and what they ask for.
-use Rattle.std.specs.Prelude.{◌≡◌, ℕ, zero, suc, ◌+◌, List, [], ◌∷◌, ◌++◌, ⊤, Some, codes}
+use Rattle.std.specs.Prelude.{◌≡◌, ℕ, zero, suc, ◌+◌, List, [], ◌∷◌, ◌++◌, Some, codes}
 use Rattle.pf_ints.specs.declared.target.Target.{Target}
 use Rattle.pf_ints.specs.Meaning.Targets.{target_word}
 use Rattle.pf_values.specs.Meaning.Kernels.{Source}
@@ -12,7 +12,7 @@ use Rattle.pf_outside.specs.Meaning.StoreCalls.{FileStartsWith}
 use Rattle.pf_outside.specs.Meaning.Tasks.{Task}
 use Rattle.pf_select.specs.Meaning.Targets.{IsBuilt, IsSelectedOn}
 use Rattle.pf_top.specs.declared.fault.Failure.{Failure}
-use Rattle.pf_top.specs.declared.fault.Failure.TheVariants.{Target as NoTarget, NoText, Count, Run}
+use Rattle.pf_top.specs.declared.fault.Failure.TheVariants.{Target as NoTarget, NoText}
 use Rattle.pf_top.specs.declared.fault.FileFault.{FileFault}
 use Rattle.pf_top.specs.Meaning.Files.{kernel_file, rule_file}
 

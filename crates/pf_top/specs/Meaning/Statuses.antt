@@ -1,5 +1,5 @@
 -- The statuses of the program and the lines that it puts, in the order of the table of docs/files.md.
-use Rattle.std.specs.Prelude.{ℕ, ◌+◌, List, [], ◌∷◌, codes, decimal, Option, Some, None, Ok, Err}
+use Rattle.std.specs.Prelude.{ℕ, ◌+◌, List, [], ◌∷◌, codes, decimal, Ok, Err}
 use Rattle.std.specs.Fmt.{signed_decimal}
 use Rattle.pf_ints.specs.Meaning.Targets.{target_word}
 use Rattle.pf_values.specs.Meaning.Limits.{limit_word}

@@ -1,5 +1,5 @@
 -- The words of the code as the definitions see them.
-use Rattle.std.specs.Prelude.{List, ℕ, map, string_bytes}
+use Rattle.std.specs.Prelude.{map, string_bytes}
 use Rattle.pf_top.specs.declared.command.Command.{Command as CommandWords}
 use Rattle.pf_top.specs.declared.command.Command.TheVariants.{Select as SelectWords, Run as RunOf, Eval}
 use Rattle.pf_top.specs.declared.command.Selection.{Selection}

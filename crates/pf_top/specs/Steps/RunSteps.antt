@@ -3,15 +3,13 @@ use Rattle.std.specs.Prelude.{◌≡◌, ◌≢◌, ℕ, suc, ◌+◌, ◌<◌, 
 use Rattle.std.specs.List.{AllZip}
 use Rattle.pf_ints.specs.Meaning.Images.{Picture}
 use Rattle.pf_values.specs.declared.kernel.ImageDecl.{ImageDecl}
-use Rattle.pf_images.specs.Meaning.Outside.{Contents, SameContents}
+use Rattle.pf_images.specs.Meaning.Outside.{SameContents}
 use Rattle.pf_images.specs.Meaning.Pgm.{pgm_text}
 use Rattle.pf_outside.specs.declared.stop.Stop.{Stop}
 use Rattle.pf_outside.specs.declared.stop.Stop.TheVariants.{Failed, Memory}
 use Rattle.pf_outside.specs.Meaning.Formats.{Format, Means, IsRefused}
 use Rattle.pf_outside.specs.Meaning.StoreCalls.{Store, StoreAfter, Well}
 use Rattle.pf_outside.specs.Steps.FileSteps.{Judged, JudgesBytes}
-use Rattle.pf_run.specs.declared.fault.RunFault.{RunFault}
-use Rattle.pf_run.specs.declared.fault.RunFault.TheVariants.{Set}
 use Rattle.pf_top.specs.declared.fault.Failure.{Failure}
 use Rattle.pf_top.specs.declared.fault.Failure.TheVariants.{NoText, Count, Run}
 use Rattle.pf_top.specs.declared.fault.FileFault.{FileFault}

@@ -1,6 +1,4 @@
-use Rattle.std.proofs.Common.{◌≡◌, ◌+◌, ◌<◌, length, get_or, [], sym, ap, ◌∙◌, subst, List, ℕ}
-use Rattle.std.proofs.lemmas.Option.{get_or_from_slice_get}
-use Rattle.pf_images.specs.Meaning.Outside.{Changes, Appends, AppendsPart}
+use Rattle.std.proofs.Common.{sym}
 use Rattle.pf_outside.proofs.Telling.{put_next, put_failed, poor_next, other_rest}
 use Rattle.pf_outside.proofs.report.tell.Goals as goal
 

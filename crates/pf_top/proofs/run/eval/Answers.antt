@@ -17,6 +17,7 @@ pub read_images-requires : goal.read_images-requires
 read_images-requires g c =
     let decls : c.as_slice.result.now ≡ c.in_ok-kernel.kernel.source.images = c.as_slice.ensures ∙ c.images.ensures in
     rw decls (pixel_decls c.in_ok-kernel.kernel.source.images c.names-names.ensures.kept.names.pixels)
+
 pub returns-in_err-images : goal.returns-in_err-images
 returns-in_err-images g c =
     let decls : c.as_slice.result.now ≡ c.in_ok-kernel.kernel.source.images = c.as_slice.ensures ∙ c.images.ensures in

@@ -1,11 +1,6 @@
-use Rattle.std.proofs.Common.{◌≡◌, List, ℕ, rules, sym, ◌∙◌, true}
+use Rattle.std.proofs.Common.{rules, ◌∙◌}
 use Rattle.std.proofs.lemmas.Result.{err_from_is_err_and}
-use Rattle.pf_values.specs.Meaning.Kernels.{Source}
-use Rattle.pf_select.specs.Meaning.Targets.{IsBuilt, IsSelectedOn}
-use Rattle.pf_top.specs.Meaning.Files.{rule_file}
-use Rattle.pf_top.specs.Meaning.Selections.{IsUnbuilt}
 use Rattle.pf_top.specs.Steps.CommandSteps.{the_words}
-use Rattle.pf_top.specs.Steps.RunSteps.{JudgedAs}
 use Rattle.pf_top.proofs.Selecting.{not_built, some_built, no_target, kernel_stopped, unselected, lift_stopped, rules_wanted, lower_stopped, ended, unended}
 use Rattle.pf_top.proofs.select.select.Goals as goal
 
