@@ -13,6 +13,9 @@ pub struct Avx2Rows;
 /// The instructions of AVX2, as a set for the machine.
 pub type Avx2 = SetOf<Avx2Rows>;
 
+/// A vector instruction of AVX2.
+pub type Op = pf_tables::Op<Avx2Rows>;
+
 impl Rows for Avx2Rows {
     const TARGET: Target = Target::Avx2;
 

@@ -4,5 +4,5 @@
 mod avx2;
 mod rows;
 
-pub use avx2::{Avx2, Avx2Rows};
+pub use avx2::{Avx2, Avx2Rows, Op};
 pub use rows::Mnemonic;

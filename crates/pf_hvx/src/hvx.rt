@@ -13,6 +13,9 @@ pub struct HvxRows;
 /// The instructions of HVX, as a set for the machine.
 pub type Hvx = SetOf<HvxRows>;
 
+/// A vector instruction of HVX.
+pub type Op = pf_tables::Op<HvxRows>;
+
 impl Rows for HvxRows {
     const TARGET: Target = Target::Hvx;
 

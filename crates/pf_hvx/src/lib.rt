@@ -4,5 +4,5 @@
 mod hvx;
 mod rows;
 
-pub use hvx::{Hvx, HvxRows};
+pub use hvx::{Hvx, HvxRows, Op};
 pub use rows::Mnemonic;

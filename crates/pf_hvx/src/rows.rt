@@ -2,7 +2,9 @@ ghost use Rattle.std.specs.Prelude.{◌≡◌, ◌<◌};
 ghost use Rattle.pf_hvx.specs.Meaning.Rows.{place, word_at, pattern_at, row_at};
 
 use pf_lanes::Place;
-use pf_tables::{COPIED, Entry, NONE, Row, Shape, Style, entry_at, in_turn, mixed, one, same, three, two};
+use pf_tables::{
+    COPIED, Entry, NONE, Row, Shape, Style, entry_at, in_turn, mixed, one, same, three, two,
+};
 
 /// The names of the rows that make lanes: those behind the rows that each table has.
 #[derive(Clone, Copy)]

@@ -10,7 +10,7 @@ ghost use Rattle.pf_values.specs.Meaning.NamedTerms.{is_named};
 ghost use Rattle.pf_machine.specs.Meaning.Heads.{IsDecl, IsTap, image_name, def_name};
 ghost use Rattle.pf_isa.specs.Steps.HeadSteps.{WordsGoOn, DeclarationGoesOn, TapOrOutGoesOn, OutWordsGoOn, ImageGoesOn, TapGoesOn, OutGoesOn, LiftedGoesOn, TermGoesOn, IsDefinitionOf, IsFitting, IsRoom, HasTermNames};
 ghost use Rattle.pf_isa.specs.Steps.HeadWords.{IsTheOne, IsLiftedName, is_sign, is_space, lifted_words, words_in};
-ghost use Rattle.pf_isa.specs.Meaning.TextFaults.{texts, SoFar, empty_head, head_names, names_so_far, GoesOn, GoesOnAt, stage_behind};
+ghost use Rattle.pf_isa.specs.Meaning.TextFaults.{texts, SoFar, empty_head, head_names, names_so_far, GoesOn, GoesOnAt, stage_behind, IsNextImage, head_with_image, head_with_tap};
 ghost use Rattle.pf_isa.specs.declared.so_far.Stage.TheVariants.{Declarations, Scratch, Lifted, Cost, Code};
 
 use crate::head_words::{cost_of, image_of, lifted_of, out_of, scratch_of, tap_of};
@@ -129,17 +129,32 @@ impl HeadSoFar {
             || has_lifted(self.head.lifted.as_slice(), name)
     }
 
+    // Whether the image may come next.
+    fn may_take_image(&self, image: &ImageDecl) -> bool
+        requires { IsDecl image.now }
+        ensures { IsTrue result ↔ IsNextImage self.now.head image.now }
+    {
+        !self.has_name(image.name.as_slice())
+            && self.head.taps.is_empty()
+            && self.head.images.len() < MOST_IMAGES
+    }
+
     fn with_image(self, image: &ImageDecl) -> Result<Option<HeadSoFar>, Memory>
         requires stage { self.stage ≡ Declarations }
         requires image { IsDecl image.now }
         ensures { IfOk result (IsTheOne (ImageGoesOn self.head image.now)) }
     {
-        if self.has_name(image.name.as_slice()) || !self.head.taps.is_empty() {
-            return Ok(None);
+        if self.may_take_image(image) {
+            Ok(Some(self.behind_image(image)?))
+        } else {
+            Ok(None)
         }
-        if MOST_IMAGES <= self.head.images.len() {
-            return Ok(None);
-        }
+    }
+
+    // What is so far with the image.
+    fn behind_image(self, image: &ImageDecl) -> Result<HeadSoFar, Memory>
+        ensures { IfOk result (λ next. next ≡ record self { head = head_with_image self.head image.now }) }
+    {
         let HeadSoFar {
             stage,
             mut head,
@@ -147,12 +162,12 @@ impl HeadSoFar {
             nodes,
         } = self;
         push_image(&mut head, &mut names, image)?;
-        Ok(Some(HeadSoFar {
+        Ok(HeadSoFar {
             stage,
             head,
             names,
             nodes,
-        }))
+        })
     }
 
     fn with_tap(self, tap: Tap) -> Result<Option<HeadSoFar>, Memory>
@@ -161,8 +176,16 @@ impl HeadSoFar {
         ensures { IfOk result (IsTheOne (TapGoesOn self.head tap)) }
     {
         if has_tap(self.head.taps.as_slice(), tap) || MOST_TAPS <= self.head.taps.len() {
-            return Ok(None);
+            Ok(None)
+        } else {
+            Ok(Some(self.behind_tap(tap)?))
         }
+    }
+
+    // What is so far with the tap.
+    fn behind_tap(self, tap: Tap) -> Result<HeadSoFar, Memory>
+        ensures { IfOk result (λ next. next ≡ record self { head = head_with_tap self.head tap }) }
+    {
         let HeadSoFar {
             stage,
             mut head,
@@ -170,12 +193,12 @@ impl HeadSoFar {
             nodes,
         } = self;
         push_tap(&mut head, &mut names, tap)?;
-        Ok(Some(HeadSoFar {
+        Ok(HeadSoFar {
             stage,
             head,
             names,
             nodes,
-        }))
+        })
     }
 
     fn with_out(self, ty: LaneType) -> Option<HeadSoFar>

@@ -94,7 +94,7 @@ pub const PLAIN: &[Entry] = &[
     plain! { b"strh", b" w\0, [x\0]", StoreHalf },
     plain! { b"cmp", b" x\0, x\0", CompareNumbers },
     plain! { b"ret", b"", Return },
-    plain! { b"add", b" x\0, x\0, #\0, lsl #12", AddHigh },
+    plain! { b"add", b" x\0, x\0, #\0, lsl #12", AddPages },
     plain! { b"", b"", Absent },
     plain! { b"ldr", b" q\0, [x\0, #\0]", Load },
     plain! { b"str", b" q\0, [x\0, #\0]", Store },

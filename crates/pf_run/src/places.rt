@@ -15,7 +15,7 @@ use std::alloc::Global;
 pub const TABLE: u64 = 65_536;
 
 /// Where the regions behind the table start.
-#[derive(Debug, Drop)]
+#[derive(Drop)]
 pub struct Starts {
     pub scratch: u64,
     pub images: Vec<u64>,

@@ -211,7 +211,7 @@ pub fn is_control(shape: Shape) -> bool
         | Shape::StorePointer
         | Shape::Add
         | Shape::Sub
-        | Shape::AddHigh
+        | Shape::AddPages
         | Shape::AddRegister
         | Shape::LoadByte
         | Shape::LoadHalf
@@ -237,7 +237,7 @@ pub fn made_control<R: Rows>(shape: Shape, _place: usize, ns: &[u32]) -> Option<
         Shape::StorePointer => store_pointer::<R>(ns),
         Shape::Add => add::<R>(ns, false, number(ns, 2)),
         Shape::Sub => add::<R>(ns, true, number(ns, 2)),
-        Shape::AddHigh => add::<R>(ns, false, number(ns, 2) % 65536 * 4096),
+        Shape::AddPages => add::<R>(ns, false, number(ns, 2) % 65536 * 4096),
         Shape::AddRegister => add_register::<R>(ns),
         Shape::LoadByte => Control::LoadByte { to: a, at: b },
         Shape::LoadHalf => Control::LoadHalf { to: a, at: b },

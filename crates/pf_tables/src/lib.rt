@@ -7,6 +7,8 @@ mod entries;
 mod instruction;
 mod isa;
 mod lines;
+mod made;
+mod moves;
 mod op;
 mod operands;
 mod recipes;

@@ -141,7 +141,11 @@ impl Instruction {
                 Self::Pair(place, ends_renamed::<R>(to, old, new), r.renamed(old, new))
             }
             Self::PairUnary(place, to, n) => {
-                Self::PairUnary(place, ends_renamed::<R>(to, old, new), renamed_vector(n, old, new))
+                Self::PairUnary(
+                    place,
+                    ends_renamed::<R>(to, old, new),
+                    renamed_vector(n, old, new),
+                )
             }
             Self::Move(place, to, r) => {
                 Self::Move(place, ends_renamed::<R>(to, old, new), r.renamed(old, new))

@@ -32,7 +32,7 @@ pub enum Shape {
     SetNumber,
     Add,
     Sub,
-    AddHigh,
+    AddPages,
     AddRegister,
     LoadByte,
     LoadHalf,
@@ -61,7 +61,8 @@ pub struct Row {
     /// How those of the upper vector of a pair are made.
     pub high: Recipe,
     pub extent: Extent,
-    /// Whether the recipe takes the right one of two vectors first.
+    /// Whether the recipe takes the right one of two vectors first. Where elements are moved: whether
+    /// they are separated, and not put in turn.
     pub swapped: bool,
     /// The amount of a work that has a fixed one.
     pub amount: u8,

@@ -1,4 +1,2 @@
 pub mod NoNames
 pub mod Formed
-pub mod Memories
-pub mod RowBlocks

@@ -393,9 +393,14 @@ const WRITTEN: &[(&[u8], &[u8])] = &[
     ),
 ];
 
+/// What is written of a text's kernel.
+fn written(alloc: Global, text: &[u8]) -> Result<Vec<u8>, Fail> {
+    let kernel = read_kernel(alloc, text)?;
+    Ok(write_kernel(alloc, &kernel)?)
+}
+
 fn try_written<R: Abort + AllocGlobal>(rt: &R, text: &[u8], wanted: &[u8]) -> Result<(), Fail> {
-    let kernel = read_kernel(rt.alloc(), text)?;
-    let written = write_kernel(rt.alloc(), &kernel)?;
+    let written = written(rt.alloc(), text)?;
     same_bytes(rt, written.as_slice(), wanted);
     Ok(())
 }
@@ -409,12 +414,22 @@ fn kernels_are_written(rt: HostRuntime) -> Result<(), Fail> {
     Ok(())
 }
 
+/// The size of the output of a text's kernel on images of this size.
+fn size_of(
+    alloc: Global,
+    text: &[u8],
+    width: u32,
+    height: u32,
+) -> Result<Option<(u32, u32)>, Fail> {
+    let kernel = read_kernel(alloc, text)?;
+    Ok(out_size(&kernel, width, height))
+}
+
 #[test]
 fn outputs_have_sizes(rt: HostRuntime) -> Result<(), Fail> {
-    let text = joined(rt.alloc(), FRONT, b"out u8 = min(a[1,-1], a[3,-2])")?;
-    let kernel = read_kernel(rt.alloc(), text.as_slice())?;
-    assert_eq!(rt; out_size(&kernel, 5, 3), Some((2, 1)));
-    assert_eq!(rt; out_size(&kernel, 3, 3), None);
-    assert_eq!(rt; out_size(&kernel, 5, 2), None);
+    let text = b"kernel k\nimage a u8\nout u8 = min(a[1,-1], a[3,-2])";
+    assert!(rt; size_of(rt.alloc(), text, 5, 3)? == Some((2, 1)));
+    assert!(rt; size_of(rt.alloc(), text, 3, 3)?.is_none());
+    assert!(rt; size_of(rt.alloc(), text, 5, 2)?.is_none());
     Ok(())
 }

@@ -1,4 +1,4 @@
-//! Tests of the crates below the commands, one module for each crate that is tried.
+//! Tests of texts and of what they say: numbers, terms, kernels, images and programs.
 #![tactic(auto)]
 
 #[cfg(test)]
@@ -9,18 +9,6 @@ mod images;
 mod ints;
 #[cfg(test)]
 mod kernels;
-#[cfg(test)]
-mod machine;
-#[cfg(test)]
-mod neon;
-#[cfg(test)]
-mod neon_programs;
-#[cfg(test)]
-mod programs;
-#[cfg(test)]
-mod rows;
-#[cfg(test)]
-mod runs;
 #[cfg(test)]
 mod tables;
 #[cfg(test)]

@@ -188,7 +188,7 @@ fn taps_stand_in_their_order(rt: HostRuntime) -> Result<(), Fail> {
     let _term = read_term(rt.alloc(), text, &mut names)?;
     // What is written with `<` is read as its sides exchanged.
     let wanted = [tap(1, 0, 0), tap(0, 0, 0), tap(0, 1, -1)];
-    assert_eq!(rt; names.taps.as_slice(), wanted.as_slice());
+    assert!(rt; names.taps.as_slice() == wanted.as_slice());
     Ok(())
 }
 

@@ -23,10 +23,15 @@ fn read_twice(alloc: Global, text: &[u8]) -> Result<Program<Neon>, TextFault> {
     reread(alloc, &program)
 }
 
+/// What is written of a text.
+fn written(alloc: Global, text: &[u8]) -> Result<Vec<u8>, Fail> {
+    let program = read_twice(alloc, text)?;
+    Ok(write_text(alloc, &program)?)
+}
+
 /// Tries that this is written of a text.
 fn try_written<R: Abort + AllocGlobal>(rt: &R, text: &[u8], wanted: &[u8]) -> Result<(), Fail> {
-    let program = read_twice(rt.alloc(), text)?;
-    let written = write_text(rt.alloc(), &program)?;
+    let written = written(rt.alloc(), text)?;
     same_bytes(rt, written.as_slice(), wanted);
     Ok(())
 }

@@ -1,24 +1,26 @@
 -- Lists of images beside their names and declarations.
-use Rattle.std.proofs.Common.{◌≡◌, ℕ, zero, suc, ◌+◌, List, [], ◌∷◌, ◌++◌, take, zip, map, min, length, ◌≤◌, Some, Ok, Err, arith, subst, sym, ap, get_or, ◌∙◌}
+use Rattle.std.proofs.Common.{◌≡◌, ℕ, zero, suc, ◌+◌, ◌<◌, List, [], ◌∷◌, ◌++◌, take, zip, map, length, ◌≤◌, Some, Ok, Err, arith, subst, sym, ap, get_or, ◌∙◌}
 use Rattle.std.specs.Prelude.{slice_get}
 use Rattle.std.specs.List.{AllZip}
 use Rattle.std.specs.Option.{option_map}
-use Rattle.std.proofs.lemmas.List.{take_more, take_all, length-take-le, length-map}
-use Rattle.std.proofs.lemmas.Slice.Zip.{AllZip-long, length-zip}
+use Rattle.std.proofs.lemmas.List.{take_more, take_all, length-map}
 use Rattle.std.proofs.lemmas.Option.{slice_get_within, get_or_from_slice_get, slice_get-map}
 use Rattle.pf_ints.specs.Meaning.Images.{Picture}
 use Rattle.pf_values.specs.declared.kernel.ImageDecl.{ImageDecl}
-use Rattle.pf_images.specs.declared.files.FilesFault.TheVariants.{Memory}
 use Rattle.pf_images.specs.Meaning.Outside.{Contents, SameContents}
-use Rattle.pf_top.specs.declared.image_files.ImageRefusal.{ImageRefusal}
-use Rattle.pf_top.specs.declared.judging.Stop.{Stop}
-use Rattle.pf_top.specs.declared.judging.Stop.TheVariants.{Unread}
-use Rattle.pf_top.specs.Meaning.StoreCalls.{Store, Well, StoreAfter, FileStartsWith}
-use Rattle.pf_top.specs.Steps.FileSteps.{JudgesFile, Judged, calls_of_judging, HoldImages, calls_of_images}
-use Rattle.pf_top.specs.Meaning.ImageFiles.{HoldsImage, IsImageFile, RefusesImage, image_limit}
-use Rattle.pf_top.proofs.StoreCalls.{After, after_then, after_judged, judges_before}
+use Rattle.pf_outside.specs.declared.stop.Stop.{Stop}
+use Rattle.pf_outside.specs.declared.stop.Stop.TheVariants.{Missing, Unreadable, Refused, Failed, Unwritten, Memory}
+use Rattle.pf_outside.specs.Meaning.Formats.{Means, IsRefused}
+use Rattle.pf_outside.specs.Meaning.StoreCalls.{Store, StoreAfter, Well}
+use Rattle.pf_outside.proofs.StoreCalls.{judged_lost}
+use Rattle.pf_outside.proofs.Tasks.{after_judged}
+use Rattle.pf_top.specs.declared.fault.Failure.{Failure}
+use Rattle.pf_top.specs.declared.fault.FileFault.{FileFault}
+use Rattle.pf_top.specs.Meaning.Files.{image_file, image_limit}
+use Rattle.pf_top.specs.Meaning.Running.{HoldsImage}
+use Rattle.pf_top.specs.Steps.RunSteps.{JudgedAs, HeldImages, StopsAtImage, ReadsImages}
 
-pub zip_at : {A B : Type 0} (xs : List A) (ys : List B) (n : ℕ) (x : A) (y : B) → slice_get xs n ≡ Some x → slice_get ys n ≡ Some y → slice_get (zip xs ys) n ≡ Some (x, y)
+zip_at : {A B : Type 0} (xs : List A) (ys : List B) (n : ℕ) (x : A) (y : B) → slice_get xs n ≡ Some x → slice_get ys n ≡ Some y → slice_get (zip xs ys) n ≡ Some (x, y)
 zip_at [] ys n x y e f = absurd (cc)
 zip_at (a ∷ more) [] n x y e f = absurd (cc)
 zip_at (a ∷ more) (b ∷ rest) zero x y e f = cc
@@ -37,57 +39,59 @@ all_zip_next R xs ys n x y there all this =
     let same : get_or xs n x ≡ x = get_or_from_slice_get xs n x x there in
     subst (λ front. AllZip R front (ys ++ y ∷ [])) (sym (rw same at longer)) (push R (take n xs) ys x y all this)
 
-abbrev pub AllHeld : List (List ℕ × ImageDecl) → List Picture → Contents → Type 0
-AllHeld ws pictures files = AllZip (HoldsImage files) ws pictures
-
 -- the next image is read, of a name and a declaration
-module _ {X : Type 0} (g : X → List ℕ) (names : List X) (decls : List ImageDecl) (n : ℕ) (x : X) (d : ImageDecl) (name : List ℕ)
-    (there : slice_get names n ≡ Some x) (here : slice_get decls n ≡ Some d) (is : name ≡ g x)
-    (pictures : List Picture) (b c e : Store) (before : After (AllHeld (take n (zip (map g names) decls)) pictures) n b c) where
-  pair : slice_get (zip (map g names) decls) n ≡ Some (name, d)
-  pair = zip_at (map g names) decls n name d (slice_get-map g names n ∙ ap (option_map g) there ∙ ap Some (sym is)) here
+module _ {X : Type 0} (g : X → List ℕ) (names : List X) (decls : List ImageDecl) (n number : ℕ) (x : X) (d : ImageDecl) (name : List ℕ)
+    (count : length names ≡ length decls) (there : slice_get names n ≡ Some x) (here : slice_get decls n ≡ Some d) (is : name ≡ g x) (numbered : number ≡ n + 1)
+    (pictures : List Picture) (b c e : Store) (before : HeldImages (zip (map g names) decls) n pictures b c) where
+  named : slice_get (map g names) n ≡ Some name
+  named = slice_get-map g names n ∙ ap (option_map g) there ∙ ap Some (sym is)
 
-  pub images_stop : (s : Stop ImageRefusal) → Judged {A = Picture} (IsImageFile d.ty) (RefusesImage d.ty) name (image_limit + 1) c (Err s) e
-      → StoreAfter (λ old new. HoldImages (zip (map g names) decls) (Err (record { image = n; stop = s })) old × SameContents old new) (calls_of_images (Err (record { image = n; stop = s }))) b e
-  images_stop s step =
-      after_then (AllHeld (take n (zip (map g names) decls)) pictures) (JudgesFile {A = Picture} (IsImageFile d.ty) (RefusesImage d.ty) name (image_limit + 1) (Err s))
-      (HoldImages (zip (map g names) decls) (Err (record { image = n; stop = s }))) n (calls_of_judging {A = Picture} (Err s)) b c e
-      (λ m o same held judged. (pictures, (name, d), held, pair, judges_before {A = Picture} (IsImageFile d.ty) (RefusesImage d.ty) name (image_limit + 1) (Err s) m o same judged)) before step
+  counted : length (map g names) ≡ length decls
+  counted = length-map names g ∙ count
 
-  pub images_next : (picture : Picture) → Judged (IsImageFile d.ty) (RefusesImage d.ty) name (image_limit + 1) c (Ok picture) e
-      → After (AllHeld (take (n + 1) (zip (map g names) decls)) (pictures ++ picture ∷ [])) (n + 1) b e
+  stops : (s : Stop FileFault Failure) → JudgedAs (image_file d.ty) number name c (Err s) e → StopsAtImage (map g names) decls b s e
+  stops s step = record {
+    number = n;
+    pictures = pictures;
+    name = name;
+    decl = d;
+    middle = c;
+    within = slice_get_within (map g names) n name named;
+    named = named;
+    declared = here;
+    held = before;
+    judged = let up : number ≡ suc n = omega (arith, numbered) in subst (λ k. JudgedAs (image_file d.ty) k name c (Err s) e) up step;
+  }
+
+  pub images_stop : (s : Stop FileFault Failure) → JudgedAs (image_file d.ty) number name c (Err s) e → ReadsImages (map g names) decls b (Err s) e
+  images_stop (Missing k) step = (counted, stops (Missing k) step)
+  images_stop (Unreadable k) step = (counted, stops (Unreadable k) step)
+  images_stop (Refused k fault) step = (counted, stops (Refused k fault) step)
+  images_stop (Failed f) step = absurd step.at
+  images_stop Unwritten step = (counted, stops Unwritten step)
+  images_stop Memory step = (counted, stops Memory step)
+
+  pub images_next : (picture : Picture) → JudgedAs (image_file d.ty) number name c (Ok picture) e → HeldImages (zip (map g names) decls) (n + 1) (pictures ++ picture ∷ []) b e
   images_next picture step =
-      let went : After (AllHeld (take (n + 1) (zip (map g names) decls)) (pictures ++ picture ∷ [])) (1 + n) b e =
-      after_judged (IsImageFile d.ty) (RefusesImage d.ty) (AllHeld (take n (zip (map g names) decls)) pictures) (AllHeld (take (n + 1) (zip (map g names) decls)) (pictures ++ picture ∷ []))
-      name (image_limit + 1) n b c e picture
-      (λ m held this. all_zip_next (HoldsImage m) (zip (map g names) decls) pictures n (name, d) picture pair held this) before step in
+      let went : StoreAfter (λ old new. Next old × SameContents old new) (Well (1 + n)) b e = after_judged (Means (image_file d.ty)) (IsRefused (image_file d.ty)) _ Next name (image_limit + 1) n number b c e picture
+          (λ m held this. all_zip_next (HoldsImage m) (zip (map g names) decls) pictures n (name, d) picture (zip_at (map g names) decls n name d named here) held this) before step in
       let same : 1 + n ≡ n + 1 = omega arith in
-      subst (λ k. After (AllHeld (take (n + 1) (zip (map g names) decls)) (pictures ++ picture ∷ [])) k b e) same went
+      subst (λ k. StoreAfter (λ old new. Next old × SameContents old new) (Well k) b e) same went
+    where
+      Next : Contents → Type 0
+      Next m = AllZip (HoldsImage m) (take (n + 1) (zip (map g names) decls)) (pictures ++ picture ∷ [])
 
   -- memory is wanting to keep it
-  pub images_lost : (picture : Picture) → Judged (IsImageFile d.ty) (RefusesImage d.ty) name (image_limit + 1) c (Ok picture) e
-      → StoreAfter (λ old new. HoldImages (zip (map g names) decls) (Err (record { image = n; stop = Unread Memory })) old × SameContents old new) (calls_of_images (Err (record { image = n; stop = Unread Memory }))) b e
-  images_lost picture step =
-      let went : StoreAfter (λ old new. HoldImages (zip (map g names) decls) (Err (record { image = n; stop = Unread Memory })) old × SameContents old new) (Well (1 + n)) b e =
-      after_then (AllHeld (take n (zip (map g names) decls)) pictures) (FileStartsWith name (image_limit + 1) (IsImageFile d.ty picture))
-      (HoldImages (zip (map g names) decls) (Err (record { image = n; stop = Unread Memory }))) n (Well 1) b c e
-      (λ m o same held judged. (pictures, (name, d), held, pair, tt)) before step in
-      record { contents = went.contents; faults = went.faults; calls = (1 + n, omega arith, went.calls) }
+  pub images_lost : (picture : Picture) → JudgedAs (image_file d.ty) number name c (Ok picture) e → ReadsImages (map g names) decls b (Err Memory) e
+  images_lost picture step = images_stop Memory (judged_lost (Means (image_file d.ty)) (IsRefused (image_file d.ty)) number name (image_limit + 1) c e picture step)
 
 -- all images were read
-module _ {X : Type 0} (g : X → List ℕ) (names : List X) (decls : List ImageDecl) (n : ℕ) (pictures : List Picture) (b c : Store) where
-  pub images_all : (R : ImageDecl → Picture → Type 0) → length names ≡ length decls → n ≤ length names → length names ≤ n → AllZip R (take n decls) pictures
-      → After (AllHeld (take n (zip (map g names) decls)) pictures) n b c
-      → StoreAfter (λ old new. AllZip (HoldsImage old) (zip (map g names) decls) pictures × SameContents old new) (Well (length pictures)) b c
-  images_all R count most least types read =
-      let zipped : length (zip (map g names) decls) ≡ min (length (map g names)) (length decls) = length-zip (map g names) decls in
-      let mapped : length (map g names) ≡ length names = length-map names g in
-      let whole : take n (zip (map g names) decls) ≡ zip (map g names) decls = take_all n (zip (map g names) decls) (omega (arith, zipped, mapped, least)) in
-      let taken : length (take n decls) ≡ n = length-take-le n decls (omega (arith, count, most)) in
-      let long : length pictures ≡ n = AllZip-long R (take n decls) pictures types ∙ taken in
-      let first : StoreAfter (λ old new. AllZip (HoldsImage old) (zip (map g names) decls) pictures × SameContents old new) (Well n) b c =
-      subst (λ ws. After (AllHeld ws pictures) n b c) whole read in
-      subst (λ k. StoreAfter (λ old new. AllZip (HoldsImage old) (zip (map g names) decls) pictures × SameContents old new) (Well k) b c) (sym long) first
+pub images_all : {X : Type 0} (g : X → List ℕ) (names : List X) (decls : List ImageDecl) (n : ℕ) (pictures : List Picture) (b c : Store) → length names ≡ length decls → n ≤ length names → length names ≤ n
+    → HeldImages (zip (map g names) decls) n pictures b c → ReadsImages (map g names) decls b (Ok pictures) c
+images_all g names decls n pictures b c count most least read =
+    let mapped : length (map g names) ≡ length names = length-map names g in
+    let same : n ≡ length (map g names) = omega (arith, mapped, most, least) in
+    (mapped ∙ count, subst (λ k. HeldImages (zip (map g names) decls) k pictures b c) same read)
 
-  pub types_all : (R : ImageDecl → Picture → Type 0) → length names ≡ length decls → length names ≤ n → AllZip R (take n decls) pictures → AllZip R decls pictures
-  types_all R count least types = subst (λ ds. AllZip R ds pictures) (take_all n decls (omega (arith, count, least))) types
+pub types_all : (R : ImageDecl → Picture → Type 0) (decls : List ImageDecl) (n : ℕ) (pictures : List Picture) → length decls ≤ n → AllZip R (take n decls) pictures → AllZip R decls pictures
+types_all R decls n pictures least types = subst (λ ds. AllZip R ds pictures) (take_all n decls least) types

@@ -1,13 +1,46 @@
 -- Words are those of one command at most.
 use Rattle.std.proofs.Common.{◌≡◌, ◌≢◌, ℕ, List, [], ◌∷◌, ◌++◌, refl, sym, ap, subst, ◌∙◌, get_or, arith}
 use Rattle.std.specs.Prelude.{codes}
+use Rattle.pf_ints.specs.declared.target.Target.{Target}
+use Rattle.pf_ints.specs.declared.target.Target.TheVariants.{Neon, Avx2, Hvx}
+use Rattle.pf_ints.specs.Meaning.Targets.{target_word}
 use Rattle.pf_top.specs.Meaning.Commands.{Command, Selecting, Running, Evaluating, IsCommand}
 use Rattle.pf_top.specs.Meaning.Running.{Run, IsRunCommand}
 use Rattle.pf_top.specs.Meaning.Selections.{Select, IsSelect}
-use Rattle.pf_top.proofs.CompletingSelection.{same_select}
 use Rattle.pf_top.proofs.SameWords.{same_run}
 
 -- words that begin with other letters are others
+other_letter : (v w : List ℕ) → v ≡ w → get_or v 0 0 ≢ get_or w 0 0 → ⊥
+other_letter v w e other = other (ap (λ word. get_or word 0 0) e)
+
+same_target : (t u : Target) → target_word t ≡ target_word u → t ≡ u
+same_target Neon Neon e = refl
+same_target Avx2 Avx2 e = refl
+same_target Hvx Hvx e = refl
+same_target Neon Avx2 e = absurd (other_letter (codes "neon") (codes "avx2") e (omega arith))
+same_target Neon Hvx e = absurd (other_letter (codes "neon") (codes "hvx") e (omega arith))
+same_target Avx2 Neon e = absurd (other_letter (codes "avx2") (codes "neon") e (omega arith))
+same_target Avx2 Hvx e = absurd (other_letter (codes "avx2") (codes "hvx") e (omega arith))
+same_target Hvx Neon e = absurd (other_letter (codes "hvx") (codes "neon") e (omega arith))
+same_target Hvx Avx2 e = absurd (other_letter (codes "hvx") (codes "avx2") e (omega arith))
+
+-- the words of a selection are those of no other
+pub same_select : (words : List (List ℕ)) (s t : Select) → IsSelect words s → IsSelect words t → s ≡ t
+same_select words s t is also =
+    let words_are : codes "select" ∷ target_word s.target ∷ s.kernel ∷ s.lift ∷ s.lower ∷ s.out ∷ [] ≡ codes "select" ∷ target_word t.target ∷ t.kernel ∷ t.lift ∷ t.lower ∷ t.out ∷ [] = sym is ∙ also in
+    let word : target_word s.target ≡ target_word t.target = cc in
+    let target : s.target ≡ t.target = same_target s.target t.target word in
+    let kernel : s.kernel ≡ t.kernel = cc in
+    let lift : s.lift ≡ t.lift = cc in
+    let lower : s.lower ≡ t.lower = cc in
+    let out : s.out ≡ t.out = cc in
+    made s.target s.kernel s.lift s.lower s.out t target kernel lift lower out
+  where
+    made : (target : Target) (kernel lift lower out : List ℕ) (t : Select) → target ≡ t.target → kernel ≡ t.kernel → lift ≡ t.lift → lower ≡ t.lower → out ≡ t.out
+        → ◌≡◌ {A = Select} (record { target = target; kernel = kernel; lift = lift; lower = lower; out = out }) t
+    made target kernel lift lower out t a b c d e = rw (a, b, c, d, e) refl
+
+-- words of other commands are others
 abbrev first_letter : List (List ℕ) → ℕ
 first_letter [] = 0
 first_letter (word ∷ more) = get_or word 0 0

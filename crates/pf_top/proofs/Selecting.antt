@@ -1,164 +1,120 @@
 -- How the steps of `select` make the whole call.
-use Rattle.std.proofs.Common.{◌≡◌, ◌≢◌, ◌↔◌, ℕ, ◌+◌, ◌≤◌, List, Result, Ok, Err, ◌∙◌, refl, sym, ap, subst, arith}
-use Rattle.std.specs.Prelude.{⊤}
+use Rattle.std.proofs.Common.{◌≡◌, ◌↔◌, Bool, true, false, ℕ, suc, ◌+◌, ◌≤◌, ◌<◌, List, [], Result, Ok, Err, ◌∙◌, refl, sym, ap, subst, arith}
+use Rattle.std.specs.Prelude.{⊤, IsTrue}
+use Rattle.pf_ints.specs.declared.target.Target.{Target}
 use Rattle.pf_ints.specs.declared.target.Target.TheVariants.{Neon}
-use Rattle.pf_images.specs.declared.files.FilesFault.{FilesFault}
-use Rattle.pf_images.specs.declared.files.FilesFault.TheVariants.{Missing as MissingFault, Failed as FailedFault, Memory as MemoryFault}
-use Rattle.pf_top.specs.declared.judging.Stop.{Stop}
-use Rattle.pf_top.specs.declared.judging.Stop.TheVariants.{Unread, Refused}
-use Rattle.pf_top.specs.declared.judging.Unwritten.{Unwritten}
-use Rattle.pf_top.specs.declared.judging.Unwritten.TheVariants.{Failed as NotWritten, Memory as NoMemory}
+use Rattle.pf_values.specs.Meaning.Kernels.{Source}
+use Rattle.pf_images.specs.Meaning.Outside.{Contents}
 use Rattle.pf_kernel.specs.Meaning.Kernels.{Meaning}
-use Rattle.pf_top.specs.declared.kernel_file.KernelRefusal.{KernelRefusal}
-use Rattle.pf_top.specs.declared.verdict.FileWord.{FileWord}
-use Rattle.pf_top.specs.declared.verdict.FileWord.TheVariants.{Kernel, Lift, Lower}
-use Rattle.pf_top.specs.declared.verdict.Verdict.{Verdict}
-use Rattle.pf_top.specs.declared.verdict.Verdict.TheVariants.{Done, TargetNotBuilt, KernelRefused, NotBuilt, Missing, ReadFailed, WriteFailed, Memory}
-use Rattle.pf_top.specs.Meaning.KernelFiles.{IsKernelFile, RefusesKernel}
-use Rattle.pf_images.specs.Meaning.Outside.{Contents, SameContents}
-use Rattle.pf_top.specs.Meaning.StoreCalls.{Store, Calls, Well, Lacking, Failing, Wanting, StoreAfter}
-use Rattle.pf_top.specs.Steps.FileSteps.{Judged, Written}
-use Rattle.pf_select.specs.Meaning.Targets.{IsSelectedOn}
-use Rattle.pf_top.specs.Meaning.Selections.{Select, EndsWith, Selects, Reaches, FileFits, Effect, IsSelectableKernel, HasForm, IsOther, OfJudged, file_name, place, limit, calls_of}
-use Rattle.pf_top.specs.Steps.SelectSteps.{unread_at, at, stopped, at_kernel, unwritten, Unselected}
-use Rattle.pf_top.proofs.StoreCalls.{After, after_none, after_judged, begins_before, weaker_begins, changes_weaker, went_then, same_then, puts_then, puts_part_then}
+use Rattle.pf_kernel.specs.Meaning.Texts.{byte_limit}
+use Rattle.pf_outside.specs.declared.stop.Stop.{Stop}
+use Rattle.pf_outside.specs.declared.stop.Stop.TheVariants.{Missing, Unreadable, Refused, Failed, Unwritten, Memory}
+use Rattle.pf_outside.specs.Meaning.Formats.{Holds, Means, IsRefused}
+use Rattle.pf_outside.specs.Meaning.StoreCalls.{Store}
+use Rattle.pf_outside.specs.Meaning.Tasks.{EndsWith, Verdict}
+use Rattle.pf_outside.specs.Steps.FileSteps.{Written}
+use Rattle.pf_outside.proofs.StoreCalls.{After, after_none}
+use Rattle.pf_outside.proofs.Tasks.{after_judged, barred, stopped, failed, wanted, written}
+use Rattle.pf_select.specs.Meaning.MinOfTaps.{byte_type, min_term}
+use Rattle.pf_select.specs.Meaning.Targets.{IsBuilt, IsSelectedOn}
+use Rattle.pf_top.specs.declared.fault.Failure.{Failure}
+use Rattle.pf_top.specs.declared.fault.Failure.TheVariants.{Target as NoTarget, NoText, Count, Run}
+use Rattle.pf_top.specs.declared.fault.FileFault.{FileFault}
+use Rattle.pf_top.specs.Meaning.Files.{kernel_file, rule_file, rule_limit}
+use Rattle.pf_top.specs.Meaning.Selections.{Select, IsUnbuilt, BarsSelect, Selects, HoldsLift, HoldsLower, lift_text, lower_text, selecting}
+use Rattle.pf_top.specs.Steps.RunSteps.{JudgedAs, Unselected}
 
--- a verdict that no target gives
-other_verdict : (s : Select) (v : Verdict) → s.target ≡ Neon → v ≢ TargetNotBuilt → (v ≡ TargetNotBuilt) ↔ (s.target ≢ Neon)
-other_verdict s v neon other = (λ e. absurd (other e), λ ne. absurd (ne neon))
+-- a kernel that a text is selected for
+pub neon_built : (source : Source) × IsBuilt Neon source
+neon_built = (
+  record { images = []; taps = []; defs = []; out_ty = byte_type; out = min_term byte_type 0 0 },
+  (0, 0, record { taps = λ n d low. absurd (omega (arith, low)); defs = refl; out_ty = refl; out = refl }),
+)
 
-pub came : (s : Select) (b d : Store) (v : Verdict) (c : Calls) → s.target ≡ Neon → v ≢ TargetNotBuilt → c ≡ calls_of v → StoreAfter (Effect s v) c b d → EndsWith s b v d
-came s b d v c neon other same went = record { target = other_verdict s v neon other; went = subst (λ c. StoreAfter (Effect s v) c b d) same went }
+-- what the test of a target finds
+pub not_built : (t : Target) (b : Bool) → b ≡ false → IsTrue b ↔ ((source : Source) × IsBuilt t source) → IsUnbuilt t
+not_built t b is built source some = absurd (let yes : b ≡ true = built.1 (source, some) in cc)
 
--- a file that comes to be judged behind good ones stops the call where it isn't read
-module _ {A R : Type 0} (P : A → List ℕ → Type 0) (E : R → List ℕ → Type 0) (s : Select) (w : FileWord) (Q : Contents → Type 0) (k : ℕ) (b c d : Store)
-    (neon : s.target ≡ Neon) (counted : 1 + k ≡ place w) (reach : (m : Contents) → Q m → Reaches s m w) (good : After Q k b c) where
-  few : (u : FileWord) → place u ≤ 4
-  few Kernel = omega arith
-  few Lift = omega arith
-  few Lower = omega arith
+pub some_built : (t : Target) (b : Bool) → b ≡ true → IsTrue b ↔ ((source : Source) × IsBuilt t source) → (source : Source) × IsBuilt t source
+some_built t b is built = built.0 is
 
-  unread : (fault : FilesFault) → Judged P E (file_name s w) (limit w + 1) c (Err (Unread fault)) d → EndsWith s b (unread_at w fault) d
-  unread MissingFault step =
-      came s b d (Missing w) (Lacking (1 + k)) neon (λ e. cc) (ap Lacking counted)
-      (went_then _ _ _ k (Lacking 1) b c d (λ m n o p q. (reach m p.0, sym (p.1 (file_name s w)) ∙ q.0, same_then m n o p.1 q.1)) good step)
-  unread FailedFault step =
-      came s b d (ReadFailed w) (Failing (1 + k)) neon (λ e. cc) (ap Failing counted)
-      (went_then _ _ _ k (Failing 1) b c d (λ m n o p q. (reach m p.0, same_then m n o p.1 q.1)) good step)
-  unread MemoryFault step =
-      let went : StoreAfter SameContents (Wanting (1 + k)) b d = went_then _ _ _ k (Wanting 1) b c d (λ m n o p q. same_then m n o p.1 q.1) good step in
-      let most : place w ≤ 4 = few w in
-      came s b d Memory (Wanting 4) neon (λ e. cc) refl (record { contents = went.contents; faults = went.faults; calls = (went.calls.0, omega (arith, went.calls.1, counted), went.calls.2) })
+-- the target isn't built
+pub no_target : (s : Select) (b : Store) → IsUnbuilt s.target → EndsWith (selecting s) b (Err (Failed (NoTarget s.target))) b
+no_target s b none = barred (selecting s) (NoTarget s.target) b tt refl (refl, none) only (λ m. (refl, none))
+  where
+    only : (f : Failure) → BarsSelect s f → NoTarget s.target ≡ f
+    only (NoTarget t) bars = ap NoTarget (sym bars.0)
+    only NoText bars = absurd bars
+    only (Count want got) bars = absurd bars
+    only (Run e) bars = absurd bars
 
-abbrev pub RefusedForm : FileWord → ⊤ → List ℕ → Type 0
-RefusedForm w _ bytes = IsOther w bytes
+module _ (s : Select) (some : (source : Source) × IsBuilt s.target source) where
+  free : (f : Failure) → BarsSelect s f → ⊥
+  free (NoTarget t) bars = bars.1 some.0 (subst (λ u. IsBuilt u some.0) (sym bars.0) some.1)
+  free NoText bars = bars
+  free (Count want got) bars = bars
+  free (Run e) bars = bars
 
--- or where it is other than what is built
-module _ {A : Type 0} (P : A → List ℕ → Type 0) (s : Select) (w : FileWord) (Q : Contents → Type 0) (k : ℕ) (b c d : Store)
-    (neon : s.target ≡ Neon) (counted : 1 + k ≡ place w) (reach : (m : Contents) → Q m → Reaches s m w) (good : After Q k b c) where
-  stop : (e : Stop ⊤) → Judged P (RefusedForm w) (file_name s w) (limit w + 1) c (Err e) d → EndsWith s b (stopped w e) d
-  stop (Refused _) step =
-      came s b d (NotBuilt w) (Well (1 + k)) neon (λ e. cc) (ap Well counted)
-      (went_then _ _ _ k (Well 1) b c d (λ m n o p q. (reach m p.0, begins_before (file_name s w) (limit w + 1) (IsOther w) m n p.1 q.0, same_then m n o p.1 q.1)) good step)
-  stop (Unread fault) step = unread P (RefusedForm w) s w Q k b c d neon counted reach good fault step
+  -- the kernel's file stops the call
+  pub kernel_stopped : (b c : Store) (e : Stop FileFault Failure) → JudgedAs kernel_file 0 s.kernel b (Err e) c → EndsWith (selecting s) b (Err e) c
+  kernel_stopped b c e step = stopped (selecting s) free (λ _. Unit {0}) 0 b b (after_none b) (Means kernel_file) (IsRefused kernel_file) s.kernel (byte_limit + 1) (omega arith) refl (λ m _. tt) (λ m e _ is. is) c e step
 
-  pub stops : (r : Result A (Stop ⊤)) (v : Verdict) → at w r ≡ Err v → Judged P (RefusedForm w) (file_name s w) (limit w + 1) c r d → EndsWith s b v d
-  stops (Ok x) v is step = absurd (cc)
-  stops (Err e) v is step = let same : stopped w e ≡ v = cc in subst (λ v. EndsWith s b v d) same (stop e step)
+  module _ (k : Meaning) (b c : Store) (one : JudgedAs kernel_file 0 s.kernel b (Ok k) c) where
+    abbrev HasKernel : Contents → Type 0
+    HasKernel m = Holds kernel_file s.kernel k m
 
--- the kernel's file, which is the first, stops the call
-pub came_kernel : (s : Select) (b d : Store) → s.target ≡ Neon → (r : Result Meaning (Stop KernelRefusal)) (v : Verdict) → at_kernel r ≡ Err v
-    → Judged IsKernelFile RefusesKernel s.kernel (limit Kernel + 1) b r d → EndsWith s b v d
-came_kernel s b d neon (Ok x) v is step = absurd (cc)
-came_kernel s b d neon (Err (Refused e)) v is step =
-    let same : KernelRefused e ≡ v = cc in
-    subst (λ v. EndsWith s b v d) same (came s b d (KernelRefused e) (Well 1) neon (λ e. cc) refl step)
-came_kernel s b d neon (Err (Unread fault)) v is step =
-    let same : unread_at Kernel fault ≡ v = cc in
-    subst (λ v. EndsWith s b v d) same (unread IsKernelFile RefusesKernel s Kernel (λ _. Unit {0}) 0 b b d neon refl (λ m _. tt) (after_none b) fault step)
+    has_kernel : After HasKernel 1 b c
+    has_kernel = after_judged (Means kernel_file) (IsRefused kernel_file) (λ _. Unit {0}) HasKernel s.kernel (byte_limit + 1) 0 0 b b c k (λ m _ is. is) (after_none b) one
 
--- what was judged good
-pub judged_good : {A : Type 0} (P : A → List ℕ → Type 0) (E : ⊤ → List ℕ → Type 0) (w : FileWord) (name : List ℕ) (most : ℕ) (b c : Store) (r : Result A (Stop ⊤)) (x : A) → at w r ≡ Ok x → Judged P E name most b r c → Judged P E name most b (Ok x) c
-judged_good P E w name most b c (Ok y) x is step = let same : y ≡ x = cc in subst (λ y. Judged P E name most b (Ok y) c) same step
-judged_good P E w name most b c (Err e) x is step = absurd (cc)
+    -- no text is selected for it, or memory was wanting
+    pub unselected : (e : Stop FileFault Failure) → Unselected (IsBuilt s.target k.source) e → EndsWith (selecting s) b (Err e) c
+    unselected (Failed NoText) none = failed (selecting s) free HasKernel 1 b c has_kernel NoText tt refl (omega arith) (λ m is. (k, is, none))
+    unselected (Failed (NoTarget t)) why = absurd why
+    unselected (Failed (Count want got)) why = absurd why
+    unselected (Failed (Run e)) why = absurd why
+    unselected (Missing n) why = absurd why
+    unselected (Unreadable n) why = absurd why
+    unselected (Refused n e) why = absurd why
+    unselected Unwritten why = absurd why
+    unselected Memory why = wanted (selecting s) free HasKernel 1 b c has_kernel (omega arith)
 
-pub good_kernel : (name : List ℕ) (most : ℕ) (b c : Store) (r : Result Meaning (Stop KernelRefusal)) (k : Meaning) → at_kernel r ≡ Ok k → Judged IsKernelFile RefusesKernel name most b r c → Judged IsKernelFile RefusesKernel name most b (Ok k) c
-good_kernel name most b c (Ok y) k is step = let same : y ≡ k = cc in subst (λ y. Judged IsKernelFile RefusesKernel name most b (Ok y) c) same step
-good_kernel name most b c (Err (Refused e)) k is step = absurd (cc)
-good_kernel name most b c (Err (Unread fault)) k is step = absurd (cc)
+    module _ (text : List ℕ) (built : IsBuilt s.target k.source) (selected : IsSelectedOn s.target k.source text) where
+      -- the first rule file stops the call
+      pub lift_stopped : (d : Store) (e : Stop FileFault Failure) → JudgedAs (rule_file lift_text) 1 s.lift c (Err e) d → EndsWith (selecting s) b (Err e) d
+      lift_stopped d e step =
+          stopped (selecting s) free HasKernel 1 b c has_kernel (Means (rule_file lift_text)) (IsRefused (rule_file lift_text)) s.lift (rule_limit + 1) (omega arith) refl (λ m is. (k, is, built)) (λ m e _ is. is) d e step
 
--- what the files hold once one, two and three of them were judged
-abbrev pub HasKernel : Select → Meaning → Contents → Type 0
-HasKernel s k files = OfJudged s Kernel (IsKernelFile k) files
+      module _ (d : Store) (two : JudgedAs (rule_file lift_text) 1 s.lift c (Ok tt) d) where
+        abbrev HasLift : Contents → Type 0
+        HasLift m = HasKernel m × HoldsLift s m
 
-abbrev pub HasLift : Select → Meaning → Contents → Type 0
-HasLift s k files = HasKernel s k files × FileFits s files Lift
+        has_lift : After HasLift 2 b d
+        has_lift = after_judged (Means (rule_file lift_text)) (IsRefused (rule_file lift_text)) HasKernel HasLift s.lift (rule_limit + 1) 1 1 b c d tt (λ m q is. (q, is)) has_kernel two
 
-abbrev pub HasAll : Select → Meaning → Contents → Type 0
-HasAll s k files = HasLift s k files × FileFits s files Lower
+        -- memory is wanting for the rules that are built
+        pub rules_wanted : EndsWith (selecting s) b (Err Memory) d
+        rules_wanted = wanted (selecting s) free HasLift 2 b d has_lift (omega arith)
 
-abbrev pub RuleSays : FileWord → ⊤ → List ℕ → Type 0
-RuleSays w _ bytes = HasForm w bytes
+        -- the second rule file stops the call
+        pub lower_stopped : (e : Store) (w : Stop FileFault Failure) → JudgedAs (rule_file (lower_text s.target)) 2 s.lower d (Err w) e → EndsWith (selecting s) b (Err w) e
+        lower_stopped e w step =
+            stopped (selecting s) free HasLift 2 b d has_lift (Means (rule_file (lower_text s.target))) (IsRefused (rule_file (lower_text s.target))) s.lower (rule_limit + 1) (omega arith) refl (λ m is. ((k, is.0, built), is.1)) (λ m e _ is. is) e w step
 
--- the kernel is another than is built
-came_other : (s : Select) (k : Meaning) (b c : Store) → s.target ≡ Neon → (IsSelectableKernel k → ⊥)
-    → Judged IsKernelFile RefusesKernel s.kernel (limit Kernel + 1) b (Ok k) c → EndsWith s b (NotBuilt Kernel) c
-came_other s k b c neon none step = came s b c (NotBuilt Kernel) (Well 1) neon (λ e. cc) refl (record {
-  contents = changes_weaker _ _ (λ m n q. (tt, weaker_begins s.kernel (limit Kernel + 1) (IsKernelFile k) (IsOther Kernel) m (λ front is. (k, is, none)) q.0, q.1)) b.held c.held step.contents;
-  faults = step.faults;
-  calls = step.calls;
-})
+        module _ (e : Store) (three : JudgedAs (rule_file (lower_text s.target)) 2 s.lower d (Ok tt) e) (f : Store) where
+          abbrev HasAll : Contents → Type 0
+          HasAll m = HasLift m × HoldsLower s m
 
-pub came_unselected : (s : Select) (k : Meaning) (b c : Store) (v : Verdict) → s.target ≡ Neon → Unselected k v → Judged IsKernelFile RefusesKernel s.kernel (limit Kernel + 1) b (Ok k) c → EndsWith s b v c
-came_unselected s k b c Memory neon why step =
-    came s b c Memory (Wanting 4) neon (λ e. cc) refl (record { contents = changes_weaker _ _ (λ m n q. q.1) b.held c.held step.contents; faults = step.faults; calls = (1, omega arith, step.calls) })
-came_unselected s k b c (NotBuilt Kernel) neon why step = came_other s k b c neon why step
-came_unselected s k b c (NotBuilt Lift) neon why step = absurd why
-came_unselected s k b c (NotBuilt Lower) neon why step = absurd why
-came_unselected s k b c Done neon why step = absurd why
-came_unselected s k b c TargetNotBuilt neon why step = absurd why
-came_unselected s k b c (KernelRefused _) neon why step = absurd why
-came_unselected s k b c (Missing _) neon why step = absurd why
-came_unselected s k b c (ReadFailed _) neon why step = absurd why
-came_unselected s k b c WriteFailed neon why step = absurd why
+          has_all : After HasAll 3 b e
+          has_all = after_judged (Means (rule_file (lower_text s.target))) (IsRefused (rule_file (lower_text s.target))) HasLift HasAll s.lower (rule_limit + 1) 2 2 b d e tt (λ m q is. (q, is)) has_lift three
 
-reach_lift : (s : Select) (k : Meaning) → IsSelectableKernel k → (m : Contents) → HasKernel s k m → FileFits s m Kernel
-reach_lift s k built m has = weaker_begins s.kernel (limit Kernel + 1) (IsKernelFile k) (HasForm Kernel) m (λ front is. (k, is, built)) has
+          makes : (m : Contents) → HasAll m → Selects s [] text m
+          makes m q = record { kernel = k; spelled = q.0.0; lift = q.0.1; lower = q.1; taken = built; selected = selected; none = refl }
 
-abbrev pub written_verdict : Result ⊤ Unwritten → Verdict
-written_verdict (Ok _) = Done
-written_verdict (Err u) = unwritten u
+          last : {A : Type 0} (w : Result A (Stop FileFault Failure)) (v : Verdict FileFault Failure) → Written s.out text e w f → ((x : A) → w ≡ Ok x → v ≡ Ok []) → ((t : Stop FileFault Failure) → w ≡ Err t → v ≡ Err t) → EndsWith (selecting s) b v f
+          last w v step done stop = written (selecting s) free HasAll 3 b e has_all refl [] text s.out refl makes f w v step done stop
 
-module _ (s : Select) (neon : s.target ≡ Neon) (k : Meaning) (built : IsSelectableKernel k) (b c : Store) (one : Judged IsKernelFile RefusesKernel s.kernel (limit Kernel + 1) b (Ok k) c) where
-  after_kernel : After (HasKernel s k) 1 b c
-  after_kernel = after_judged IsKernelFile RefusesKernel (λ _. Unit {0}) (HasKernel s k) s.kernel (limit Kernel + 1) 0 b b c k (λ m _ is. is) (after_none b) one
+          pub ended : {A : Type 0} (x : A) → Written {A = A} {E = FileFault} {F = Failure} s.out text e (Ok x) f → EndsWith (selecting s) b (Ok []) f
+          ended x step = last (Ok x) (Ok []) step (λ y same. refl) (λ t same. absurd (cc))
 
-  pub came_lift : (d : Store) (r : Result ⊤ (Stop ⊤)) (v : Verdict) → at Lift r ≡ Err v → Judged (RuleSays Lift) (RefusedForm Lift) s.lift (limit Lift + 1) c r d → EndsWith s b v d
-  came_lift d r v is step = stops (RuleSays Lift) s Lift (HasKernel s k) 1 b c d neon refl (reach_lift s k built) after_kernel r v is step
-
-  module _ (d : Store) (x : ⊤) (two : Judged (RuleSays Lift) (RefusedForm Lift) s.lift (limit Lift + 1) c (Ok x) d) where
-    good_lift : After (HasLift s k) 2 b d
-    good_lift = after_judged (RuleSays Lift) (RefusedForm Lift) (HasKernel s k) (HasLift s k) s.lift (limit Lift + 1) 1 b c d x (λ m q is. (q, is)) after_kernel two
-
-    pub came_lower : (e : Store) (r : Result ⊤ (Stop ⊤)) (v : Verdict) → at Lower r ≡ Err v → Judged (RuleSays Lower) (RefusedForm Lower) s.lower (limit Lower + 1) d r e → EndsWith s b v e
-    came_lower e r v is step = stops (RuleSays Lower) s Lower (HasLift s k) 2 b d e neon refl (λ m q. (reach_lift s k built m q.0, q.1)) good_lift r v is step
-
-    module _ (e : Store) (y : ⊤) (three : Judged (RuleSays Lower) (RefusedForm Lower) s.lower (limit Lower + 1) d (Ok y) e) where
-      good_lower : After (HasAll s k) 3 b e
-      good_lower = after_judged (RuleSays Lower) (RefusedForm Lower) (HasLift s k) (HasAll s k) s.lower (limit Lower + 1) 2 b d e y (λ m q is. (q, is)) good_lift three
-
-      -- the text is written where all files have their forms
-      module _ (text : List ℕ) (selected : IsSelectedOn Neon k.source text) (f : Store) where
-        selects : (m : Contents) → HasAll s k m → Selects s m text
-        selects m q = record { kernel = k; spelled = q.0.0; lift = q.0.1; lower = q.1; taken = built; selected = selected }
-
-        pub came_written : (r : Result ⊤ Unwritten) → Written s.out text e r f → EndsWith s b (written_verdict r) f
-        came_written (Ok z) step =
-            came s b f Done (Well 4) neon (λ e. cc) refl
-            (went_then _ _ _ 3 (Well 1) b e f (λ m n o p q. (text, selects m p.0, puts_then s.out text m n o p.1 q)) good_lower step)
-        came_written (Err NotWritten) step =
-            came s b f WriteFailed (Failing 4) neon (λ e. cc) refl
-            (went_then _ _ _ 3 (Failing 1) b e f (λ m n o p q. (text, selects m p.0, puts_part_then s.out text m n o p.1 q)) good_lower step)
-        came_written (Err NoMemory) step =
-            came s b f Memory (Wanting 4) neon (λ e. cc) refl
-            (went_then _ _ _ 3 (Wanting 1) b e f (λ m n o p q. same_then m n o p.1 q) good_lower step)
+          pub unended : {A : Type 0} (t : Stop FileFault Failure) → Written {A = A} s.out text e (Err t) f → EndsWith (selecting s) b (Err t) f
+          unended {A} t step = last {A = A} (Err t) (Err t) step (λ y same. absurd (cc)) (λ u same. cc)

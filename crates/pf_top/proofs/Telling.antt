@@ -1,78 +1,85 @@
--- What is put where memory is wanting for a line.
-use Rattle.std.proofs.Common.{◌≡◌, ◌≢◌, ℕ, zero, suc, ◌≤◌, ◌⊎◌, inl, inr, List, [], ◌∷◌, ◌++◌, take, Option, Some, None, Result, Ok, Err, ◌∙◌, refl, sym, ap, subst, append-nil, arith}
-use Rattle.std.specs.Prelude.{⊤, codes}
-use Rattle.pf_images.specs.declared.files.FilesFault.{FilesFault}
-use Rattle.pf_images.specs.declared.files.FilesFault.TheVariants.{Missing as MissingFault, Failed as FailedFault, Memory as MemoryFault}
-use Rattle.pf_images.specs.Meaning.Counts.{raised, raised_by, Rose}
-use Rattle.pf_images.specs.Meaning.Outside.{Changes, Appends, AppendsPart, Adds, HasCause}
-use Rattle.pf_top.specs.Meaning.StoreCalls.{RaisedUpTo}
-use Rattle.pf_top.specs.Meaning.Statuses.{report, line_of, memory_line, wanting, write_failed, Output, ReportsLine}
-use Rattle.pf_top.proofs.StoreCalls.{changes_then, changes_weaker}
+-- Status 0 is told of success alone.
+use Rattle.std.proofs.Common.{◌≡◌, ℕ, ◌<◌, ◌⊎◌, inl, inr, List, Ok, Err, refl, subst, arith}
+use Rattle.pf_images.specs.declared.fault.ImageFault.TheVariants.{At as ImageAt, Memory as ImageMemory}
+use Rattle.pf_images.specs.Meaning.Counts.{Rose}
+use Rattle.pf_isa.specs.declared.fault.TextFault.TheVariants.{At as TextAt, Memory as TextMemory}
+use Rattle.pf_kernel.specs.declared.fault.KernelFault.TheVariants.{Syntax, Name, Types, Limit, Memory as KernelMemory}
+use Rattle.pf_outside.specs.declared.stop.Stop.{Stop}
+use Rattle.pf_outside.specs.declared.stop.Stop.TheVariants.{Missing, Unreadable, Refused, Failed, Unwritten, Memory}
+use Rattle.pf_outside.specs.Meaning.Reports.{Report, Output, Reports, wanting, write_failed}
+use Rattle.pf_outside.specs.Meaning.Tasks.{Task, Verdict}
+use Rattle.pf_run.specs.declared.fault.RunFault.TheVariants.{Text as RunText, Set, Outside, Spent, Memory as RunMemory}
+use Rattle.pf_run.specs.declared.fault.SetFault.TheVariants.{Count as SetCount, Kind, Size, Pixel, NoOutput}
+use Rattle.pf_top.specs.declared.fault.Failure.{Failure}
+use Rattle.pf_top.specs.declared.fault.Failure.TheVariants.{Target, NoText, Count, Run}
+use Rattle.pf_top.specs.declared.fault.FileFault.{FileFault}
+use Rattle.pf_top.specs.declared.fault.FileFault.TheVariants.{Kernel, NotBuilt, Text, LongText, Image, LongImage}
+use Rattle.pf_top.specs.Meaning.Statuses.{report_of, report_of_file, report_of_failure}
 
--- nothing was appended in so many calls
-pub record Quiet (count : ℕ) (before after : Output) : Type 0 where
-  pub written : Changes (Appends []) before.written after.written
-  pub faults : after.faults ≡ before.faults
-  pub calls : after.calls ≡ raised_by count before.calls
+-- neither of its statuses is 0
+abbrev IsSome : Report → Type 0
+IsSome d = (0 < d.status) × (0 < d.poor_status)
 
-nothing_appended : (held : Option (List ℕ)) → Changes (Appends []) held held
-nothing_appended None = refl
-nothing_appended (Some bytes) = sym (append-nil bytes)
-
-pub quiet_start : (b : Output) → Quiet 0 b b
-quiet_start b = record { written = nothing_appended b.written; faults = refl; calls = refl }
-
-no_part : (count : ℕ) → take {A = ℕ} count [] ≡ []
-no_part zero = refl
-no_part (suc count) = refl
-
--- what was told of wanting memory after nothing was put is told of the line that memory was wanting for
-pub want_after : (count status : ℕ) (line : List ℕ) (b m a : Output) (n : ℕ) → count ≤ 1 → Quiet count b m → ReportsLine wanting m n a → a.calls ≡ raised m.calls → ReportsLine (report status line) b n a
+file_told : (name : List ℕ) (e : FileFault) → IsSome (report_of_file name e)
 unfolding wanting
-want_after count status line b m a n few quiet (inl said) counted = inr (inr (record {
-  status = said.status;
-  written = changes_then _ _ _ (λ old mid new p q. inr (q ∙ ap (λ u. u ++ memory_line) (p ∙ append-nil old))) b.written m.written a.written quiet.written said.written;
-  faults = said.faults ∙ quiet.faults;
-  calls = (suc count, omega arith, counted ∙ ap raised quiet.calls);
-}))
-want_after count status line b m a n few quiet (inr (inl failed)) counted = inr (inl (record {
-  status = failed.status;
-  put = inr (cut failed.put, (suc count, omega arith, counted ∙ ap raised quiet.calls));
-  faults = subst (λ f. Rose f a.faults) quiet.faults failed.faults;
-}))
-  where
-    cut : (Changes (AppendsPart memory_line) m.written a.written × (a.calls ≡ raised m.calls)) ⊎ (Changes (AppendsPart []) m.written a.written × RaisedUpTo 2 m.calls a.calls) → Changes (AppendsPart memory_line) b.written a.written
-    cut (inl part) = changes_then _ _ _ (λ old mid new p q. (q.0, q.1 ∙ ap (λ u. u ++ take q.0 memory_line) (p ∙ append-nil old))) b.written m.written a.written quiet.written part.0
-    cut (inr none) = changes_then _ _ _ (λ old mid new p q. (0, q.1 ∙ ap (λ u. mid ++ u) (no_part q.0) ∙ ap (λ u. u ++ []) (p ∙ append-nil old))) b.written m.written a.written quiet.written none.0
-want_after count status line b m a n few quiet (inr (inr wanted)) counted = inr (inr (record {
-  status = wanted.status;
-  written = changes_then _ _ _ (λ old mid new p q. inl (none old mid new p q)) b.written m.written a.written quiet.written wanted.written;
-  faults = wanted.faults ∙ quiet.faults;
-  calls = (suc count, omega arith, counted ∙ ap raised quiet.calls);
-}))
-  where
-    none : (old mid new : List ℕ) → Appends [] old mid → Appends [] mid new ⊎ Appends [] mid new → Appends [] old new
-    none old mid new p (inl q) = q ∙ ap (λ u. u ++ []) (p ∙ append-nil old)
-    none old mid new p (inr q) = q ∙ ap (λ u. u ++ []) (p ∙ append-nil old)
+file_told name (Kernel (Syntax at column)) = (omega arith, omega arith)
+file_told name (Kernel (Name at other)) = (omega arith, omega arith)
+file_told name (Kernel (Types at want got)) = (omega arith, omega arith)
+file_told name (Kernel (Limit what count)) = (omega arith, omega arith)
+file_told name (Kernel KernelMemory) = (omega arith, omega arith)
+file_told name NotBuilt = (omega arith, omega arith)
+file_told name (Image (ImageAt at kind)) = (omega arith, omega arith)
+file_told name (Image ImageMemory) = (omega arith, omega arith)
+file_told name LongImage = (omega arith, omega arith)
+file_told name (Text (TextAt at kind)) = (omega arith, omega arith)
+file_told name (Text TextMemory) = (omega arith, omega arith)
+file_told name LongText = (omega arith, omega arith)
 
--- one put that took no memory
-pub quiet_put : (b m : Output) → Changes (Appends []) b.written m.written → m.faults ≡ b.faults → m.calls ≡ raised b.calls → Quiet 1 b m
-quiet_put b m written faults calls = record { written = written; faults = faults; calls = calls }
+failure_told : (t : Task FileFault Failure) (f : Failure) → IsSome (report_of_failure t f)
+unfolding wanting
+failure_told t (Target target) = (omega arith, omega arith)
+failure_told t NoText = (omega arith, omega arith)
+failure_told t (Count want got) = (omega arith, omega arith)
+failure_told t (Run (Set (SetCount want got))) = (omega arith, omega arith)
+failure_told t (Run (Set (Kind n))) = (omega arith, omega arith)
+failure_told t (Run (Set (Size n width height))) = (omega arith, omega arith)
+failure_told t (Run (Set (Pixel n x y value))) = (omega arith, omega arith)
+failure_told t (Run (Set NoOutput)) = (omega arith, omega arith)
+failure_told t (Run (RunText at kind)) = (omega arith, omega arith)
+failure_told t (Run (Outside at address count)) = (omega arith, omega arith)
+failure_told t (Run (Spent steps)) = (omega arith, omega arith)
+failure_told t (Run RunMemory) = (omega arith, omega arith)
 
--- whatever the put of the line on a failed write answers, 4 is the status
-pub told_write_failed : (name line : List ℕ) (b a : Output) (r : Result ⊤ FilesFault) → line ≡ line_of (codes "write failed: " ∷ name ∷ [])
-    → Adds line b.written a.written r → HasCause b.faults a.faults r → r ≢ Err MissingFault → a.calls ≡ raised b.calls → ReportsLine (write_failed name) b 4 a
-unfolding write_failed
-told_write_failed name line b a (Ok _) is written cause there calls = inl (record { status = refl; written = subst (λ u. Changes (Appends u) b.written a.written) is written; faults = cause; calls = calls })
-told_write_failed name line b a (Err FailedFault) is written cause there calls = inr (inl (record {
-  status = refl;
-  put = inl (subst (λ u. Changes (AppendsPart u) b.written a.written) is written, calls);
-  faults = cause;
-}))
-told_write_failed name line b a (Err MemoryFault) is written cause there calls = inr (inr (record {
-  status = refl;
-  written = changes_weaker _ _ (λ old new p. inl p) b.written a.written written;
-  faults = cause;
-  calls = (1, omega arith, calls);
-}))
-told_write_failed name line b a (Err MissingFault) is written cause there calls = absurd (there refl)
+stop_told : (t : Task FileFault Failure) (s : Stop FileFault Failure) → IsSome (report_of t (Err s))
+unfolding wanting write_failed
+stop_told t (Missing n) = (omega arith, omega arith)
+stop_told t (Unreadable n) = (omega arith, omega arith)
+stop_told t (Refused n e) = file_told _ e
+stop_told t (Failed f) = failure_told t f
+stop_told t Unwritten = (omega arith, omega arith)
+stop_told t Memory = (omega arith, omega arith)
+
+not_nought : (d : Report) (b a : Output) → Reports d b 0 a → IsSome d → ⊥
+not_nought d b a (inl made) some = let is : 0 ≡ d.status = made.status in omega (arith, some.0, is)
+not_nought d b a (inr (inl failed)) some = let is : 0 ≡ 4 = failed.status in omega (arith, is)
+not_nought d b a (inr (inr wanted)) some = let is : 0 ≡ d.poor_status = wanted.status in omega (arith, some.1, is)
+
+pub is_done : (t : Task FileFault Failure) (v : Verdict FileFault Failure) (b a : Output) (n : ℕ) → n ≡ 0 → Reports (report_of t v) b n a → (lines : List (List ℕ)) × (v ≡ Ok lines)
+is_done t (Ok lines) b a n nought made = (lines, refl)
+is_done t (Err s) b a n nought made = absurd (not_nought (report_of t (Err s)) b a (subst (λ k. Reports (report_of t (Err s)) b k a) nought made) (stop_told t s))
+
+-- where the output doesn't fail, one of the two statuses is answered
+answered : (d : Report) (b a : Output) (n : ℕ) → (Rose b.faults a.faults → ⊥) → Reports d b n a → (n ≡ d.status) ⊎ (n ≡ d.poor_status)
+answered d b a n calm (inl made) = inl made.status
+answered d b a n calm (inr (inl failed)) = absurd (calm failed.faults)
+answered d b a n calm (inr (inr wanted)) = inr wanted.status
+
+-- 0 or 13
+wanting_told : (n : ℕ) → (n ≡ wanting.status) ⊎ (n ≡ wanting.poor_status) → (n ≡ 0) ⊎ (n ≡ 13)
+unfolding wanting
+wanting_told n (inl is) = inr is
+wanting_told n (inr is) = inr is
+
+pub done_or_wanting : (t : Task FileFault Failure) (v : Verdict FileFault Failure) (b a : Output) (n : ℕ) → ((lines : List (List ℕ)) × (v ≡ Ok lines)) ⊎ (v ≡ Err Memory) → (Rose b.faults a.faults → ⊥) → Reports (report_of t v) b n a → (n ≡ 0) ⊎ (n ≡ 13)
+done_or_wanting t v b a n (inl done) calm made = answered (report_of t (Ok done.0)) b a n calm (subst (λ v. Reports (report_of t v) b n a) done.1 made)
+done_or_wanting t v b a n (inr wanted) calm made = wanting_told n (answered wanting b a n calm (subst (λ v. Reports (report_of t v) b n a) wanted made))

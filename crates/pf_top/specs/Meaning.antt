@@ -1,12 +1,5 @@
-pub mod StoreCalls
-pub mod ImageFiles
-pub mod KernelFiles
-pub mod KernelStatuses
+pub mod Files
 pub mod Running
-pub mod Completeness
-pub mod Commands
-pub mod RunStatuses
 pub mod Selections
-pub mod SelectStatuses
+pub mod Commands
 pub mod Statuses
-pub mod TextFiles

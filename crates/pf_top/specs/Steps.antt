@@ -1,4 +1,2 @@
-pub mod FileSteps
-pub mod RunSteps
-pub mod SelectSteps
 pub mod CommandSteps
+pub mod RunSteps

@@ -1,11 +1,11 @@
 ghost use Rattle.std.specs.Prelude.{◌≡◌, MatchOption, map, string_bytes};
-ghost use Rattle.pf_ints.specs.Meaning.Targets.{target_word};
-ghost use Rattle.pf_top.specs.Meaning.Commands.{Command as CommandOf, IsCommand};
-ghost use Rattle.pf_top.specs.Meaning.Selections.{Select, IsSelect};
-ghost use Rattle.pf_top.specs.Steps.CommandSteps.{the_command};
-ghost use Rattle.pf_top.specs.Steps.SelectSteps.{the_words};
+ghost use Rattle.pf_top.specs.Meaning.Commands.{Command as CommandOf, IsCommand, task_of};
+ghost use Rattle.pf_top.specs.Meaning.Running.{Run, IsRunCommand, programs, running};
+ghost use Rattle.pf_top.specs.Meaning.Selections.{Select, IsSelect, selecting};
+ghost use Rattle.pf_outside.specs.Meaning.Tasks.{file_name, out_name};
+ghost use Rattle.pf_top.specs.Steps.CommandSteps.{the_command, the_words, the_run};
 
-use crate::run_words::{RunWords, run_of};
+use crate::targets::target_of;
 use pf_ints::Target;
 
 /// The words of `select T KERNEL LIFT LOWER OUT`.
@@ -18,24 +18,22 @@ pub struct Selection<'a> {
     pub out: &'a str,
 }
 
+/// The words of `run TEXT IMG.. OUT` or `eval KERNEL IMG.. OUT`.
+#[derive(Clone, Copy)]
+pub struct RunWords<'a> {
+    /// The file of a program's text or of a kernel's.
+    pub text: &'a str,
+    /// One or more.
+    pub images: &'a [String],
+    pub out: &'a str,
+}
+
 /// A command with its words.
 #[derive(Clone, Copy)]
 pub enum Command<'a> {
     Select(Selection<'a>),
     Run(RunWords<'a>),
     Eval(RunWords<'a>),
-}
-
-/// The target of this word.
-fn target_of(word: &str) -> Option<Target>
-    ensures { MatchOption result ((t : Target) → word.now ≡ target_word t → ⊥) (λ t. word.now ≡ target_word t) }
-{
-    match word {
-        "neon" => Some(Target::Neon),
-        "avx2" => Some(Target::Avx2),
-        "hvx" => Some(Target::Hvx),
-        _ => None,
-    }
 }
 
 /// The selection that the words ask for, or None where they are of another form.
@@ -59,6 +57,27 @@ fn selection_of(words: &[String]) -> Option<Selection<'_>>
     })
 }
 
+/// What the words ask of this command, or None where they are of another form.
+pub fn run_of<'a>(command: &str, words: &'a [String]) -> Option<RunWords<'a>>
+    ensures { MatchOption result ((r : Run) → IsRunCommand command.now (map string_bytes words.now) r → ⊥)
+        (λ r. IsRunCommand command.now (map string_bytes words.now) (the_run r)) }
+{
+    let [run, text, images @ .., out] = words else {
+        return None;
+    };
+    if run.as_str() != command {
+        return None;
+    }
+    if images.is_empty() {
+        return None;
+    }
+    Some(RunWords {
+        text: text.as_str(),
+        images,
+        out: out.as_str(),
+    })
+}
+
 /// The command that the words are of, or None where they are of no form.
 #[tactic(auto, using(crate::proofs::OneCommand::no_command))]
 pub fn command_of(words: &[String]) -> Option<Command<'_>>
@@ -75,4 +94,49 @@ pub fn command_of(words: &[String]) -> Option<Command<'_>>
         return Some(Command::Eval(words));
     }
     None
+}
+
+/// The name of the file of this number, of a selection.
+fn select_name<'a>(words: &Selection<'a>, number: usize) -> &'a [u8]
+    ensures { result.now ≡ file_name (selecting (the_words words.now)) number }
+{
+    match number {
+        0 => words.kernel.as_bytes(),
+        1 => words.lift.as_bytes(),
+        2 => words.lower.as_bytes(),
+        _ => b"",
+    }
+}
+
+/// The name of the file of this number, of a run.
+fn run_name<'a>(words: &RunWords<'a>, number: usize) -> &'a [u8]
+    ensures { result.now ≡ file_name (running programs (the_run words.now)) number }
+{
+    if number == 0 {
+        return words.text.as_bytes();
+    }
+    match words.images.get(number - 1) {
+        Some(name) => name.as_bytes(),
+        None => b"",
+    }
+}
+
+/// The name of the file of this number, counted from 0, which is empty where there is none.
+pub fn file_name<'a>(command: &Command<'a>, number: usize) -> &'a [u8]
+    ensures { result.now ≡ file_name (task_of (the_command command.now)) number }
+{
+    match command {
+        Command::Select(words) => select_name(words, number),
+        Command::Run(words) | Command::Eval(words) => run_name(words, number),
+    }
+}
+
+/// The name of the file that is written.
+pub fn out_name<'a>(command: &Command<'a>) -> &'a [u8]
+    ensures { result.now ≡ out_name (task_of (the_command command.now)) }
+{
+    match command {
+        Command::Select(words) => words.out.as_bytes(),
+        Command::Run(words) | Command::Eval(words) => words.out.as_bytes(),
+    }
 }

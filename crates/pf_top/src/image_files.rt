@@ -1,39 +1,21 @@
 //! The files of images.
 
-ghost use Rattle.std.specs.Prelude.{◌≡◌, ◌+◌, ◌<◌, ◌≤◌, length, All, IfOk, IfErr, map, zip, string_bytes};
+ghost use Rattle.std.specs.Prelude.{◌≡◌, ◌<◌, All, IfOk, map, string_bytes};
 ghost use Rattle.std.specs.List.{AllZip};
 ghost use Rattle.pf_ints.specs.Meaning.Images.{IsPixelType};
-ghost use Rattle.pf_images.specs.Meaning.Outside.{SameContents};
-ghost use Rattle.pf_top.specs.Meaning.StoreCalls.{seen, StoreAfter};
-ghost use Rattle.pf_top.specs.Steps.FileSteps.{Judged, HoldImages, calls_of_images};
-ghost use Rattle.pf_top.specs.Meaning.ImageFiles.{image_limit, IsImageFile, RefusesImage};
-ghost use Rattle.pf_top.specs.Steps.SelectSteps.{JudgesBytes};
+ghost use Rattle.pf_outside.specs.Meaning.StoreCalls.{seen};
+ghost use Rattle.pf_top.specs.Meaning.Files.{image_limit, image_file};
+ghost use Rattle.pf_top.specs.Steps.RunSteps.{JudgedAs, JudgesAs, ReadsImages};
 
-use crate::judging::{Stop, read_front};
-use pf_images::{Files, FilesFault, ImageFault, PgmKind, read_pgm};
+use crate::fault::{Failure, FileFault, Stop};
+use pf_images::{Files, ImageFault, read_pgm};
 use pf_ints::{Image, ImageSet, LaneType, Sequence};
+use pf_outside::read_front;
 use pf_terms::ImageDecl;
 use std::alloc::Global;
 
-/// Why the file of an image is refused.
-#[derive(Clone, Copy, Debug, PartialEq, Eq)]
-pub enum ImageRefusal {
-    /// It has more bytes than are read.
-    TooLong,
-    /// The first fault of bytes that are no image: how many bytes stand before it, and its kind.
-    At { at: u64, kind: PgmKind },
-}
-
-/// Why the reading of images stopped.
-#[derive(Clone, Copy, Debug)]
-pub struct ImageStop {
-    /// The image, counted from 0.
-    pub image: usize,
-    pub stop: Stop<ImageRefusal>,
-}
-
 /// The most bytes of a file of an image.
-#[tactic(auto, unfolding(crate::specs::Meaning::ImageFiles::image_limit))]
+#[tactic(auto, unfolding(crate::specs::Meaning::Files::image_limit))]
 fn image_limit() -> u64
     ensures value { result ≡ image_limit }
     ensures low { result < 4294967296 }
@@ -41,19 +23,22 @@ fn image_limit() -> u64
     33_619_968
 }
 
-/// The image that the bytes of a file are.
-fn image_of(alloc: Global, bytes: &[u8], ty: LaneType) -> Result<Image, Stop<ImageRefusal>>
+/// The image that the bytes of the file of this number are.
+fn image_of(alloc: Global, number: usize, bytes: &[u8], ty: LaneType) -> Result<Image, Stop>
     requires { IsPixelType ty }
-    ensures found { JudgesBytes (IsImageFile ty) (RefusesImage ty) result bytes.now }
+    ensures found { JudgesAs (image_file ty) number result bytes.now }
     ensures ty { IfOk result (λ image. image.ty ≡ ty) }
 {
     if bytes.len() as u64 > image_limit() {
-        return Err(Stop::Refused(ImageRefusal::TooLong));
+        return Err(Stop::Refused(number, FileFault::LongImage));
     }
     match read_pgm(alloc, bytes, ty) {
         Ok(image) => Ok(image),
-        Err(ImageFault::At { at, kind }) => Err(Stop::Refused(ImageRefusal::At { at, kind })),
-        Err(ImageFault::Memory) => Err(Stop::Unread(FilesFault::Memory)),
+        Err(ImageFault::Memory) => Err(Stop::Memory),
+        Err(ImageFault::At { at, kind }) => {
+            let fault = FileFault::Image(ImageFault::At { at, kind });
+            Err(Stop::Refused(number, fault))
+        }
     }
 }
 
@@ -61,46 +46,42 @@ fn image_of(alloc: Global, bytes: &[u8], ty: LaneType) -> Result<Image, Stop<Ima
 fn read_image<F: Files>(
     alloc: Global,
     files: &mut F,
+    number: usize,
     name: &str,
     ty: LaneType,
-) -> Result<Image, Stop<ImageRefusal>>
+) -> Result<Image, Stop>
     requires { IsPixelType ty }
-    ensures judged { Judged (IsImageFile ty) (RefusesImage ty) name.now (image_limit + 1)
+    ensures judged { JudgedAs (image_file ty) number name.now
         (seen F.held F.faults F.calls files.old) result (seen F.held F.faults F.calls files.new) }
     ensures ty { IfOk result (λ image. image.ty ≡ ty) }
 {
-    let bytes = read_front(alloc, files, name, image_limit() + 1)?;
-    image_of(alloc, bytes.as_slice(), ty)
+    let bytes = read_front(alloc, files, number, name, image_limit() + 1)?;
+    image_of(alloc, number, bytes.as_slice(), ty)
 }
 
-/// The images of the files of these names, of the declared types, read in order.
+/// The images of the files of these names, of the declared types, read in order behind a text where
+/// there is one for each declaration.
 pub fn read_images<F: Files>(
     alloc: Global,
     files: &mut F,
     names: &[String],
     decls: &[ImageDecl],
-) -> Result<ImageSet, ImageStop>
-    requires count { length names.now ≡ length decls.now }
-    requires types { All (λ d. IsPixelType d.ty) decls.now }
-    ensures read { StoreAfter (λ old new. HoldImages (zip (map string_bytes names.now) decls.now) result old × SameContents old new)
-        (calls_of_images result)
-        (seen F.held F.faults F.calls files.old) (seen F.held F.faults F.calls files.new) }
-    ensures within { IfErr result (λ s. s.image < length names.now) }
+) -> Result<ImageSet, Stop>
+    requires { All (λ d. IsPixelType d.ty) decls.now }
+    ensures read { ReadsImages (map string_bytes names.now) decls.now
+        (seen F.held F.faults F.calls files.old) result (seen F.held F.faults F.calls files.new) }
     ensures types { IfOk result (λ images. AllZip (λ d p. p.ty ≡ d.ty) decls.now images) }
 {
+    if names.len() != decls.len() {
+        return Err(Stop::Failed(Failure::Count {
+            want: decls.len() as u64,
+            got: names.len() as u64,
+        }));
+    }
     let mut images = Sequence::new(alloc);
     'images: for (n, name) in names.iter().enumerate() {
-        let image = match read_image(alloc, files, name.as_str(), decls[n].ty) {
-            Ok(image) => image,
-            Err(stop) => return Err(ImageStop { image: n, stop }),
-        };
-        match images.push(image) {
-            Ok(()) => {}
-            Err(_want) => {
-                let stop = Stop::Unread(FilesFault::Memory);
-                return Err(ImageStop { image: n, stop });
-            }
-        }
+        let image = read_image(alloc, files, n + 1, name.as_str(), decls[n].ty)?;
+        images.push(image)?;
     }
     Ok(images)
 }

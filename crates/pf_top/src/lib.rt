@@ -3,21 +3,16 @@
 
 mod command;
 mod dispatch;
-mod eval;
+mod fault;
 mod image_files;
-mod judging;
 mod kernel_file;
-mod kernel_report;
-mod report;
+mod rules;
 mod run;
-mod run_report;
-mod run_verdict;
-mod run_words;
 mod select;
-mod select_report;
+mod statuses;
+mod targets;
 mod text_file;
 mod top;
-mod verdict;
 
-pub use report::tell_want;
+pub use pf_outside::tell_want;
 pub use top::pitchfork;

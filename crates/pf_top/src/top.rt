@@ -7,19 +7,17 @@ ghost use Rattle.pf_images.specs.Meaning.Outside.{Contents};
 ghost use Rattle.pf_images.specs.Meaning.Pgm.{pgm_text};
 ghost use Rattle.pf_kernel.specs.Meaning.Kernels.{Meaning};
 ghost use Rattle.pf_select.specs.Meaning.Targets.{HeadlineOn};
-ghost use Rattle.pf_top.specs.declared.verdict.FileWord.TheVariants.{Kernel};
-ghost use Rattle.pf_top.specs.Meaning.Commands.{Command as CommandOf, IsCommand, Does, CanDo};
-ghost use Rattle.pf_top.specs.Meaning.Completeness.{IsCalm, IsImageThere};
-ghost use Rattle.pf_top.specs.Meaning.KernelFiles.{IsKernelFile};
-ghost use Rattle.pf_top.specs.Meaning.Running.{Run, IsRunCommand};
-ghost use Rattle.pf_top.specs.Meaning.Selections.{Select, IsSelect, OfJudged};
-ghost use Rattle.pf_top.specs.Meaning.Statuses.{usage, ReportsLine, seen_output};
-ghost use Rattle.pf_top.specs.Meaning.StoreCalls.{seen};
-ghost use Rattle.pf_top.specs.Meaning.TextFiles.{text_limit};
+ghost use Rattle.pf_top.specs.Meaning.Commands.{Command as CommandOf, IsCommand, IsCalm, Does, CanDo};
+ghost use Rattle.pf_top.specs.Meaning.Files.{text_limit};
+ghost use Rattle.pf_top.specs.Meaning.Running.{Run, IsRunCommand, IsImageThere};
+ghost use Rattle.pf_top.specs.Meaning.Selections.{Select, IsSelect, SpellsKernel};
+ghost use Rattle.pf_outside.specs.Meaning.Reports.{Reports, seen_output};
+ghost use Rattle.pf_outside.specs.Meaning.StoreCalls.{seen};
+ghost use Rattle.pf_top.specs.Meaning.Statuses.{usage};
 
 use crate::command::command_of;
 use crate::dispatch::do_command;
-use crate::report::tell_usage;
+use crate::statuses::tell_usage;
 use pf_images::{Files, Sink};
 use std::alloc::Global;
 
@@ -39,7 +37,7 @@ pub fn pitchfork<F: Files, S: Sink>(
 ) -> u8
     // Words of no form: 2 with the line on them, and no file is touched.
     ensures usage { ((c : CommandOf) → IsCommand (map string_bytes words.now.items) c → ⊥)
-        → ReportsLine usage (seen_output S.written S.faults S.calls out.old) result
+        → Reports usage (seen_output S.written S.faults S.calls out.old) result
         (seen_output S.written S.faults S.calls out.new) × (files.new ≡ files.old) }
 
     // The words of a command: the call came to a verdict, which has its cause in the words and the
@@ -58,7 +56,7 @@ pub fn pitchfork<F: Files, S: Sink>(
     // Status 0 of `select`: the text under OUT keeps the headline's promise for the kernel that the
     // kernel's file spells.
     ensures headline { (s : Select) (k : Meaning) (old : Contents) → IsSelect (map string_bytes words.now.items) s
-        → F.held files.old ≡ Some old → OfJudged s Kernel (IsKernelFile k) old → result ≡ 0
+        → F.held files.old ≡ Some old → SpellsKernel s k old → result ≡ 0
         → (new : Contents) × (text : List ℕ) × (F.held files.new ≡ Some new) × (new s.out ≡ Some text) × HeadlineOn s.target k.source text }
 
     // `run` of a text that keeps the promise for a kernel does its work, or memory is wanting, and with

@@ -91,7 +91,7 @@ sorts style Shapes.StorePointer = either style.stores_last (register ∷ number 
 sorts style Shapes.SetNumber = register ∷ number ∷ []
 sorts style Shapes.Add = register ∷ register ∷ number ∷ []
 sorts style Shapes.Sub = register ∷ register ∷ number ∷ []
-sorts style Shapes.AddHigh = register ∷ register ∷ number ∷ []
+sorts style Shapes.AddPages = register ∷ register ∷ number ∷ []
 sorts style Shapes.AddRegister = register ∷ register ∷ register ∷ []
 sorts style Shapes.LoadByte = register ∷ register ∷ []
 sorts style Shapes.LoadHalf = register ∷ register ∷ []
@@ -123,12 +123,15 @@ pub record HasFixedRows (s : InstructionSet) : Type 0 where
   pub store_half : (s.row Places.STORE_HALF).shape ≡ Shapes.StoreHalf
   pub compare : (s.row Places.COMPARE).shape ≡ Shapes.CompareNumbers
   pub return : (s.row Places.RETURN).shape ≡ Shapes.Return
-  pub add_pages : s.style.adds_pages ≡ true → (s.row Places.ADD_PAGES).shape ≡ Shapes.AddHigh
+  pub add_pages : s.style.adds_pages ≡ true → (s.row Places.ADD_PAGES).shape ≡ Shapes.AddPages
   pub negative : s.style.packets ≡ true → (s.row Places.NEGATIVE_CONSTANT).shape ≡ Shapes.NegativeConstant
   pub load : (s.row Places.LOAD).shape ≡ Shapes.Load
   pub store : (s.row Places.STORE).shape ≡ Shapes.Store
+  pub copy : (s.row Places.COPY).shape ≡ Shapes.Copy
+  pub constants : s.style.constant ≡ None → ((s.row Places.CONSTANT).shape ≡ Shapes.Constant) × ((s.row Places.CONSTANT_HIGH).shape ≡ Shapes.ConstantHigh)
   pub load_cost : (s.row Places.LOAD).cost ≡ 0
   pub store_cost : (s.row Places.STORE).cost ≡ 0
+  pub copy_cost : (s.row Places.COPY).cost ≡ 0
 
 pub record IsSet (s : InstructionSet) : Type 0 where
   pub some_bytes : 16 ≤ s.vector

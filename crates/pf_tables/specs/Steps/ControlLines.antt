@@ -86,7 +86,7 @@ spelled_add s law to from by t f small =
     (λ (pages : is_pages s false by ≡ true).
     let parts = and_parts s.style.adds_pages (nat_lt 4095 by) pages in
     rw pages
-    (spelled_by s law (OfControl (AddImm to from false by)) Shapes.AddHigh (record { place = Places.ADD_PAGES; numbers = general s to ∷ general s from ∷ by / 4096 ∷ [] }) (let some = law.some_rows in omega arith) (law.fixed_rows.add_pages parts.0) refl
+    (spelled_by s law (OfControl (AddImm to from false by)) Shapes.AddPages (record { place = Places.ADD_PAGES; numbers = general s to ∷ general s from ∷ by / 4096 ∷ [] }) (let some = law.some_rows in omega arith) (law.fixed_rows.add_pages parts.0) refl
     (three_fit s to from (by / 4096) t f (let less = offset_small false by small in omega arith))
     (rw (role_back s to t, role_back s from f, pages_back by (ltb-true 4095 by parts.1) small) refl)))
     (λ (plain : is_pages s false by ≡ false).

@@ -1,6 +1,6 @@
 -- What the laws of a set say of the row of an instruction.
-use Rattle.std.proofs.Common.{◌≡◌, ℕ, ◌+◌, ◌*◌, ◌/◌, ◌%◌, ◌<◌, ◌≤◌, ◌&&◌, ◌-◌, ◌^◌, Bool, true, false, refl, arith, sym, ⊎_elim}
-use Rattle.std.specs.Prelude.{nat_lt, ◌==◌, ◌||◌, if◌then◌else◌, Option, Some, None}
+use Rattle.std.proofs.Common.{◌≡◌, ℕ, ◌*◌, ◌/◌, ◌%◌, ◌<◌, ◌≤◌, ◌&&◌, ◌-◌, ◌^◌, Bool, true, false, refl, arith, sym, ⊎_elim}
+use Rattle.std.specs.Prelude.{nat_lt, ◌==◌, ◌||◌, if◌then◌else◌, Some, None}
 use Rattle.std.proofs.lemmas.Bool.{lt-ltb, ltb-true, and_parts, cases_Bool, eqb-true, eqb-false, ne_eqb}
 use Rattle.std.proofs.lemmas.Nat.{mod_below}
 use Rattle.pf_ints.specs.declared.lane.LaneType.{LaneType}
@@ -40,7 +40,8 @@ pub row_sound : (s : InstructionSet) → IsSet s → (place : ℕ) → place < s
 row_sound s set place inside = sound_row s (s.row place) (all_below_at (λ k. is_sound_row s (s.row k)) s.places place set.sound inside)
 
 module _ (s : InstructionSet) (set : IsSet s) where
-  shaped : (i : Instruction) → IsListed s i → recipe_fits s.vector (result_bytes s.vector (shape_of s i) (s.row (place_of s i)).extent) (s.row (place_of s i)).recipe ≡ true
+  shaped : (i : Instruction) → IsListed s i
+      → recipe_fits s.vector (result_bytes s.vector (shape_of s i) (s.row (place_of s i)).extent) (s.row (place_of s i)).recipe ≡ true
   shaped i is = let r = row_sound s set (place_of s i) is.inside in rw is.shape at r.room
 
   plain_bytes : (i : Instruction) (e : Extent) → is_plain i ≡ true → result_bytes s.vector (shape_of s i) e ≡ made_bytes s.vector e
@@ -89,7 +90,8 @@ module _ (s : InstructionSet) (set : IsSet s) where
   pub store_listed : (from j : ℕ) → j ≤ 7 → IsListed s (Store (record { vector = from; base = 5; j = j }))
   store_listed from j h = record { inside = let some = set.some_rows in omega arith; shape = set.fixed_rows.store; numbers = lt-ltb j 8 (omega arith) }
 
-size_fits : (n : ℕ) → moves_all n ≡ true → (can_move n (unsigned Eight) ≡ true) × (can_move n (unsigned Sixteen) ≡ true) × (can_move n (unsigned ThirtyTwo) ≡ true)
+size_fits : (n : ℕ) → moves_all n ≡ true
+    → (can_move n (unsigned Eight) ≡ true) × (can_move n (unsigned Sixteen) ≡ true) × (can_move n (unsigned ThirtyTwo) ≡ true)
 unfolding moves_all
 size_fits n h =
     let first = and_parts (can_move n (unsigned Eight)) _ h in
@@ -120,7 +122,8 @@ both_fit n separated ty h = by separated where
 
 element : (n k : ℕ) (P : LaneType → Type 0) → P (unsigned Eight) → P (unsigned Sixteen) → P (unsigned ThirtyTwo) → (ty : LaneType) → Some ty ≡ elements k → P ty
 element n k P one two four ty e = by (k == 2 ^ 32 - 1) (k == 2 ^ 32 - 2) (k == 2 ^ 32 - 4) e where
-  by : (x y z : Bool) → Some ty ≡ (if x then Some (unsigned Eight) else if y then Some (unsigned Sixteen) else if z then Some (unsigned ThirtyTwo) else None) → P ty
+  by : (x y z : Bool)
+      → Some ty ≡ (if x then Some (unsigned Eight) else if y then Some (unsigned Sixteen) else if z then Some (unsigned ThirtyTwo) else None) → P ty
   by true y z e = let is : unsigned Eight ≡ ty = cc in rw is at one
   by false true z e = let is : unsigned Sixteen ≡ ty = cc in rw is at two
   by false false true e = let is : unsigned ThirtyTwo ≡ ty = cc in rw is at four

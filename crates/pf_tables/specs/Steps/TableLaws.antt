@@ -87,10 +87,12 @@ module _ (s : InstructionSet) (set : IsSet s) where
     with_row : (to : ℕ) (r : Row) (k : ℕ) (a b c : List ℕ) → IsFile (table_of s) (length f.vectors) (write f (V to) (made_by s.vector r k a b c))
     with_row to r k a b c = with_vector to _ (vector_are_bytes s.vector set.whole r.extent r.recipe k a b c)
 
-    with_upper : (to : ℕ) (r : Row) (k : ℕ) (kept a : List ℕ) → AreBytes s.vector kept → IsFile (table_of s) (length f.vectors) (write f (V to) (upper_of s.vector r.recipe k kept a))
+    with_upper : (to : ℕ) (r : Row) (k : ℕ) (kept a : List ℕ) → AreBytes s.vector kept
+        → IsFile (table_of s) (length f.vectors) (write f (V to) (upper_of s.vector r.recipe k kept a))
     with_upper to r k kept a are = with_vector to _ (upper_are s.vector set.whole r.recipe k kept a are)
 
-    with_pair : (to : Ends) (low high : List ℕ) → AreBytes s.vector low → AreBytes s.vector high → IsFile (table_of s) (length f.vectors) (writes f (V to.low ∷ V to.high ∷ []) (low ∷ high ∷ []))
+    with_pair : (to : Ends) (low high : List ℕ) → AreBytes s.vector low → AreBytes s.vector high
+        → IsFile (table_of s) (length f.vectors) (writes f (V to.low ∷ V to.high ∷ []) (low ∷ high ∷ []))
     with_pair to low high l h = file_with (table_of s) (length f.vectors) (write f (V to.low) low) (with_vector to.low low l) to.high high h
 
     lanes : (r : Recipe) (k : ℕ) (a b c : List ℕ) → AreBytes s.vector (lanes_of s.vector r k a b c)
@@ -150,7 +152,8 @@ module _ (s : InstructionSet) (set : IsSet s) where
   moved_two separated None low high = refl
   moved_two separated (Some ty) low high = refl
 
-  counted : (op : Instruction) (held : List (List ℕ)) → IsListed s op → access s op ≡ None → length held ≡ length (uses op) → length (outcome s op held) ≡ length (defs op)
+  counted : (op : Instruction) (held : List (List ℕ)) → IsListed s op → access s op ≡ None → length held ≡ length (uses op)
+      → length (outcome s op held) ≡ length (defs op)
   counted (Load r) held is computes many = absurd (cc)
   counted (Store r) held is computes many = absurd (cc)
   counted (Move place to r) held is computes many = moved_two (s.row place).swapped _ _ _

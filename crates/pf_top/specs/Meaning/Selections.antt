@@ -1,20 +1,20 @@
--- The command `select`: its words, its files, and what it comes to.
-use Rattle.std.specs.Prelude.{◌≡◌, ◌≢◌, ◌↔◌, ℕ, ◌+◌, List, [], ◌∷◌, ◌++◌, codes, None}
-use Rattle.std.specs.List.{concat}
+-- The command `select`: its words, and what they ask for.
+use Rattle.std.specs.Prelude.{◌≡◌, ℕ, zero, suc, ◌+◌, List, [], ◌∷◌, ◌++◌, ⊤, Some, codes}
 use Rattle.pf_ints.specs.declared.target.Target.{Target}
-use Rattle.pf_ints.specs.declared.target.Target.TheVariants.{Neon}
 use Rattle.pf_ints.specs.Meaning.Targets.{target_word}
+use Rattle.pf_values.specs.Meaning.Kernels.{Source}
+use Rattle.pf_images.specs.Meaning.Outside.{Contents}
 use Rattle.pf_kernel.specs.Meaning.Kernels.{Meaning}
-use Rattle.pf_kernel.specs.Meaning.Texts.{byte_limit}
-use Rattle.pf_top.specs.declared.verdict.FileWord.{FileWord}
-use Rattle.pf_top.specs.declared.verdict.FileWord.TheVariants.{Kernel, Lift, Lower}
-use Rattle.pf_top.specs.declared.verdict.Verdict.{Verdict}
-use Rattle.pf_top.specs.declared.verdict.Verdict.TheVariants.{Done, TargetNotBuilt, KernelRefused, NotBuilt, Missing, ReadFailed, WriteFailed, Memory}
-use Rattle.pf_top.specs.Meaning.KernelFiles.{IsKernelFile, RefusesKernel}
-use Rattle.pf_images.specs.Meaning.Outside.{Contents, SameContents, Puts, PutsPart}
-use Rattle.pf_top.specs.Meaning.StoreCalls.{Store, Calls, Well, Lacking, Failing, Wanting, StoreAfter, FileStartsWith}
+use Rattle.pf_kernel.specs.Meaning.Texts.{byte_limit, IsKernel}
+use Rattle.pf_outside.specs.Meaning.Formats.{Holds, HoldsNone}
+use Rattle.pf_outside.specs.Meaning.Reports.{line_end, line_of}
+use Rattle.pf_outside.specs.Meaning.StoreCalls.{FileStartsWith}
+use Rattle.pf_outside.specs.Meaning.Tasks.{Task}
 use Rattle.pf_select.specs.Meaning.Targets.{IsBuilt, IsSelectedOn}
-use Rattle.pf_top.specs.Meaning.Statuses.{line_end}
+use Rattle.pf_top.specs.declared.fault.Failure.{Failure}
+use Rattle.pf_top.specs.declared.fault.Failure.TheVariants.{Target as NoTarget, NoText, Count, Run}
+use Rattle.pf_top.specs.declared.fault.FileFault.{FileFault}
+use Rattle.pf_top.specs.Meaning.Files.{kernel_file, rule_file}
 
 -- the words behind `select`
 pub record Select : Type 0 where
@@ -28,109 +28,95 @@ pub record Select : Type 0 where
 abbrev pub IsSelect : List (List ℕ) → Select → Type 0
 IsSelect words s = words ≡ codes "select" ∷ target_word s.target ∷ s.kernel ∷ s.lift ∷ s.lower ∷ s.out ∷ []
 
--- the name of a file that is read
-abbrev pub file_name : Select → FileWord → List ℕ
-file_name s Kernel = s.kernel
-file_name s Lift = s.lift
-file_name s Lower = s.lower
-
--- the rule file without rules: `rules 1 lift`
+-- the rule file without rules
 unfoldable pub lift_text : List ℕ
 lift_text = codes "rules 1 lift" ++ line_end
 
--- the rule file with the one rule that lowers `min` to the lane operation of its name
-unfoldable pub lower_text : List ℕ
-lower_text = concat (
-    codes "rules 1 neon" ∷ line_end
-    ∷ codes "rule least" ∷ line_end
-    ∷ codes "widths 8 16 32" ∷ line_end
-    ∷ codes "var x u1" ∷ line_end
-    ∷ codes "var y u1" ∷ line_end
-    ∷ codes "left min(x, y)" ∷ line_end
-    ∷ codes "right @min(x, y)" ∷ line_end
-    ∷ codes "end" ∷ line_end ∷ [])
+-- the lines of the one rule that lowers `min` to the lane operation of its name
+unfoldable pub min_rule : List ℕ
+min_rule = codes "\nrule least\nwidths 8 16 32\nvar x u1\nvar y u1\nleft min(x, y)\nright @min(x, y)\nend"
 
--- the most bytes of a file of rules, and of each file
-unfoldable pub rule_limit : ℕ
-rule_limit = 1048576
+-- the rule file of a target with this rule
+abbrev pub lower_text : Target → List ℕ
+lower_text t = line_of (codes "rules 1 " ∷ target_word t ∷ min_rule ∷ [])
 
-abbrev pub limit : FileWord → ℕ
-limit Kernel = byte_limit
-limit Lift = rule_limit
-limit Lower = rule_limit
+-- no text is selected for the target, whatever the kernel
+abbrev pub IsUnbuilt : Target → Type 0
+IsUnbuilt t = (source : Source) → IsBuilt t source → ⊥
 
--- a text is selected for this kernel
-abbrev pub IsSelectableKernel : Meaning → Type 0
-IsSelectableKernel k = IsBuilt Neon k.source
+-- the kernel's file holds a kernel that a text is selected for, and the rule files hold their rules
+abbrev pub HoldsBuilt : Select → Contents → Type 0
+HoldsBuilt s files = (k : Meaning) × Holds kernel_file s.kernel k files × IsBuilt s.target k.source
 
--- the bytes of a file that are judged are those up to one past its limit: they have the form that is asked of it
-abbrev pub HasForm : FileWord → List ℕ → Type 0
-HasForm Kernel bytes = (k : Meaning) × IsKernelFile k bytes × IsSelectableKernel k
-HasForm Lift bytes = bytes ≡ lift_text
-HasForm Lower bytes = bytes ≡ lower_text
+abbrev pub HoldsLift : Select → Contents → Type 0
+HoldsLift s files = Holds (rule_file lift_text) s.lift tt files
 
--- they are not what is built: a text of another kernel, or other rules
-abbrev pub IsOther : FileWord → List ℕ → Type 0
-IsOther Kernel bytes = (k : Meaning) × IsKernelFile k bytes × (IsSelectableKernel k → ⊥)
-IsOther Lift bytes = bytes ≡ lift_text → ⊥
-IsOther Lower bytes = bytes ≡ lower_text → ⊥
+abbrev pub HoldsLower : Select → Contents → Type 0
+HoldsLower s files = Holds (rule_file (lower_text s.target)) s.lower tt files
 
--- the file is there, and Q holds of its judged bytes
-abbrev pub OfJudged : Select → FileWord → (List ℕ → Type 0) → Contents → Type 0
-OfJudged s w Q files = FileStartsWith (file_name s w) (limit w + 1) Q files
+abbrev pub GoodSelect : Select → ℕ → Contents → Type 0
+GoodSelect s zero files = Unit {0}
+GoodSelect s (suc zero) files = HoldsBuilt s files
+GoodSelect s (suc (suc zero)) files = HoldsBuilt s files × HoldsLift s files
+GoodSelect s (suc (suc (suc n))) files = (HoldsBuilt s files × HoldsLift s files) × HoldsLower s files
 
--- the file is there and has its form
-abbrev pub FileFits : Select → Contents → FileWord → Type 0
-FileFits s files w = OfJudged s w (HasForm w) files
+abbrev pub RefusesSelect : Select → ℕ → FileFault → Contents → Type 0
+RefusesSelect s zero e files = HoldsNone kernel_file s.kernel e files
+RefusesSelect s (suc zero) e files = HoldsNone (rule_file lift_text) s.lift e files
+RefusesSelect s (suc (suc n)) e files = HoldsNone (rule_file (lower_text s.target)) s.lower e files
 
--- the file is there and is not what is built
-abbrev pub Differs : Select → Contents → FileWord → Type 0
-Differs s files w = OfJudged s w (IsOther w) files
+-- the target isn't built
+abbrev pub BarsSelect : Select → Failure → Type 0
+BarsSelect s (NoTarget t) = (t ≡ s.target) × IsUnbuilt t
+BarsSelect s _ = ⊥
 
--- the files that are judged before this one have their forms
-abbrev pub Reaches : Select → Contents → FileWord → Type 0
-Reaches s files Kernel = Unit {0}
-Reaches s files Lift = FileFits s files Kernel
-Reaches s files Lower = FileFits s files Kernel × FileFits s files Lift
+-- .. or no text is selected for the kernel
+abbrev pub FailsSelect : Select → Failure → Contents → Type 0
+FailsSelect s (NoTarget t) files = BarsSelect s (NoTarget t)
+FailsSelect s NoText files = (k : Meaning) × Holds kernel_file s.kernel k files × (IsBuilt s.target k.source → ⊥)
+FailsSelect s _ files = ⊥
 
--- the text is one for the kernel that the kernel file spells, for which one is selected, and the rule files have their forms
-pub record Selects (s : Select) (files : Contents) (bytes : List ℕ) : Type 0 where
+abbrev pub AllowsSelect : Failure → Type 0
+AllowsSelect (NoTarget t) = Unit {0}
+AllowsSelect NoText = Unit {0}
+AllowsSelect _ = ⊥
+
+abbrev pub reads_select : Failure → ℕ
+reads_select (NoTarget t) = 0
+reads_select _ = 1
+
+-- the text is one for the kernel that the kernel's file spells, for which one is selected, and the rule files have their rules
+pub record Selects (s : Select) (lines : List (List ℕ)) (text : List ℕ) (files : Contents) : Type 0 where
   pub kernel : Meaning
-  pub spelled : OfJudged s Kernel (IsKernelFile kernel) files
-  pub lift : FileFits s files Lift
-  pub lower : FileFits s files Lower
-  pub taken : IsSelectableKernel kernel
-  pub selected : IsSelectedOn Neon kernel.source bytes
+  pub spelled : Holds kernel_file s.kernel kernel files
+  pub lift : HoldsLift s files
+  pub lower : HoldsLower s files
+  pub taken : IsBuilt s.target kernel.source
+  pub selected : IsSelectedOn s.target kernel.source text
+  pub none : lines ≡ []
 
--- what the store held where the call came to this verdict, and what it holds after it
-abbrev pub Effect : Select → Verdict → Contents → Contents → Type 0
-Effect s Done old new = (text : List ℕ) × Selects s old text × Puts s.out text old new
-Effect s TargetNotBuilt old new = SameContents old new
-Effect s (KernelRefused e) old new = OfJudged s Kernel (RefusesKernel e) old × SameContents old new
-Effect s (NotBuilt w) old new = Reaches s old w × Differs s old w × SameContents old new
-Effect s (Missing w) old new = Reaches s old w × (old (file_name s w) ≡ None) × SameContents old new
-Effect s (ReadFailed w) old new = Reaches s old w × SameContents old new
-Effect s WriteFailed old new = (text : List ℕ) × Selects s old text × PutsPart s.out text old new
-Effect s Memory old new = SameContents old new
+-- the kernel's file holds a text of this kernel
+abbrev pub SpellsKernel : Select → Meaning → Contents → Type 0
+SpellsKernel s k files = FileStartsWith s.kernel (byte_limit + 1) (λ bytes. IsKernel bytes k) files
 
--- how many files were read up to this one
-abbrev pub place : FileWord → ℕ
-place Kernel = 1
-place Lift = 2
-place Lower = 3
+-- the files hold a text of a kernel that a text is selected for, and the two texts of rules
+pub record IsSelectable (s : Select) (files : Contents) : Type 0 where
+  pub meaning : Meaning
+  pub kernel : SpellsKernel s meaning files
+  pub built : IsBuilt s.target meaning.source
+  pub lift : HoldsLift s files
+  pub lower : HoldsLower s files
 
--- the calls of the store: each file that was judged was read once, no other was, and the text is written last
-abbrev pub calls_of : Verdict → Calls
-calls_of Done = Well 4
-calls_of TargetNotBuilt = Well 0
-calls_of (KernelRefused e) = Well 1
-calls_of (NotBuilt w) = Well (place w)
-calls_of (Missing w) = Lacking (place w)
-calls_of (ReadFailed w) = Failing (place w)
-calls_of WriteFailed = Failing 4
-calls_of Memory = Wanting 4
-
--- the call came to this verdict
-pub record EndsWith (s : Select) (before : Store) (v : Verdict) (after : Store) : Type 0 where
-  pub target : (v ≡ TargetNotBuilt) ↔ (s.target ≢ Neon)
-  pub went : StoreAfter (Effect s v) (calls_of v) before after
+abbrev pub selecting : Select → Task FileFault Failure
+selecting s = record {
+  names = s.kernel ∷ s.lift ∷ s.lower ∷ [];
+  out = Some s.out;
+  Good = GoodSelect s;
+  Refuses = RefusesSelect s;
+  Fails = FailsSelect s;
+  reads = reads_select;
+  Allows = AllowsSelect;
+  Bars = BarsSelect s;
+  Makes = Selects s;
+  Works = IsSelectable s;
+}

@@ -1,80 +1,65 @@
--- The statuses of the program and the lines that it puts.
-use Rattle.std.specs.Prelude.{◌≡◌, ℕ, List, [], ◌∷◌, ◌++◌, codes, Option, Some, None, ◌⊎◌}
-use Rattle.pf_images.specs.Meaning.Counts.{raised, Rose}
-use Rattle.pf_images.specs.Meaning.Outside.{Changes, Appends, AppendsPart}
-use Rattle.pf_top.specs.Meaning.StoreCalls.{RaisedUpTo}
+-- The statuses of the program and the lines that it puts, in the order of the table of docs/files.md.
+use Rattle.std.specs.Prelude.{ℕ, ◌+◌, List, [], ◌∷◌, codes, decimal, Option, Some, None, Ok, Err}
+use Rattle.std.specs.Fmt.{signed_decimal}
+use Rattle.pf_ints.specs.Meaning.Targets.{target_word}
+use Rattle.pf_values.specs.Meaning.Limits.{limit_word}
+use Rattle.pf_terms.specs.Meaning.TermTexts.{type_word}
+use Rattle.pf_images.specs.declared.fault.ImageFault.TheVariants.{At as ImageAt, Memory as ImageMemory}
+use Rattle.pf_images.specs.Meaning.Words.{kind_word}
+use Rattle.pf_isa.specs.declared.fault.TextFault.TheVariants.{At as TextAt, Memory as TextMemory}
+use Rattle.pf_isa.specs.Meaning.TextFaults.{text_kind_word}
+use Rattle.pf_kernel.specs.declared.fault.KernelFault.TheVariants.{Syntax, Name, Types, Limit, Memory as KernelMemory}
+use Rattle.pf_outside.specs.declared.stop.Stop.TheVariants.{Missing, Unreadable, Refused, Failed, Unwritten, Memory}
+use Rattle.pf_outside.specs.Meaning.Reports.{Report, report, told, wanting, write_failed}
+use Rattle.pf_outside.specs.Meaning.Tasks.{Task, Verdict, file_name, out_name}
+use Rattle.pf_run.specs.declared.fault.RunFault.TheVariants.{Text as RunText, Set, Outside, Spent, Memory as RunMemory}
+use Rattle.pf_run.specs.declared.fault.SetFault.TheVariants.{Count as SetCount, Kind, Size, Pixel, NoOutput}
+use Rattle.pf_top.specs.declared.fault.Failure.{Failure}
+use Rattle.pf_top.specs.declared.fault.Failure.TheVariants.{Target, NoText, Count, Run}
+use Rattle.pf_top.specs.declared.fault.FileFault.{FileFault}
+use Rattle.pf_top.specs.declared.fault.FileFault.TheVariants.{Kernel, NotBuilt, Text, LongText, Image, LongImage}
 
--- a report: a status with its line, and the status and the line where memory is wanting for it
-pub record Report : Type 0 where
-  pub status : ℕ
-  pub line : List ℕ
-  pub poor_status : ℕ
-  pub poor_line : List ℕ
+-- 5: a kernel is refused; 8: a file that isn't built; 9: an image is refused; 10: a text is refused
+abbrev pub report_of_file : List ℕ → FileFault → Report
+report_of_file name (Kernel (Syntax at column)) = told 5 (name ∷ codes ":" ∷ decimal at ∷ codes ": syntax at column " ∷ decimal column ∷ [])
+report_of_file name (Kernel (Name at other)) = told 5 (name ∷ codes ":" ∷ decimal at ∷ codes ": name " ∷ other ∷ [])
+report_of_file name (Kernel (Types at want got)) = told 5 (name ∷ codes ":" ∷ decimal at ∷ codes ": types: want " ∷ type_word want ∷ codes ", got " ∷ type_word got ∷ [])
+report_of_file name (Kernel (Limit what count)) = told 5 (name ∷ codes ": limit " ∷ limit_word what ∷ codes " is " ∷ signed_decimal count ∷ [])
+report_of_file name (Kernel KernelMemory) = wanting
+report_of_file name NotBuilt = told 8 (codes "not built: " ∷ name ∷ [])
+report_of_file name (Image (ImageAt at kind)) = told 9 (name ∷ codes ": byte " ∷ decimal at ∷ codes ": " ∷ kind_word kind ∷ [])
+report_of_file name (Image ImageMemory) = wanting
+report_of_file name LongImage = told 9 (name ∷ codes ": byte 33619968: limit" ∷ [])
+report_of_file name (Text (TextAt at kind)) = told 10 (name ∷ codes ":" ∷ decimal at ∷ codes ": " ∷ text_kind_word kind ∷ [])
+report_of_file name (Text TextMemory) = wanting
+report_of_file name LongText = told 10 (name ∷ codes ":0: limit" ∷ [])
 
--- LF
-abbrev pub line_end : List ℕ
-line_end = 10 ∷ []
+-- 8: the target or the kernel isn't built; 9: the images don't suit the text, image n being file n + 1; 11: a load or a store that
+-- no region allows; 12: a row that took all its steps. No call comes to `RunText`, `SetCount` or `Kind` (`AllowsRun`)
+abbrev pub report_of_failure : Task FileFault Failure → Failure → Report
+report_of_failure t (Target target) = told 8 (codes "not built: " ∷ target_word target ∷ [])
+report_of_failure t NoText = told 8 (codes "not built: " ∷ file_name t 0 ∷ [])
+report_of_failure t (Count want got) = told 9 (codes "want " ∷ decimal want ∷ codes " images, got " ∷ decimal got ∷ [])
+report_of_failure t (Run (Set (SetCount want got))) = told 9 (codes "want " ∷ decimal want ∷ codes " images, got " ∷ decimal got ∷ [])
+report_of_failure t (Run (Set (Kind n))) = told 9 (file_name t (n + 1) ∷ codes ": type" ∷ [])
+report_of_failure t (Run (Set (Size n width height))) = told 9 (file_name t (n + 1) ∷ codes ": size " ∷ decimal width ∷ codes " " ∷ decimal height ∷ [])
+report_of_failure t (Run (Set (Pixel n x y value))) = told 9 (file_name t (n + 1) ∷ codes ": pixel " ∷ decimal x ∷ codes " " ∷ decimal y ∷ codes " is " ∷ signed_decimal value ∷ [])
+report_of_failure t (Run (Set NoOutput)) = told 9 (codes "no output pixel" ∷ [])
+report_of_failure t (Run (RunText at kind)) = told 10 (file_name t 0 ∷ codes ":" ∷ decimal at ∷ codes ": " ∷ text_kind_word kind ∷ [])
+report_of_failure t (Run (Outside at address length)) = told 11 (codes "outside: instruction " ∷ decimal at ∷ codes ", address " ∷ decimal address ∷ codes ", length " ∷ decimal length ∷ [])
+report_of_failure t (Run (Spent steps)) = told 12 (codes "spent: " ∷ decimal steps ∷ codes " steps" ∷ [])
+report_of_failure t (Run RunMemory) = wanting
 
-unfoldable pub memory_line : List ℕ
-memory_line = codes "out of memory" ++ line_end
+-- 0: the lines of the command's work; 3: a file isn't there or can't be read; 4: OUT can't be written; 13: memory is wanting
+abbrev pub report_of : Task FileFault Failure → Verdict FileFault Failure → Report
+report_of t (Ok lines) = report 0 lines
+report_of t (Err (Missing n)) = told 3 (codes "no file: " ∷ file_name t n ∷ [])
+report_of t (Err (Unreadable n)) = told 3 (codes "read failed: " ∷ file_name t n ∷ [])
+report_of t (Err Unwritten) = write_failed (out_name t)
+report_of t (Err Memory) = wanting
+report_of t (Err (Refused n e)) = report_of_file (file_name t n) e
+report_of t (Err (Failed f)) = report_of_failure t f
 
--- a status with its line; or 13 and the line of want of memory, where memory is wanting for it
-abbrev pub report : ℕ → List ℕ → Report
-report status line = record { status = status; line = line; poor_status = 13; poor_line = memory_line }
-
--- a line of some texts
-abbrev pub line_of : List (List ℕ) → List ℕ
-line_of [] = line_end
-line_of (text ∷ more) = text ++ line_of more
-
--- the report where the words are of no form
+-- 2: the words are of no form
 unfoldable pub usage : Report
-usage = report 2 (line_of (codes "usage: pitchfork select|check|run|eval|explain|demo" ∷ []))
-
--- the report where memory is wanting
-unfoldable pub wanting : Report
-wanting = record { status = 13; line = memory_line; poor_status = 13; poor_line = [] }
-
--- the report where the write of OUT failed: 4, also where memory is wanting for its line
-unfoldable pub write_failed : List ℕ → Report
-write_failed name = record { status = 4; line = line_of (codes "write failed: " ∷ name ∷ []); poor_status = 4; poor_line = [] }
-
--- what is seen of an output at a moment
-pub record Output : Type 0 where
-  pub written : Option (List ℕ)
-  pub faults : ℕ
-  pub calls : ℕ
-
--- the status was answered, and its line was put
-pub record Reported (d : Report) (before : Output) (answer : ℕ) (after : Output) : Type 0 where
-  pub status : answer ≡ d.status
-  pub written : Changes (Appends d.line) before.written after.written
-  pub faults : after.faults ≡ before.faults
-  pub calls : after.calls ≡ raised before.calls
-
--- the output failed: 4 was answered, and a prefix of the line was put, by one call, or one of the line on want of memory
-pub record OutputFailed (d : Report) (before : Output) (answer : ℕ) (after : Output) : Type 0 where
-  pub status : answer ≡ 4
-  pub put : (Changes (AppendsPart d.line) before.written after.written × (after.calls ≡ raised before.calls))
-      ⊎ (Changes (AppendsPart d.poor_line) before.written after.written × RaisedUpTo 2 before.calls after.calls)
-  pub faults : Rose before.faults after.faults
-
--- memory was wanting for the line
-pub record MemoryWanted (d : Report) (before : Output) (answer : ℕ) (after : Output) : Type 0 where
-  pub status : answer ≡ d.poor_status
-  pub written : Changes (λ old new. Appends [] old new ⊎ Appends d.poor_line old new) before.written after.written
-  pub faults : after.faults ≡ before.faults
-  pub calls : RaisedUpTo 2 before.calls after.calls
-
--- the report was made, or the output failed, or memory was wanting
-abbrev pub ReportsLine : Report → Output → ℕ → Output → Type 0
-ReportsLine d before answer after = Reported d before answer after ⊎ OutputFailed d before answer after ⊎ MemoryWanted d before answer after
-
--- the report is made; where there is none the answer is 0, and nothing is put
-abbrev pub Reports : Option Report → Output → ℕ → Output → Type 0
-Reports None before answer after = (answer ≡ 0) × (after ≡ before)
-Reports (Some d) before answer after = ReportsLine d before answer after
-
--- what is seen of an output whose trait tells this
-abbrev pub seen_output : {T : Type 0} → (T → Option (List ℕ)) → (T → ℕ) → (T → ℕ) → T → Output
-seen_output written faults calls output = record { written = written output; faults = faults output; calls = calls output }
+usage = told 2 (codes "usage: pitchfork select|check|run|eval|explain|demo" ∷ [])

@@ -1,11 +1,20 @@
--- The commands of the code as the definitions see them.
+-- The words of the code as the definitions see them.
+use Rattle.std.specs.Prelude.{List, ℕ, map, string_bytes}
 use Rattle.pf_top.specs.declared.command.Command.{Command as CommandWords}
-use Rattle.pf_top.specs.declared.command.Command.TheVariants.{Select, Run, Eval}
+use Rattle.pf_top.specs.declared.command.Command.TheVariants.{Select as SelectWords, Run as RunOf, Eval}
+use Rattle.pf_top.specs.declared.command.Selection.{Selection}
+use Rattle.pf_top.specs.declared.command.RunWords.{RunWords}
 use Rattle.pf_top.specs.Meaning.Commands.{Command, Selecting, Running, Evaluating}
-use Rattle.pf_top.specs.Steps.RunSteps.{the_run}
-use Rattle.pf_top.specs.Steps.SelectSteps.{the_words}
+use Rattle.pf_top.specs.Meaning.Running.{Run}
+use Rattle.pf_top.specs.Meaning.Selections.{Select}
+
+abbrev pub the_words : Selection → Select
+the_words s = record { target = s.target; kernel = s.kernel.now; lift = s.lift.now; lower = s.lower.now; out = s.out.now }
+
+abbrev pub the_run : RunWords → Run
+the_run w = record { text = w.text.now; images = map string_bytes w.images.now; out = w.out.now }
 
 abbrev pub the_command : CommandWords → Command
-the_command (Select s) = Selecting (the_words s)
-the_command (Run r) = Running (the_run r)
+the_command (SelectWords s) = Selecting (the_words s)
+the_command (RunOf r) = Running (the_run r)
 the_command (Eval e) = Evaluating (the_run e)

@@ -1,80 +1,67 @@
--- What the steps of `run` and `eval` come to.
-use Rattle.std.specs.Prelude.{◌≡◌, ◌≢◌, ℕ, List, map, string_bytes, Result, Ok, Err, ⊤}
+-- What the steps of commands come to.
+use Rattle.std.specs.Prelude.{◌≡◌, ◌≢◌, ℕ, suc, ◌+◌, ◌<◌, List, length, take, zip, Some, Result, Ok, Err, slice_get}
+use Rattle.std.specs.List.{AllZip}
 use Rattle.pf_ints.specs.Meaning.Images.{Picture}
-use Rattle.pf_images.specs.declared.files.FilesFault.{FilesFault}
-use Rattle.pf_images.specs.declared.files.FilesFault.TheVariants.{Missing as MissingFault, Failed as FailedFault, Memory as MemoryFault}
+use Rattle.pf_values.specs.declared.kernel.ImageDecl.{ImageDecl}
+use Rattle.pf_images.specs.Meaning.Outside.{Contents, SameContents}
 use Rattle.pf_images.specs.Meaning.Pgm.{pgm_text}
+use Rattle.pf_outside.specs.declared.stop.Stop.{Stop}
+use Rattle.pf_outside.specs.declared.stop.Stop.TheVariants.{Failed, Memory}
+use Rattle.pf_outside.specs.Meaning.Formats.{Format, Means, IsRefused}
+use Rattle.pf_outside.specs.Meaning.StoreCalls.{Store, StoreAfter, Well}
+use Rattle.pf_outside.specs.Steps.FileSteps.{Judged, JudgesBytes}
 use Rattle.pf_run.specs.declared.fault.RunFault.{RunFault}
-use Rattle.pf_run.specs.declared.fault.RunFault.TheVariants.{Text as TextAt, Set, Memory as RunMemory}
-use Rattle.pf_run.specs.declared.fault.SetFault.TheVariants.{Count as SetCount, Kind as SetKind}
-use Rattle.pf_top.specs.declared.image_files.ImageRefusal.{ImageRefusal}
-use Rattle.pf_top.specs.declared.judging.Stop.{Stop}
-use Rattle.pf_top.specs.declared.judging.Stop.TheVariants.{Unread, Refused}
-use Rattle.pf_top.specs.declared.judging.Unwritten.{Unwritten}
-use Rattle.pf_top.specs.declared.judging.Unwritten.TheVariants.{Failed as NotWritten, Memory as NoMemory}
-use Rattle.pf_top.specs.declared.run_verdict.RunFile.{RunFile}
-use Rattle.pf_top.specs.declared.run_verdict.RunFile.TheVariants.{Text as TextFile, Image}
-use Rattle.pf_top.specs.declared.run_verdict.RunVerdict.{RunVerdict}
-use Rattle.pf_top.specs.declared.run_verdict.RunVerdict.TheVariants.{Done, Missing, ReadFailed, TextRefused, Count, ImageRefused, NoImage, WriteFailed, Memory}
-use Rattle.pf_top.specs.declared.run_words.RunWords.{RunWords}
-use Rattle.pf_top.specs.Meaning.Running.{Run, Language}
-use Rattle.pf_top.specs.Meaning.TextFiles.{fault_of}
+use Rattle.pf_run.specs.declared.fault.RunFault.TheVariants.{Set}
+use Rattle.pf_top.specs.declared.fault.Failure.{Failure}
+use Rattle.pf_top.specs.declared.fault.Failure.TheVariants.{NoText, Count, Run}
+use Rattle.pf_top.specs.declared.fault.FileFault.{FileFault}
+use Rattle.pf_top.specs.Meaning.Files.{image_file}
+use Rattle.pf_top.specs.Meaning.Running.{Language, HoldsImage}
 
--- the words that were lent
-abbrev pub the_run : RunWords → Run
-the_run w = record { text = w.text.now; images = map string_bytes w.images.now; out = w.out.now }
+-- the file of this number and name was read and judged by its format
+abbrev pub JudgedAs : {P : Type 0} → Format FileFault P → ℕ → List ℕ → Store → Result P (Stop FileFault Failure) → Store → Type 0
+JudgedAs f n name before r after = Judged (Means f) (IsRefused f) n name (f.most + 1) before r after
 
--- the verdict where a file was not read
-abbrev pub unread : {R : Type 0} → RunFile → FilesFault → RunVerdict R
-unread w MissingFault = Missing w
-unread w FailedFault = ReadFailed w
-unread w MemoryFault = Memory
+-- what judging its bytes comes to
+abbrev pub JudgesAs : {P : Type 0} → Format FileFault P → ℕ → Result P (Stop FileFault Failure) → List ℕ → Type 0
+JudgesAs f n r bytes = JudgesBytes (Means f) (IsRefused f) n r bytes
 
--- the verdict where the judging of the text stopped
-abbrev pub text_stopped : {R : Type 0} → Stop R → RunVerdict R
-text_stopped (Unread fault) = unread TextFile fault
-text_stopped (Refused e) = TextRefused e
+-- images were read, in order
+abbrev pub HeldImages : List (List ℕ × ImageDecl) → ℕ → List Picture → Store → Store → Type 0
+HeldImages ws n pictures before after = StoreAfter (λ old new. AllZip (HoldsImage old) (take n ws) pictures × SameContents old new) (Well n) before after
 
--- the verdict where the reading of the images stopped
-abbrev pub image_stopped : {R : Type 0} → ℕ → Stop ImageRefusal → RunVerdict R
-image_stopped n (Unread fault) = unread (Image n) fault
-image_stopped n (Refused e) = ImageRefused n e
+-- the reading of images stopped at this one
+pub record StopsAtImage (names : List (List ℕ)) (decls : List ImageDecl) (before : Store) (s : Stop FileFault Failure) (after : Store) : Type 0 where
+  pub number : ℕ
+  pub pictures : List Picture
+  pub name : List ℕ
+  pub decl : ImageDecl
+  pub middle : Store
+  pub within : number < length names
+  pub named : slice_get names number ≡ Some name
+  pub declared : slice_get decls number ≡ Some decl
+  pub held : HeldImages (zip names decls) number pictures before middle
+  pub judged : JudgedAs (image_file decl.ty) (suc number) name middle (Err s) after
 
--- the verdict where the output wasn't written
-abbrev pub run_unwritten : {R : Type 0} → Unwritten → RunVerdict R
-run_unwritten NotWritten = WriteFailed
-run_unwritten NoMemory = Memory
+-- the images of files of these names and declarations were read, file 1 and those behind it; or there are more or fewer declared
+abbrev pub ReadsImages : List (List ℕ) → List ImageDecl → Store → Result (List Picture) (Stop FileFault Failure) → Store → Type 0
+ReadsImages names decls before (Ok pictures) after = (length names ≡ length decls) × HeldImages (zip names decls) (length names) pictures before after
+ReadsImages names decls before (Err (Failed f)) after = (f ≡ Count (length decls) (length names)) × (length decls ≢ length names) × (after ≡ before)
+ReadsImages names decls before (Err s) after = (length names ≡ length decls) × StopsAtImage names decls before s after
 
--- the verdict of a call that ended well or stopped
-abbrev pub run_verdict_of : {R : Type 0} → Result ⊤ (RunVerdict R) → RunVerdict R
-run_verdict_of (Ok _) = Done
-run_verdict_of (Err v) = v
+-- why a text makes no image of images, or memory was wanting
+abbrev pub StopsAs : {P : Type 0} → Language P → P → List Picture → Stop FileFault Failure → Type 0
+StopsAs l p pictures (Failed (Run e)) = l.Ends p pictures (Err e)
+StopsAs l p pictures Memory = Unit {0}
+StopsAs l p pictures _ = ⊥
 
--- that the counts of images are the same, or the verdict where they differ
-abbrev pub Counted : {R : Type 0} → ℕ → ℕ → Result ⊤ (RunVerdict R) → Type 0
-Counted want got (Ok _) = got ≡ want
-Counted want got (Err v) = (v ≡ Count want got) × (want ≢ got)
-
--- the verdict of a run that isn't run to its end
-abbrev pub IsVerdictOf : {R : Type 0} → RunFault → RunVerdict R → Type 0
-IsVerdictOf fault (NoImage e) = fault ≡ fault_of e
-IsVerdictOf fault Memory = fault ≡ RunMemory
-IsVerdictOf fault _ = ⊥
-
--- the faults that a run may have on as many images as declared, of their types
-abbrev pub IsTellable : RunFault → Type 0
-IsTellable (TextAt line kind) = ⊥
-IsTellable (Set (SetCount want got)) = ⊥
-IsTellable (Set (SetKind image)) = ⊥
-IsTellable _ = Unit {0}
-
--- why a text makes no image of images, or want of memory
-abbrev pub StopsAt : {P R : Type 0} → Language P R → P → List Picture → RunVerdict R → Type 0
-StopsAt l p pictures (NoImage e) = l.Ends p pictures (Err e)
-StopsAt l p pictures Memory = Unit {0}
-StopsAt l p pictures _ = ⊥
-
--- what a text makes of images: the file of an image, or such a stop
-abbrev pub Outputs : {A P R : Type 0} → (A → List ℕ) → Language P R → P → List Picture → Result A (RunVerdict R) → Type 0
+-- what a text makes of images: the file of an image, or a stop
+abbrev pub Outputs : {A P : Type 0} → (A → List ℕ) → Language P → P → List Picture → Result A (Stop FileFault Failure) → Type 0
 Outputs bytes l p pictures (Ok text) = (o : Picture) × l.Ends p pictures (Ok o) × (bytes text ≡ pgm_text o)
-Outputs bytes l p pictures (Err v) = StopsAt l p pictures v
+Outputs bytes l p pictures (Err s) = StopsAs l p pictures s
+
+-- no text is selected for a kernel, or memory was wanting
+abbrev pub Unselected : Type 0 → Stop FileFault Failure → Type 0
+Unselected Built (Failed NoText) = Built → ⊥
+Unselected Built Memory = Unit {0}
+Unselected Built _ = ⊥

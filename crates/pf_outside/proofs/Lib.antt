@@ -1,0 +1,3 @@
+pub mod StoreCalls
+pub mod Telling
+pub mod Tasks

@@ -1,0 +1,4 @@
+pub mod StoreCalls
+pub mod Formats
+pub mod Tasks
+pub mod Reports

@@ -1,4 +1,0 @@
-use Rattle.pf_top.proofs.kernel_report.tell_syntax.Goals as goal
-
-pub returns : goal.returns
-returns g c = rw (← c.from.ensures) c.tell.ensures

@@ -1,0 +1,39 @@
+//! Why a file is refused, and why a call stops whose files so far are good.
+
+use pf_images::ImageFault;
+use pf_ints::Target;
+use pf_isa::TextFault;
+use pf_kernel::KernelFault;
+use pf_run::RunFault;
+
+/// Why a file is refused.
+pub enum FileFault {
+    /// The first fault of a text of no kernel.
+    Kernel(KernelFault),
+    /// The rules aren't those that are built.
+    NotBuilt,
+    /// The first fault of a text of no program.
+    Text(TextFault),
+    /// A text of more bytes than are read.
+    LongText,
+    /// The first fault of a file of no image.
+    Image(ImageFault),
+    /// A file of an image of more bytes than are read.
+    LongImage,
+}
+
+/// Why a call stops whose files so far are good.
+#[derive(Clone, Copy)]
+pub enum Failure {
+    /// No text is selected for the target, whatever the kernel.
+    Target(Target),
+    /// No text is selected for the kernel.
+    NoText,
+    /// The text is for another number of images.
+    Count { want: u64, got: u64 },
+    /// The text makes no image of the images.
+    Run(RunFault),
+}
+
+/// Why a call of a command ended without its work.
+pub type Stop = pf_outside::Stop<FileFault, Failure>;
