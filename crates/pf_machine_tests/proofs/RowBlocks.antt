@@ -13,11 +13,16 @@ use Rattle.pf_machine.specs.declared.registers.RegFile.{RegFile}
 use Rattle.pf_machine.specs.Meaning.Blocks.{BVal, IsClean, IsWithin}
 use Rattle.pf_machine.specs.Meaning.Heads.{IsHead}
 use Rattle.pf_machine.specs.Meaning.Runs.{pixel_bytes}
-use Rattle.pf_neon.specs.declared.op.Instruction.{Instruction}
-use Rattle.pf_neon.specs.Meaning.Neon.{table}
+use Rattle.pf_tables.specs.declared.instruction.Instruction.{Instruction}
+use Rattle.pf_neon.specs.Meaning.Rows.{row_at}
+use Rattle.pf_neon.specs.Meaning.Neon.{table, IsNeonInstruction}
 use Rattle.pf_rows.specs.Meaning.BlockRows.{IsRowBlock, IsBlockItem, StoresEach, tap_widths}
 use Rattle.pf_values.specs.Meaning.Kernels.{no_decl}
-use Rattle.pf_machine_tests.specs.Steps.RowBlocks.{copy_block, least_block}
+use Rattle.pf_machine_tests.specs.Steps.RowBlocks.{copy_block, least_block, lesser}
+
+pub is_listed : (to left right : ℕ) → IsNeonInstruction (lesser to left right)
+unfolding row_at
+is_listed to left right = record { inside = omega arith; shape = refl; numbers = refl }
 
 abbrev zeros : RegFile
 zeros = record { vectors = [] ∷ [] ∷ [] ∷ [] ∷ []; k = 0; q = [] }

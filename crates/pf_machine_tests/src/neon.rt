@@ -1,7 +1,7 @@
 //! Instructions of neon, one at a time: their lines, and what they name.
 
 use pf_isa::{Isa, Reg};
-use pf_neon::{Lanes, Neon, Op};
+use pf_neon::Neon;
 use std::process::Abort;
 use std::test::Fail;
 
@@ -44,6 +44,12 @@ const NO_VECTOR_LINES: &[&[u8]] = &[
     b"umin v0.16b, v1.16b",
     b"umin v0.16b, v1.16b, v2.16b, v3.16b",
     b"umin v0.16b, v1.16b, v2.16bbbbbbbbbbbbbbbbbbbbbbbbbbbbbbbbbbbbbbbbbbbbbbbbbbbbbbbbbbbbbbbbb",
+    b"shl v0.16b, v1.16b, #8",
+    b"ushr v0.16b, v1.16b, #0",
+    b"shrn v0.8b, v1.8h, #9",
+    b"umull2 v0.8h, v1.8b, v2.8b",
+    b"sqdmulh v0.16b, v1.16b, v2.16b",
+    b"mov w11, #65536",
     b"ldr x5, [x0, #8]",
 ];
 
@@ -138,11 +144,15 @@ fn control_lines_are_read(rt: HostRuntime) -> Result<(), Fail> {
 
 #[test]
 fn operations_tell_what_they_name(rt: HostRuntime) -> Result<(), Fail> {
-    let op = Op::umin(Lanes::Bytes, 4, 5, 6);
+    let op = Neon::parse(b"umin v4.16b, v5.16b, v6.16b").ok_or("no instruction")?;
     assert_eq!(rt; Neon::cost(&op), 1);
     assert!(rt; Neon::uses(&op).get(1) == Some(Reg::V(6)));
     assert!(rt; Neon::defs(&op).get(0) == Some(Reg::V(4)));
-    assert!(rt; Neon::rename(op, 5, 9) == Op::umin(Lanes::Bytes, 4, 9, 6));
+    let other = Neon::rename(op, 5, 9);
+    assert_eq!(rt;
+        Neon::print(&other).as_slice(),
+        b"umin v4.16b, v9.16b, v6.16b"
+    );
     let access = Neon::access(&Neon::load(4, 3)).ok_or("no load")?;
     assert_eq!(rt; (access.vector, access.base, access.offset), (4, 5, 48));
     Ok(())

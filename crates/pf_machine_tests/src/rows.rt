@@ -2,7 +2,7 @@
 //! against pixels that are computed here.
 
 ghost use Rattle.std.specs.Prelude.{◌≡◌, [], ◌∷◌, ◌++◌, IfOk, OnOk, IsTrue, slice_index, ℕ};
-ghost use Rattle.pf_machine.specs.declared.block.Item.TheVariants.{SlotLoad};
+ghost use Rattle.pf_machine.specs.declared.block.Item.TheVariants.{SlotLoad, Vector};
 ghost use Rattle.pf_machine.specs.Meaning.Heads.{IsHead};
 ghost use Rattle.pf_neon.specs.Meaning.Neon.{table};
 ghost use Rattle.pf_rows.specs.Meaning.BlockRows.{tap_widths, IsRowBlock};
@@ -11,9 +11,11 @@ ghost use Rattle.pf_machine_tests.specs.Steps.RowBlocks.{copy_block, kept_taps, 
 use pf_images::read_pgm;
 use pf_ints::{Duplicate, Image, ImageSet, LaneType, Memory, Sequence};
 use pf_isa::{Block, Head, Item, Program, read_text};
-use pf_neon::{Lanes, Neon, Op};
+use pf_lanes::Triple;
+use pf_neon::{Mnemonic, Neon, Op};
 use pf_rows::row_program;
 use pf_run::run_program;
+use pf_tables::Instruction;
 use std::alloc::{AllocError, Global};
 use std::process::Abort;
 use std::test::Fail;
@@ -191,10 +193,17 @@ fn pixels_of_two_bytes_are_copied(rt: HostRuntime) -> Result<(), Fail> {
     Ok(())
 }
 
-fn push_lesser(block: &mut Block<Op>, to: u32, left: u32, right: u32) -> Result<(), Memory>
-    ensures { OnOk result (block.new ≡ block.old ++ lesser to left right ∷ []) }
+fn lesser(to: u32, left: u32, right: u32) -> Op
+    ensures { result ≡ lesser to left right }
 {
-    block.push(Item::Vector(Op::umin(Lanes::Bytes, to, left, right)))?;
+    let vectors = Triple { to, left, right };
+    Op::of(Instruction::Binary(Mnemonic::Umin16b.place(), vectors))
+}
+
+fn push_lesser(block: &mut Block<Op>, to: u32, left: u32, right: u32) -> Result<(), Memory>
+    ensures { OnOk result (block.new ≡ block.old ++ Vector (lesser to left right) ∷ []) }
+{
+    block.push(Item::Vector(lesser(to, left, right)))?;
     Ok(())
 }
 
@@ -212,7 +221,7 @@ fn kept_taps(alloc: Global) -> Result<Block<Op>, Memory>
 
 /// Adds the lesser of the taps that were kept.
 fn push_kept(block: &mut Block<Op>) -> Result<(), Memory>
-    ensures { OnOk result (block.new ≡ block.old ++ SlotLoad 2 1 ∷ SlotLoad 3 0 ∷ lesser 2 2 3 ∷ []) }
+    ensures { OnOk result (block.new ≡ block.old ++ SlotLoad 2 1 ∷ SlotLoad 3 0 ∷ Vector (lesser 2 2 3) ∷ []) }
 {
     block.push(Item::SlotLoad { to: 2, slot: 1 })?;
     block.push(Item::SlotLoad { to: 3, slot: 0 })?;

@@ -25,7 +25,7 @@ use Rattle.pf_values.specs.Meaning.NamedTerms.{is_named, named_step, is_named_le
 use Rattle.pf_machine.specs.declared.program.Head.{Head}
 use Rattle.pf_machine.specs.Meaning.Heads.{IsHead, IsDecl, IsTap}
 use Rattle.pf_kernel.specs.Meaning.Kernels.{Meaning, IsKernelOf, IsTermOf, names_of, names_behind, image_name, def_name, terms_of, IsDeclaredRange as IsRange}
-use Rattle.pf_select.specs.Meaning.MinOfTaps.{byte_type, tap_term, min_term, AreTapsOf, IsMinOfTaps, HasTaps}
+use Rattle.pf_select.specs.Meaning.MinOfTaps.{byte_type, tap_term, min_term, IsMinOfTaps, HasTaps}
 use Rattle.pf_select.specs.Meaning.Selected.{head_of}
 
 -- ---- a fold of a tap, and of the lesser of two

@@ -1,5 +1,5 @@
 -- The lesser of two taps of u8: the term, the block that computes it, and what its program promises.
-use Rattle.std.specs.Prelude.{◌≡◌, ℕ, ◌<◌, List, [], ◌∷◌, ◌++◌, length, All, false, slice_index_or}
+use Rattle.std.specs.Prelude.{◌≡◌, ℕ, ◌<◌, List, [], ◌∷◌, length, All, false, slice_index_or}
 use Rattle.pf_ints.specs.declared.lane.LaneType.{LaneType}
 use Rattle.pf_ints.specs.declared.lane.Bits.TheVariants.{Eight}
 use Rattle.pf_ints.specs.Meaning.Images.{Picture}

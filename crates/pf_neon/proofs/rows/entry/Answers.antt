@@ -1,4 +1,4 @@
-use Rattle.std.proofs.Common.{◌≡◌, ◌∙◌, sym, refl, [], map, length}
+use Rattle.std.proofs.Common.{◌∙◌, sym, refl, [], map, length}
 use Rattle.std.proofs.lemmas.List.{get_or_append_left, get_or-append_right}
 use Rattle.pf_tables.specs.declared.recipes.TheConstants.{NONE}
 use Rattle.pf_neon.specs.declared.rows.TheConstants.{PLAIN, RESIZED}

@@ -1,4 +1,4 @@
-use Rattle.std.proofs.Common.{◌≡◌, ◌∙◌, ap, subst}
+use Rattle.std.proofs.Common.{◌∙◌, ap, subst}
 use Rattle.pf_neon.specs.Meaning.Rows.{row_at}
 use Rattle.pf_neon.specs.Meaning.Neon.{table}
 use Rattle.pf_rows.specs.Meaning.BlockRows.{IsRowBlock, LeavesLanes, block_cost}
