@@ -1,0 +1,17 @@
+//! Rules: patterns over lane types that depend on a width, what they mean at a width and an
+//! amount, and their forms.
+#![tactic(auto)]
+
+mod fault;
+mod number;
+mod pairs;
+mod pattern;
+mod rule;
+mod rule_file;
+
+pub use fault::SortFault;
+pub use number::{Amount, LinOf, LinPart, LinParts, Number, NumberItem, NumberPart, NumberParts};
+pub use pairs::{Pair, PairList, PairsFault};
+pub use pattern::{PatType, Pattern, Patterns};
+pub use rule::{By, Kind, Rule, RuleList, RuleParts, Step, StepList, VarDecl, VarList};
+pub use rule_file::{FileParts, RuleFile};
