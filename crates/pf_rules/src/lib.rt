@@ -2,6 +2,7 @@
 //! amount, and their forms.
 #![tactic(auto)]
 
+mod evaluating;
 mod fault;
 mod number;
 mod pairs;
@@ -9,6 +10,7 @@ mod pattern;
 mod rule;
 mod rule_file;
 
+pub use evaluating::{amount_at, number_at};
 pub use fault::SortFault;
 pub use number::{Amount, LinOf, LinPart, LinParts, Number, NumberItem, NumberPart, NumberParts};
 pub use pairs::{Pair, PairList, PairsFault};
