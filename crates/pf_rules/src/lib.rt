@@ -2,6 +2,7 @@
 //! amount, and their forms.
 #![tactic(auto)]
 
+mod counts;
 mod evaluating;
 mod fault;
 mod number;
@@ -10,6 +11,7 @@ mod pattern;
 mod rule;
 mod rule_file;
 
+pub use counts::{is_bare, is_lane_free, is_op_free, nodes, occurrences, weight};
 pub use evaluating::{amount_at, number_at};
 pub use fault::SortFault;
 pub use number::{Amount, LinOf, LinPart, LinParts, Number, NumberItem, NumberPart, NumberParts};
