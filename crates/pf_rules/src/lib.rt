@@ -8,8 +8,10 @@ mod fault;
 mod number;
 mod pairs;
 mod pattern;
+mod place;
 mod rule;
 mod rule_file;
+mod sorts;
 
 pub use counts::{is_bare, is_lane_free, is_op_free, nodes, occurrences, weight};
 pub use evaluating::{amount_at, number_at};
@@ -17,5 +19,7 @@ pub use fault::SortFault;
 pub use number::{Amount, LinOf, LinPart, LinParts, Number, NumberItem, NumberPart, NumberParts};
 pub use pairs::{Pair, PairList, PairsFault};
 pub use pattern::{PatType, Pattern, Patterns};
+pub use place::lane_at;
 pub use rule::{By, Kind, Rule, RuleList, RuleParts, Step, StepList, VarDecl, VarList};
 pub use rule_file::{FileParts, RuleFile};
+pub use sorts::{sort_of, type_of};

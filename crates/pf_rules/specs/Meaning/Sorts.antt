@@ -131,11 +131,14 @@ abbrev pub fits : (ℕ → Bool) → ℤ → Bool
 fits has (pos k) = has k
 fits has (negsuc k) = false
 
+abbrev pub if_fits : Bool → Bool → LaneType → ℤ → Result LaneType SortFault
+if_fits amounts fits t k = if not amounts || fits then Ok t else Err (Amount [] k)
+
 -- a node of a type, whose amounts are these; a number without a value is a fault of types
 abbrev pub judged : Bool → Option LaneType → (ℕ → Bool) → Option ℤ → Result LaneType SortFault
 judged amounts None has k = Err (Types [])
 judged amounts (Some t) has None = Err (Types [])
-judged amounts (Some t) has (Some k) = if not amounts || fits has k then Ok t else Err (Amount [] k)
+judged amounts (Some t) has (Some k) = if_fits amounts (fits has k) t k
 
 -- what is stated, at the width w; none where a type is stated that is none there
 abbrev pub stated_at : ℕ → Option PatType → Option (Option LaneType)
@@ -157,11 +160,21 @@ then_judged node (Err e) = Err e
 
 -- ---- patterns
 
+-- a node by itself, where its operands have these types
+abbrev pub own_sort : {A : Type 0} → Bool → Kind → At → List LaneType → Pattern-F A → Result LaneType SortFault
+own_sort amounts kind at types (Var n) = typed (type_of_var at n)
+own_sort amounts kind at types (Const n ty) = typed (type_of_const at n ty)
+own_sort amounts kind at types (Node op to k args) = judged_op amounts at op k types (stated_at at.w to)
+own_sort amounts kind at types (Lane op to k args) = judged_lane amounts kind at op k types (stated_at at.w to)
+
+abbrev pub args_of : {A : Type 0} → Pattern-F A → List A
+args_of (Var n) = []
+args_of (Const n ty) = []
+args_of (Node op to k args) = args
+args_of (Lane op to k args) = args
+
 abbrev pub sort_step : Bool → Kind → At → Pattern-F (Result LaneType SortFault) → Result LaneType SortFault
-sort_step amounts kind at (Var n) = typed (type_of_var at n)
-sort_step amounts kind at (Const n ty) = typed (type_of_const at n ty)
-sort_step amounts kind at (Node op to k args) = then_judged (λ types. judged_op amounts at op k types (stated_at at.w to)) (types_from 0 args)
-sort_step amounts kind at (Lane op to k args) = then_judged (λ types. judged_lane amounts kind at op k types (stated_at at.w to)) (types_from 0 args)
+sort_step amounts kind at layer = then_judged (λ types. own_sort amounts kind at types layer) (types_from 0 (args_of layer))
 
 -- the type of a pattern, or the fault of the first node in post-order that has one, at one node that of its types before that of its amount;
 -- whether amounts are outside their ranges is judged too, or isn't
