@@ -18,7 +18,7 @@ use Rattle.pf_rules.specs.declared.rule.Kind.{Kind}
 use Rattle.pf_rules.specs.declared.rule.Kind.TheVariants.{Lift, Lower}
 use Rattle.pf_rules.specs.Meaning.Sorts.{fits, has_lane_amount}
 
-bits_small : (b : Bits) → bit_count b ≤ 32
+pub bits_small : (b : Bits) → bit_count b ≤ 32
 bits_small Eight = omega arith
 bits_small Sixteen = omega arith
 bits_small ThirtyTwo = omega arith
@@ -36,7 +36,7 @@ nothing : {A B : Type 0} (f : A → Option B) (o : Option A) → ((a : A) → f 
 nothing f None h = refl
 nothing f (Some a) h = h a
 
-no_row : (target : Target) (op : LaneName) (to : Option LaneType) (types : List LaneType) (k : ℕ) → 64 ≤ k → row_type target op to types k ≡ None
+pub no_row : (target : Target) (op : LaneName) (to : Option LaneType) (types : List LaneType) (k : ℕ) → 64 ≤ k → row_type target op to types k ≡ None
 no_row target op to types k large =
     nothing (λ t. option_and_then (λ u. allowed (lane_row op) target k t u) (lane_result (lane_row op).gives to t types)) (row_key (lane_row op).operands types) (λ t.
     nothing (λ u. allowed (lane_row op) target k t u) (lane_result (lane_row op).gives to t types) (λ u.

@@ -1,3 +1,5 @@
 pub mod NumberLaws
 pub mod AmountLaws
 pub mod SortLaws
+pub mod RowFacts
+pub mod SideLaws

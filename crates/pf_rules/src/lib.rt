@@ -5,6 +5,7 @@
 mod counts;
 mod evaluating;
 mod fault;
+mod forms;
 mod number;
 mod pairs;
 mod pattern;
@@ -16,6 +17,7 @@ mod sorts;
 pub use counts::{is_bare, is_lane_free, is_op_free, nodes, occurrences, weight};
 pub use evaluating::{amount_at, number_at};
 pub use fault::SortFault;
+pub use forms::form_of;
 pub use number::{Amount, LinOf, LinPart, LinParts, Number, NumberItem, NumberPart, NumberParts};
 pub use pairs::{Pair, PairList, PairsFault};
 pub use pattern::{PatType, Pattern, Patterns};

@@ -1,5 +1,5 @@
 -- The types of patterns at a width and a shift.
-use Rattle.std.specs.Prelude.{◌≡◌, ℕ, ℤ, pos, negsuc, ◌+◌, ◌*◌, ◌==◌, min, Bool, true, false, not, ◌&&◌, ◌||◌, if◌then◌else◌, List, [], ◌∷◌, length, slice_get, Option, Some, None, option_and_then, option_map, Result, Ok, Err}
+use Rattle.std.specs.Prelude.{◌≡◌, ℕ, ℤ, pos, negsuc, ◌+◌, ◌*◌, ◌==◌, min, Bool, true, false, not, ◌&&◌, ◌||◌, if◌then◌else◌, List, [], ◌∷◌, length, slice_get, Option, Some, None, option_and_then, option_map, is_some, Result, Ok, Err}
 use Rattle.pf_ints.specs.declared.lane.LaneType.{LaneType}
 use Rattle.pf_ints.specs.declared.lane.Bits.{Bits}
 use Rattle.pf_ints.specs.declared.lane.Bits.TheVariants.{Eight, Sixteen, ThirtyTwo}
@@ -72,7 +72,7 @@ is_stated states (Some _) = states
 abbrev pub op_gives : Op → Option LaneType → List LaneType → LaneType
 op_gives op to types = result_type (row_of op).gives (type_or to) types
 
-abbrev unless_fault : {A B : Type 0} → Option A → B → Option B
+abbrev pub unless_fault : {A B : Type 0} → Option A → B → Option B
 unless_fault (Some _) t = None
 unless_fault None t = Some t
 
@@ -96,10 +96,6 @@ some_amount _ = 1
 abbrev pub lane_op_type : Kind → LaneName → Option LaneType → List LaneType → Option LaneType
 lane_op_type Lift op to types = None
 lane_op_type (Lower target) op to types = option_map (λ r. r.0) (row_type target op to types (some_amount (lane_row op).amounts))
-
-abbrev is_some : {A : Type 0} → Option A → Bool
-is_some None = false
-is_some (Some _) = true
 
 abbrev pub has_lane_amount : Kind → LaneName → Option LaneType → List LaneType → ℕ → Bool
 has_lane_amount Lift op to types k = false
