@@ -3,3 +3,5 @@ pub mod AmountLaws
 pub mod SortLaws
 pub mod RowFacts
 pub mod SideLaws
+pub mod SideSteps
+pub mod SizeLaws

@@ -26,7 +26,7 @@ use Rattle.pf_rules.specs.declared.number.Amount.{Amount as AmountOf}
 use Rattle.pf_rules.specs.declared.pattern.PatType.{PatType}
 use Rattle.pf_rules.specs.declared.pattern.Pattern.{Pattern}
 use Rattle.pf_rules.specs.declared.pattern.Pattern.TheOpen.{Pattern-F}
-use Rattle.pf_rules.specs.declared.pattern.Pattern.TheOpen.Pattern-F as layer
+use Rattle.pf_rules.specs.declared.pattern.Pattern.TheOpen.Pattern-F.{Var as VarLayer, Const as ConstLayer, Node as NodeLayer, Lane as LaneLayer}
 use Rattle.pf_rules.specs.declared.pattern.Pattern.TheViews.{roll-Pattern}
 use Rattle.pf_rules.specs.declared.pattern.Pattern.TheFolds.{fold-roll-Pattern, ind-Pattern, map-Pattern}
 use Rattle.pf_rules.specs.declared.rule.Kind.{Kind}
@@ -100,7 +100,7 @@ within_list [] n a h = absurd (cc)
 within_list (x ∷ xs) zero a h = omega arith
 within_list (x ∷ xs) (suc n) a h = let below = within_list xs n a h in omega (arith, below)
 
-first_found : (r : Result LaneType SortFault) (n : ℕ) (rs : List (Result LaneType SortFault)) (us : List LaneType) → types_from n (r ∷ rs) ≡ Ok us →
+pub first_found : (r : Result LaneType SortFault) (n : ℕ) (rs : List (Result LaneType SortFault)) (us : List LaneType) → types_from n (r ∷ rs) ≡ Ok us →
     (t : LaneType) × (ts : List LaneType) × (r ≡ Ok t) × (types_from (n + 1) rs ≡ Ok ts) × (t ∷ ts ≡ us)
 first_found (Err e) n rs us h = absurd (cc)
 first_found (Ok t) n rs us h = by (types_from (n + 1) rs) refl h
@@ -110,7 +110,7 @@ first_found (Ok t) n rs us h = by (types_from (n + 1) rs) refl h
     by (Ok ts) e g = (t, ts, refl, e, cc)
     by (Err f) e g = absurd (cc)
 
-all_found : (node : List LaneType → Result LaneType SortFault) (o : Result (List LaneType) SortFault) (t : LaneType) → then_judged node o ≡ Ok t → (ts : List LaneType) × (o ≡ Ok ts) × (node ts ≡ Ok t)
+pub all_found : (node : List LaneType → Result LaneType SortFault) (o : Result (List LaneType) SortFault) (t : LaneType) → then_judged node o ≡ Ok t → (ts : List LaneType) × (o ≡ Ok ts) × (node ts ≡ Ok t)
 all_found node (Ok ts) t h = (ts, refl, h)
 all_found node (Err e) t h = absurd (cc)
 
@@ -144,10 +144,10 @@ module _ (kind : Kind) (at : At) where
     formed = subst (λ r. IsFormOver (length at.vars) r.1) (sym form) formed;
   }
 
-  var_says : (n : ℕ) → Says (roll-Pattern (layer.Var n))
+  var_says : (n : ℕ) → Says (roll-Pattern (VarLayer n))
   var_says n t h =
-      let found = typed_some (type_of_var at n) t (sym (sort_of (layer.Var n)) ∙ h) in
-      sided (roll-Pattern (layer.Var n)) t (type_or (type_of_var at n), Var n) (λ v. (type_or (type_of_var at n), v n)) (form_of (layer.Var n)) (λ v. value_of v (layer.Var n))
+      let found = typed_some (type_of_var at n) t (sym (sort_of (VarLayer n)) ∙ h) in
+      sided (roll-Pattern (VarLayer n)) t (type_or (type_of_var at n), Var n) (λ v. (type_or (type_of_var at n), v n)) (form_of (VarLayer n)) (λ v. value_of v (VarLayer n))
       (ap type_or found) (λ v. ap type_or found) (λ v. refl) (below (slice_get at.vars n) refl found)
     where
       below : (o : Option VarDecl) → slice_get at.vars n ≡ o → option_and_then (λ d. lane_at at.w d.ty) o ≡ Some t → n < length at.vars
@@ -168,12 +168,12 @@ module _ (kind : Kind) (at : At) where
   abbrev IsNumber : Number → PatType → LaneType → Type 0
   IsNumber n ty t = (type_or (lane_at at.w ty) ≡ t) × Includes (range (neg_ℤ furthest) furthest) (value_or (number_at at.w at.k n))
 
-  const_says : (n : Number) (ty : PatType) → Says (roll-Pattern (layer.Const n ty))
+  const_says : (n : Number) (ty : PatType) → Says (roll-Pattern (ConstLayer n ty))
   const_says n ty t h =
-      let found = typed_some (type_of_const at n ty) t (sym (sort_of (layer.Const n ty)) ∙ h) in
+      let found = typed_some (type_of_const at n ty) t (sym (sort_of (ConstLayer n ty)) ∙ h) in
       let parts = by_type (lane_at at.w ty) refl found in
-      sided (roll-Pattern (layer.Const n ty)) t (type_or (lane_at at.w ty), Num (value_or (number_at at.w at.k n))) (λ v. (type_or (lane_at at.w ty), value_or (number_at at.w at.k n)))
-      (form_of (layer.Const n ty)) (λ v. value_of v (layer.Const n ty)) parts.0 (λ v. parts.0) (λ v. refl) parts.1
+      sided (roll-Pattern (ConstLayer n ty)) t (type_or (lane_at at.w ty), Num (value_or (number_at at.w at.k n))) (λ v. (type_or (lane_at at.w ty), value_or (number_at at.w at.k n)))
+      (form_of (ConstLayer n ty)) (λ v. value_of v (ConstLayer n ty)) parts.0 (λ v. parts.0) (λ v. refl) parts.1
     where
       by_member : (u : LaneType) (m : ℤ) (b : Bool) → lane_at at.w ty ≡ Some u → number_at at.w at.k n ≡ Some m → is_in u m ≡ b → cond b (Some u) None ≡ Some t → IsNumber n ty t
       by_member u m false e f i g = absurd (cc)
@@ -202,10 +202,10 @@ module _ (kind : Kind) (at : At) where
         formed = (own.formed, rest.formed);
       }
 
-  node_says : (op : Op) (to : Option PatType) (k : AmountOf) (ps : List ((p : Pattern) × Says p)) → Says (roll-Pattern (layer.Node op to k (map (λ p. p.0) ps)))
+  node_says : (op : Op) (to : Option PatType) (k : AmountOf) (ps : List ((p : Pattern) × Says p)) → Says (roll-Pattern (NodeLayer op to k (map (λ p. p.0) ps)))
   node_says op to k ps t h =
       let args = map (λ p. p.0) ps in
-      let x = layer.Node op to k args in
+      let x = NodeLayer op to k args in
       let found = all_found (λ types. judged_op true at op k types (stated_at at.w to)) (types_from 0 (map (sorting true kind at) args)) t (sym (sort_of x) ∙ h) in
       let facts = op_facts at op to k found.0 t found.2 in
       let each = operands_sided ps 0 found.0 found.1 in
@@ -221,10 +221,10 @@ module _ (kind : Kind) (at : At) where
       refl (λ v. refl) (λ v. formula_value v t (amount_or at k) op fs count ∙ ap ((row_of op).value t (amount_or at k)) (each.values v))
       (form_over (length at.vars) t (amount_or at k) fs (formula op) (omega (arith, small)) (some_of op (length fs) count) (op_room (over t (amount_or at k) fs) (omega (arith, small)) op) each.formed)
 
-  lane_says : (op : LaneName) (to : Option PatType) (k : AmountOf) (ps : List ((p : Pattern) × Says p)) → Says (roll-Pattern (layer.Lane op to k (map (λ p. p.0) ps)))
+  lane_says : (op : LaneName) (to : Option PatType) (k : AmountOf) (ps : List ((p : Pattern) × Says p)) → Says (roll-Pattern (LaneLayer op to k (map (λ p. p.0) ps)))
   lane_says op to k ps t h =
       let args = map (λ p. p.0) ps in
-      let x = layer.Lane op to k args in
+      let x = LaneLayer op to k args in
       let found = all_found (λ types. judged_lane true kind at op k types (stated_at at.w to)) (types_from 0 (map (sorting true kind at) args)) t (sym (sort_of x) ∙ h) in
       let facts = lane_facts kind at op to k found.0 t found.2 in
       let each = operands_sided ps 0 found.0 found.1 in
@@ -244,10 +244,10 @@ module _ (kind : Kind) (at : At) where
       (form_over (length at.vars) t a fs (lane_formula op) small some (lane_room (over t a fs) small op) each.formed)
 
   layer_says : (y : Pattern-F ((p : Pattern) × Says p)) → Says (roll-Pattern (map-Pattern ((p : Pattern) × Says p) Pattern (λ e. e.0) y))
-  layer_says (layer.Var n) = var_says n
-  layer_says (layer.Const n ty) = const_says n ty
-  layer_says (layer.Node op to k ps) = node_says op to k ps
-  layer_says (layer.Lane op to k ps) = lane_says op to k ps
+  layer_says (VarLayer n) = var_says n
+  layer_says (ConstLayer n ty) = const_says n ty
+  layer_says (NodeLayer op to k ps) = node_says op to k ps
+  layer_says (LaneLayer op to k ps) = lane_says op to k ps
 
   pub says : (p : Pattern) → Says p
   says = ind-Pattern Says (λ x y is. subst (λ z. Says (roll-Pattern z)) is (layer_says y))

@@ -19,7 +19,7 @@ use std::alloc::Global;
 
 /// The form of a pattern that has a type at the width `w` and the shift `k`. The form has the
 /// pattern's value.
-#[tactic(auto, using(crate::proofs::SideLaws::sided_of))]
+
 pub fn form_of(
     alloc: Global,
     pattern: &Pattern,

@@ -12,6 +12,7 @@ mod pattern;
 mod place;
 mod rule;
 mod rule_file;
+mod sizes;
 mod sorts;
 
 pub use counts::{is_bare, is_lane_free, is_op_free, nodes, occurrences, weight};
@@ -24,4 +25,5 @@ pub use pattern::{PatType, Pattern, Patterns};
 pub use place::lane_at;
 pub use rule::{By, Kind, Rule, RuleList, RuleParts, Step, StepList, VarDecl, VarList};
 pub use rule_file::{FileParts, RuleFile};
+pub use sizes::form_size;
 pub use sorts::{sort_of, type_of};
