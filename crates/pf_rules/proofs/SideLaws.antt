@@ -193,11 +193,11 @@ module _ (kind : Kind) (at : At) where
       record { form_types = none; value_types = λ v. none; values = λ v. refl; formed = tt }
   operands_sided (p ∷ ps) n types h =
       let found = first_found (sorting true kind at p.0) n (map (sorting true kind at) (map (λ q. q.0) ps)) types h in
-      let own = p.1 found.0 found.2.0 in
-      let rest = operands_sided ps (n + 1) found.1 found.2.1 in
+      let own = p.1 found.0 found.2 in
+      let rest = operands_sided ps (n + 1) found.1 found.3 in
       record {
-        form_types = ap (λ x. x ∷ firsts (map (typed_form at) (map (λ q. q.0) ps))) own.form_type ∙ ap (λ xs. found.0 ∷ xs) rest.form_types ∙ found.2.2;
-        value_types = λ v. ap (λ x. x ∷ firsts (map (typed_value at v) (map (λ q. q.0) ps))) (own.value_type v) ∙ ap (λ xs. found.0 ∷ xs) (rest.value_types v) ∙ found.2.2;
+        form_types = ap (λ x. x ∷ firsts (map (typed_form at) (map (λ q. q.0) ps))) own.form_type ∙ ap (λ xs. found.0 ∷ xs) rest.form_types ∙ found.4;
+        value_types = λ v. ap (λ x. x ∷ firsts (map (typed_value at v) (map (λ q. q.0) ps))) (own.value_type v) ∙ ap (λ xs. found.0 ∷ xs) (rest.value_types v) ∙ found.4;
         values = λ v. ap (λ x. x ∷ map (FVal v) (seconds (map (typed_form at) (map (λ q. q.0) ps)))) (own.value v) ∙ ap (λ xs. PVal at v p.0 ∷ xs) (rest.values v);
         formed = (own.formed, rest.formed);
       }

@@ -182,7 +182,7 @@ fn longer(alloc: Global, n: u8, path: &Path) -> Result<Path, AllocError>
 fn op_type(op: Op, to: Option<LaneType>, types: &[LaneType]) -> Option<LaneType>
     ensures { result ≡ op_type op to types.now }
 {
-    if types.len() != operand_count(op.operands()) || !is_stated(states(op.gives()), to) {
+    if types.len() != operand_count(op.operands()) || !is_stated(states(op.gives()), &to) {
         return None;
     }
     let ty = op_gives(op, to, types);
@@ -228,8 +228,8 @@ pub(crate) fn states(gives: Gives) -> bool
     }
 }
 
-fn is_stated(states: bool, to: Option<LaneType>) -> bool
-    ensures { result ≡ is_stated states to }
+pub(crate) fn is_stated<T>(states: bool, to: &Option<T>) -> bool
+    ensures { result ≡ is_stated states to.now }
 {
     match to {
         Some(_) => states,
