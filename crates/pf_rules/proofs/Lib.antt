@@ -5,3 +5,4 @@ pub mod RowFacts
 pub mod SideLaws
 pub mod SideSteps
 pub mod SizeLaws
+pub mod ShiftLaws

@@ -1,6 +1,7 @@
 -- The form of a pattern as it is made, operand by operand.
-use Rattle.std.proofs.Common.{◌≡◌, refl, sym, ap, ◌∙◌, subst, ℕ, zero, suc, ◌+◌, ◌<◌, ◌≤◌, ℤ, true, List, [], ◌∷◌, ◌++◌, length, map, take, take_more, take_all, map-append, get_or, arith, Ok, Err, ◌⊎◌, inl, inr}
+use Rattle.std.proofs.Common.{◌≡◌, refl, sym, ap, ◌∙◌, subst, ℕ, zero, suc, ◌+◌, ◌<◌, ◌≤◌, ℤ, true, List, [], ◌∷◌, ◌++◌, length, map, take, get_or, arith, Ok, Err, ◌⊎◌, inl, inr}
 use Rattle.std.specs.Prelude.{Option, Result, All, IfOk}
+use Rattle.std.proofs.lemmas.List.{map-append, take_more, take_all}
 use Rattle.pf_ints.specs.declared.lane.LaneType.{LaneType}
 use Rattle.pf_values.specs.declared.op.Op.{Op}
 use Rattle.pf_forms.specs.declared.form.Form.{Form}
@@ -104,6 +105,10 @@ module _ (at : At) where
 
   pub each_sorted : (p : Pattern) (args xs : List Pattern) → IsParent p args → xs ≡ args → HasSort at p → All (λ q. HasSort at q) xs
   each_sorted p args xs is same h = subst (λ ys. All (λ q. HasSort at q) ys) (sym same) (parent_sorted p args is h).0
+
+  pub same_items : (xs : List LaneType) → map (λ t. t) xs ≡ xs
+  same_items [] = refl
+  same_items (x ∷ xs) = ap (λ ys. x ∷ ys) (same_items xs)
 
   -- one more operand's type, or form, is found
   pub found_more : {A B : Type 0} (f : A → B) (g : T → B) (r : A) (rs : List A) (xs : List Pattern) (n : ℕ) (x : Pattern) → map f rs ≡ map g (map (typed_form at) (take n xs)) → n < length xs →

@@ -4,6 +4,8 @@ ghost use Rattle.pf_rules.specs.Meaning.Files.{is_file, are_rules, is_step, is_c
 
 use crate::checks::suits;
 use crate::rule::{By, Kind, Rule, RuleList, Step};
+use pf_ints::Duplicate;
+use std::alloc::{AllocError, Global};
 use std::marker::Model;
 
 /// What a file of rules is made of.
@@ -52,6 +54,18 @@ impl RuleFile {
         ensures kept { is_file self.now ≡ true }
     {
         &self.parts
+    }
+}
+
+impl Duplicate for RuleFile {
+    fn copy(&self, alloc: Global) -> Result<RuleFile, AllocError> {
+        Ok(RuleFile {
+            parts: FileParts {
+                format: self.parts.format,
+                kind: self.parts.kind,
+                rules: self.parts.rules.copy(alloc)?,
+            },
+        })
     }
 }
 

@@ -1,6 +1,7 @@
 use Rattle.std.proofs.Common.{◌≡◌, ◌<◌, sym, ap, ◌∙◌, map, arith}
 use Rattle.pf_forms.specs.Meaning.Shapes.{shape}
 use Rattle.pf_laneops.specs.Meaning.LaneRows.{row_type}
+use Rattle.pf_rules.specs.Meaning.Sides.{stated_or}
 use Rattle.pf_rules.specs.Steps.Sorted.{here}
 use Rattle.pf_rules.proofs.SideSteps.{node_facts, row_facts, lane_told}
 use Rattle.pf_rules.proofs.place.Place.own_form.Goals as goal
@@ -31,7 +32,7 @@ lane_gives-ty-requires c =
       target = f.target;
       result = (c.requires.sorted.ty, f.cost);
       row = ap (λ s. row_type f.target c.in-Lane.op s c.args.types.now c.amount_or-k.result) c.stated_or-in-Lane.ensures
-          ∙ ap (λ k. row_type f.target c.in-Lane.op _ c.args.types.now k) c.amount_or-k.ensures ∙ f.row;
+          ∙ ap (λ k. row_type f.target c.in-Lane.op (stated_or (here c.args.self.now) c.in-Lane.to) c.args.types.now k) c.amount_or-k.ensures ∙ f.row;
     }
 
 pub lane_form-requires-clause-amount : goal.lane_form-requires-clause-amount
