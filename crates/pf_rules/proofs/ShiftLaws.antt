@@ -42,7 +42,7 @@ widths_rise before (w ∷ ws) h zero d below = and_left (is_width w) _ h
 widths_rise before (w ∷ ws) h (suc i) d below = widths_rise w ws (and_right _ (rises w ws) (and_right (is_width w) _ h)) i d (omega (arith, below))
 
 of_widths : (ws : List ℤ) → is_widths ws ≡ true → All (λ w. is_width w ≡ true) ws
-of_widths [] h i d below = absurd (omega (arith, below))
+of_widths [] h = λ i d below. absurd (omega (arith, below))
 of_widths (w ∷ ws) h = widths_rise (pos 0) (w ∷ ws) h
 
 pub widths_each : (r : RuleParts) (ws : List ℤ) → ws ≡ r.widths → is_rule r ≡ true → All (λ w. is_width w ≡ true) ws

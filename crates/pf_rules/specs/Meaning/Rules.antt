@@ -122,7 +122,7 @@ first_bad (w ∷ ws) shift = unless_shifts (unsigned_abs w) (first_bad ws shift)
 
 -- ---- the ranges of the variables, and what a rule says
 
-abbrev range_in : LaneType → ℤ → ℤ → Option Range
+abbrev pub range_in : LaneType → ℤ → ℤ → Option Range
 range_in t lo hi = if int_le (least t) lo && (int_le lo hi && int_le hi (greatest t)) then Some (range lo hi) else None
 
 abbrev pub stated_range : ℕ → ℕ → LaneType → Option (Number × Number) → Option Range
