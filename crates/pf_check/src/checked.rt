@@ -83,7 +83,8 @@ impl EarlierList {
         ensures err { OnErr result (self.new ≡ self.old) }
     {
         let _ = is_kept(&item);
-        self.items.push(item)
+        self.items.push(item)?;
+        Ok(())
     }
 }
 

@@ -4,6 +4,7 @@
 
 mod checked;
 mod fault;
+mod judging;
 
 pub use checked::{Checked, CheckedList, EarlierList};
 pub use fault::RuleFault;

@@ -82,18 +82,18 @@ found (Sat t x) (Sat u f) s = found x f s
 found _ _ s = s
 
 abbrev pub forms_in : Shape → Shape → ℕ → Shape
-forms_in left f = found left f Var
+forms_in left f = found left f (λ n. f)
 
 abbrev pub has_pair : List Pair → ℕ → ℕ → Bool
 has_pair [] w k = false
 has_pair (p ∷ ps) w k = ((p.w == w) && (p.k == k)) || has_pair ps w k
 
 -- a missing interval comes before all that don't lie in their ranges
-abbrev denied_unless : Range → Option Range → Verdict → Verdict
+abbrev pub denied_unless : Range → Option Range → Verdict → Verdict
 denied_unless got None rest = Denied got
 denied_unless got (Some whole) rest = if lies_in got whole then rest else Denied got
 
-abbrev with_interval : VarDecl → Pair → Option Range → Verdict → Verdict
+abbrev pub with_interval : VarDecl → Pair → Option Range → Verdict → Verdict
 with_interval d p None rest = Missing
 with_interval d p (Some got) Missing = Missing
 with_interval d p (Some got) rest = denied_unless got (range_at p.w p.k d) rest
@@ -102,7 +102,7 @@ abbrev pub range_verdict : List Range → Pair → (ℕ → Shape) → ℕ → L
 range_verdict ranges p s n [] = Granted
 range_verdict ranges p s n (d ∷ ds) = with_interval d p (G ranges (s n)) (range_verdict ranges p s (suc n) ds)
 
-abbrev cited_at : RuleParts → Pair → List Range → Shape → (ℕ → Shape) → Answer
+abbrev pub cited_at : RuleParts → Pair → List Range → Shape → (ℕ → Shape) → Answer
 cited_at r p ranges f s = suited (same (filled s (left_for r p)) f) (by_verdict (range_verdict ranges p s 0 r.vars) (Ok (filled s (right_for r p))))
 
 -- what the rule makes of f

@@ -55,16 +55,16 @@ side_fault left (sort.Types path) = Types left path
 side_fault left (sort.Amount path k) = Immediate left path k
 side_fault left sort.Memory = Types left []
 
-abbrev unless_same : LaneType → LaneType → Option Fault
-unless_same t u = if same_type t u then None else Some (Types false [])
+abbrev pub no_type : Bool → Result LaneType SortFault → Option Fault
+no_type left (Ok t) = None
+no_type left (Err e) = Some (side_fault left e)
 
-abbrev right_fault : LaneType → Result LaneType SortFault → Option Fault
-right_fault t (Ok u) = unless_same t u
-right_fault t (Err e) = Some (side_fault false e)
+abbrev pub differing : Result LaneType SortFault → Result LaneType SortFault → Option Fault
+differing (Ok t) (Ok u) = if same_type t u then None else Some (Types false [])
+differing _ _ = None
 
 abbrev sides_fault : Result LaneType SortFault → Result LaneType SortFault → Option Fault
-sides_fault (Err e) r = Some (side_fault true e)
-sides_fault (Ok t) r = right_fault t r
+sides_fault l r = option_or (no_type true l) (option_or (no_type false r) (differing l r))
 
 -- the fault of a side that has no type, or of types that differ; amounts are judged or aren't
 abbrev pub sort_fault : Bool → RuleParts → Kind → Pair → Option Fault
@@ -72,11 +72,11 @@ sort_fault amounts r kind p = sides_fault (sorting amounts kind (at_pair r p) r.
 
 -- ---- ranges, weights, repetitions
 
-abbrev unless_range : ℕ → Pair → Option Fault → Option Range → Option Fault
+abbrev pub unless_range : ℕ → Pair → Option Fault → Option Range → Option Fault
 unless_range n p rest None = Some (OutOfRange (Some n) p.w p.k)
 unless_range n p rest (Some r) = rest
 
-abbrev range_fault_from : ℕ → List VarDecl → Pair → Option Fault
+abbrev pub range_fault_from : ℕ → List VarDecl → Pair → Option Fault
 range_fault_from n [] p = None
 range_fault_from n (d ∷ ds) p = unless_range n p (range_fault_from (n + 1) ds p) (range_at p.w p.k d)
 
@@ -86,11 +86,11 @@ range_fault r p = range_fault_from 0 r.vars p
 abbrev pub shift_fault : RuleParts → Option Fault
 shift_fault r = option_map (λ w. OutOfRange None w 0) (first_bad r.widths r.shift)
 
-abbrev weight_fault : RuleParts → Option Fault
+abbrev pub weight_fault : RuleParts → Option Fault
 weight_fault r = if nat_lt (pattern_weight r.rhs) (pattern_weight r.lhs) then None else Some (Heavier (pattern_weight r.lhs) (pattern_weight r.rhs))
 
 -- the least variable from n on, of so many more, that stands more often on the right
-abbrev repeats_from : ℕ → ℕ → RuleParts → Option Fault
+abbrev pub repeats_from : ℕ → ℕ → RuleParts → Option Fault
 repeats_from n zero r = None
 repeats_from n (suc m) r = if nat_le (occurrences n r.rhs) (occurrences n r.lhs) then repeats_from (n + 1) m r else Some (Repeats n)
 
@@ -100,11 +100,11 @@ lift_fault (Lower target) r = None
 
 -- ---- steps
 
-abbrev is_refused : Option (Option CheckedRule) → Bool
+abbrev pub is_refused : Option (Option CheckedRule) → Bool
 is_refused (Some (Some c)) = false
 is_refused _ = true
 
-abbrev cites_refused : Earlier → By → Bool
+abbrev pub cites_refused : Earlier → By → Bool
 cites_refused earlier (by.Axiom law) = false
 cites_refused earlier (by.Rule n) = is_refused (slice_get earlier n)
 
@@ -112,7 +112,7 @@ abbrev pub cites_from : ℕ → Earlier → List Step → Option Fault
 cites_from n earlier [] = None
 cites_from n earlier (s ∷ ss) = if cites_refused earlier s.by then Some (Cites n) else cites_from (n + 1) earlier ss
 
-abbrev cite_of : Option (Option CheckedRule) → List Range → Pair → Shape → Answer
+abbrev pub cite_of : Option (Option CheckedRule) → List Range → Pair → Shape → Answer
 cite_of (Some (Some c)) ranges p x = cite c.rule p.w p.k ranges x
 cite_of _ ranges p x = Err NoMatch
 
@@ -121,11 +121,11 @@ abbrev pub made_by : Earlier → List Range → Pair → By → Shape → Answer
 made_by earlier ranges p (by.Axiom law) x = answer (axiom_row law) ranges x
 made_by earlier ranges p (by.Rule n) x = cite_of (slice_get earlier n) ranges p x
 
-abbrev put_answer : Shape → List ℕ → Answer → Answer
+abbrev pub put_answer : Shape → List ℕ → Answer → Answer
 put_answer f path (Ok y) = Ok (put_at f path y)
 put_answer f path (Err e) = Err e
 
-abbrev made_at : Earlier → List Range → Pair → Step → Shape → Option Shape → Answer
+abbrev pub made_at : Earlier → List Range → Pair → Step → Shape → Option Shape → Answer
 made_at earlier ranges p s f None = Err NoMatch
 made_at earlier ranges p s f (Some x) = put_answer f s.path (made_by earlier ranges p s.by x)
 
@@ -137,7 +137,7 @@ abbrev pub large_fault : ℕ → Pair → Shape → Option Fault
 large_fault n p f = if nat_le (form_node_count f) most_nodes then None else Some (TooLarge n p.w p.k (form_node_count f))
 
 -- the fault of step n, or of what comes behind it
-abbrev after_step : ℕ → Pair → (Shape → Option Fault) → Answer → Option Fault
+abbrev pub after_step : ℕ → Pair → (Shape → Option Fault) → Answer → Option Fault
 after_step n p rest (Ok f) = option_or (large_fault n p f) (rest f)
 after_step n p rest (Err e) = Some (Stops n p.w p.k e)
 
@@ -186,3 +186,13 @@ TellsFault (told.TooLarge n w k count) found = found ≡ Some (TooLarge n w k co
 TellsFault (told.Step n w k e) found = found ≡ Some (Stops n w k e)
 TellsFault (told.Apart w k f g) found = found ≡ Some (Apart w k (shape f) (shape g))
 TellsFault told.Memory found = Unit {0}
+
+-- no fault, or the told one
+abbrev pub Says : Result (Unit {0}) RuleFault → Option Fault → Type 0
+Says (Ok u) found = found ≡ None
+Says (Err e) found = TellsFault e found
+
+-- the type of a side, or its fault
+abbrev pub SaysSort : Bool → Result LaneType RuleFault → Result LaneType SortFault → Type 0
+SaysSort left (Ok t) found = found ≡ Ok t
+SaysSort left (Err e) found = TellsFault e (no_type left found)

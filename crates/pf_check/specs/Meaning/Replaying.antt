@@ -1,5 +1,5 @@
 -- The replay of a certificate's steps, and which rules are accepted.
-use Rattle.std.specs.Prelude.{◌≡◌, ◌≤◌, ℕ, if◌then◌else◌, List, [], ◌∷◌, map, slice_get, Option, Some, None, Contains}
+use Rattle.std.specs.Prelude.{◌≡◌, ◌≤◌, ℕ, pos, Bool, true, false, List, [], ◌∷◌, map, slice_get, Option, Some, None, Contains}
 use Rattle.pf_ints.specs.Meaning.Ranges.{Range, range}
 use Rattle.pf_forms.specs.Meaning.Shapes.{Shape}
 use Rattle.pf_forms.specs.Meaning.Parts.{form_node_count, part_at, put_at}
@@ -38,16 +38,20 @@ pub record Takes (earlier : Earlier) (ranges : List Range) (p : Pair) (s : Step)
   pub is_put : g ≡ put_at f s.path new
   pub small : form_node_count g ≤ most_nodes
 
+abbrev pub on_side : Bool → Type 0 → Type 0 → Type 0
+on_side true A B = A
+on_side false A B = B
+
 -- the steps, taken one after another on the sides that they name, make one form of both
 abbrev pub Replays : Earlier → List Range → Pair → List Step → Shape → Shape → Type 0
 Replays earlier ranges p [] f g = f ≡ g
 Replays earlier ranges p (s ∷ ss) f g =
     (h : Shape)
-    × (if s.left then Takes earlier ranges p s f h else Takes earlier ranges p s g h)
-    × (if s.left then Replays earlier ranges p ss h g else Replays earlier ranges p ss f h)
+    × on_side s.left (Takes earlier ranges p s f h) (Takes earlier ranges p s g h)
+    × on_side s.left (Replays earlier ranges p ss h g) (Replays earlier ranges p ss f h)
 
-abbrev range_or : Option Range → Range
-range_or None = range 0 0
+abbrev pub range_or : Option Range → Range
+range_or None = range (pos 0) (pos 0)
 range_or (Some r) = r
 
 -- the ranges of the variables, which are there for a rule that is accepted
@@ -60,7 +64,7 @@ pub record Certifies (earlier : Earlier) (r : RuleParts) (p : Pair) : Type 0 whe
   pub small_right : form_node_count (form_at (at_pair r p) r.rhs) ≤ most_nodes
   pub replays : Replays earlier (ranges_at r p) p r.steps (form_at (at_pair r p) r.lhs) (form_at (at_pair r p) r.rhs)
 
-abbrev IsCheckedAt : Option (Option CheckedRule) → Type 0
+abbrev pub IsCheckedAt : Option (Option CheckedRule) → Type 0
 IsCheckedAt (Some (Some c)) = Unit {0}
 IsCheckedAt _ = ⊥
 
