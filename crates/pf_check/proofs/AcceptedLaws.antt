@@ -78,12 +78,13 @@ have_type amounts r kind p h =
 
 ranges_found : (n : ℕ) (ds : List VarDecl) (p : Pair) → range_fault_from n ds p ≡ None → (d : VarDecl) → Contains ds d → IsSome (range_at p.w p.k d)
 ranges_found n [] p h d (i, below, is) = absurd (omega (arith, below))
-ranges_found n (x ∷ xs) p h d c = by (range_at p.w p.k x) refl h c
+ranges_found n (x ∷ xs) p h d c = by (range_at p.w p.k x) refl h c (λ g at. ranges_found (n + 1) xs p g d at)
   where
-    by : (o : Option Range) → range_at p.w p.k x ≡ o → unless_range n p (range_fault_from (n + 1) xs p) o ≡ None → Contains (x ∷ xs) d → IsSome (range_at p.w p.k d)
-    by None e g c = absurd (cc)
-    by (Some r) e g (zero, below, is) = subst (λ y. IsSome (range_at p.w p.k y)) is (subst (λ o. IsSome o) (sym e) tt)
-    by (Some r) e g (suc i, below, is) = ranges_found (n + 1) xs p g d (i, omega (arith, below), is)
+    by : (o : Option Range) → range_at p.w p.k x ≡ o → unless_range n p (range_fault_from (n + 1) xs p) o ≡ None → Contains (x ∷ xs) d →
+        (range_fault_from (n + 1) xs p ≡ None → Contains xs d → IsSome (range_at p.w p.k d)) → IsSome (range_at p.w p.k d)
+    by None e g c later = absurd (cc)
+    by (Some r) e g (zero, below, is) later = subst (λ y. IsSome (range_at p.w p.k y)) is (subst (λ o. IsSome o) (sym e) refl)
+    by (Some r) e g (suc i, below, is) later = later g (i, omega (arith, below), is)
 
 -- ---- weights and repetitions
 
@@ -96,19 +97,25 @@ none_less m n f h = by (nat_lt m n) refl h
 
 no_oftener : (n m : ℕ) (r : RuleParts) → repeats_from n m r ≡ None → (i : ℕ) → i < m → occurrences (n + i) r.rhs ≤ occurrences (n + i) r.lhs
 no_oftener n zero r h i below = absurd (omega (arith, below))
-no_oftener n (suc m) r h i below = by (nat_le (occurrences n r.rhs) (occurrences n r.lhs)) refl h i below
+no_oftener n (suc m) r h i below = by (nat_le (occurrences n r.rhs) (occurrences n r.lhs)) refl h i below (λ g j under. no_oftener (n + 1) m r g j under)
   where
-    by : (b : Bool) → nat_le (occurrences n r.rhs) (occurrences n r.lhs) ≡ b → cond b (repeats_from (n + 1) m r) (Some (Repeats n)) ≡ None → (i : ℕ) → i < suc m → occurrences (n + i) r.rhs ≤ occurrences (n + i) r.lhs
-    by false e g i below = absurd (cc)
-    by true e g zero below = grind (arith, nat_tests)
-    by true e g (suc i) below =
+    by : (b : Bool) → nat_le (occurrences n r.rhs) (occurrences n r.lhs) ≡ b → cond b (repeats_from (n + 1) m r) (Some (Repeats n)) ≡ None → (i : ℕ) → i < suc m →
+        (repeats_from (n + 1) m r ≡ None → (j : ℕ) → j < m → occurrences (n + 1 + j) r.rhs ≤ occurrences (n + 1 + j) r.lhs) → occurrences (n + i) r.rhs ≤ occurrences (n + i) r.lhs
+    by false e g i below later = absurd (cc)
+    by true e g zero below later =
+        let same : n ≡ n + 0 = omega arith in
+        subst (λ j. occurrences j r.rhs ≤ occurrences j r.lhs) same (less e)
+      where
+        less : nat_le (occurrences n r.rhs) (occurrences n r.lhs) ≡ true → occurrences n r.rhs ≤ occurrences n r.lhs
+        less d = grind (arith, nat_tests)
+    by true e g (suc i) below later =
         let same : n + 1 + i ≡ n + suc i = omega arith in
-        subst (λ j. occurrences j r.rhs ≤ occurrences j r.lhs) same (no_oftener (n + 1) m r g i (omega (arith, below)))
+        subst (λ j. occurrences j r.rhs ≤ occurrences j r.lhs) same (later g i (omega (arith, below)))
 
 lift_parts : (kind : Kind) (r : RuleParts) → lift_fault kind r ≡ None → kind ≡ Lift → (pattern_weight r.rhs < pattern_weight r.lhs) × ((n : ℕ) → n < length r.vars → occurrences n r.rhs ≤ occurrences n r.lhs)
 lift_parts Lift r h is =
     let p = none_both (weight_fault r) (repeats_from 0 (length r.vars) r) h in
-    (none_less (pattern_weight r.rhs) (pattern_weight r.lhs) _ p.0, λ n below. no_oftener 0 (length r.vars) r p.1 n below)
+    (none_less (pattern_weight r.rhs) (pattern_weight r.lhs) _ p.0, λ n below. (let same : 0 + n ≡ n = omega arith in subst (λ j. occurrences j r.rhs ≤ occurrences j r.lhs) same (no_oftener 0 (length r.vars) r p.1 n below)))
 lift_parts (Lower target) r h is = absurd (cc)
 
 no_shift_fault : (o : Option ℕ) (f : ℕ → Fault) → option_map f o ≡ None → o ≡ None

@@ -60,10 +60,6 @@ nth_of [] n below = absurd (omega (arith, below))
 nth_of (x ∷ xs) zero below = (x, refl)
 nth_of (x ∷ xs) (suc n) below = nth_of xs n (omega (arith, below))
 
-pub test : (b : Bool) → IsTrue b → b ≡ true
-test true h = refl
-test false h = absurd h
-
 -- what lies in a range is in it
 pub wider : (a b : Range) (n : ℤ) → lies_in a b ≡ true → Includes a n → Includes b n
 wider a b n h i =
@@ -92,12 +88,12 @@ module _ (r : RuleParts) (kind : Kind) (checked : IsChecked r kind) (w k : ℕ) 
   inside v h n d whole at is =
       let l = c.inside n d at in
       let same : l.whole ≡ whole = (let e = sym l.is_whole ∙ is in cc e) in
-      subst (λ x. Includes x (FVal v (c.forms n))) same (wider l.got l.whole (FVal v (c.forms n)) (test (lies_in l.got l.whole) l.inside) (value_in ranges v h (c.forms n) l.got l.is_got))
+      subst (λ x. Includes x (FVal v (c.forms n))) same (wider l.got l.whole (FVal v (c.forms n)) l.inside (value_in ranges v h (c.forms n) l.got l.is_got))
 
   pub cited_keeps : KeepsValue ranges f g
   cited_keeps = record {
     same_value = λ v h.
-        let u = λ n. FVal v (c.forms n) in
+        let u : ℕ → ℤ = λ n. FVal v (c.forms n) in
         ap (FVal v) c.is_right ∙ filled_value v c.forms (right_for r p) ∙ (sided_of (at_pair r p) r.rhs (right_sort r kind p sorts)).value u
         ∙ sym (checked.holds p c.stated u (inside v h)) ∙ sym ((sided_of (at_pair r p) r.lhs (left_sort r kind p sorts)).value u)
         ∙ sym (filled_value v c.forms (left_for r p)) ∙ ap (FVal v) (sym c.is_left);

@@ -1,6 +1,7 @@
 -- The counts of a rule's sides are small.
 use Rattle.std.proofs.Common.{◌≡◌, refl, sym, ap, ◌∙◌, subst, ℕ, ◌+◌, ◌*◌, ◌≤◌, ◌==◌, Bool, true, false, cond, List, [], ◌∷◌, map, arith}
 use Rattle.std.specs.Prelude.{Option, sum}
+use Rattle.std.specs.List.{fold}
 use Rattle.pf_values.specs.declared.op.Op.{Op}
 use Rattle.pf_values.specs.declared.op.Op.TheVariants as op
 use Rattle.pf_values.specs.Meaning.Operators.{row_of}
@@ -20,6 +21,23 @@ row_weight : (o : Op) → (row_of o).weight ≤ 3
 row_weight op.Cast = omega arith
 row_weight _ = omega arith
 
+added_before : (a : ℕ) (xs : List ℕ) → fold ◌+◌ a xs ≡ a + fold ◌+◌ 0 xs
+added_before a [] = omega arith
+added_before a (x ∷ xs) =
+    let p = added_before (a + x) xs in
+    let q = added_before (0 + x) xs in
+    let r : fold ◌+◌ (a + x) xs ≡ a + fold ◌+◌ (0 + x) xs = omega (arith, p, q) in
+    r
+
+sum_cons : (x : ℕ) (xs : List ℕ) → sum (x ∷ xs) ≡ x + sum xs
+sum_cons x xs = added_before (0 + x) xs ∙ (let none : 0 + x ≡ x = omega arith in ap (λ n. n + sum xs) none)
+
+added : (c n : ℕ) (cs ns : List ℕ) → c ≤ 3 * n → sum cs ≤ 3 * sum ns → sum (c ∷ cs) ≤ 3 * sum (n ∷ ns)
+added c n cs ns g h =
+    let e = sum_cons c cs in
+    let f = sum_cons n ns in
+    omega (arith, e, f, g, h)
+
 -- a count that adds at most 3 at each node
 module _ (step : Pattern-F ℕ → ℕ) (light : (x : Pattern-F ℕ) → step x ≤ 3 + sum (args_of x)) where
   abbrev Small : Pattern → Type 0
@@ -27,7 +45,7 @@ module _ (step : Pattern-F ℕ → ℕ) (light : (x : Pattern-F ℕ) → step x 
 
   each_small : (ps : List ((p : Pattern) × Small p)) → sum (map (fold-Pattern ℕ step) (map (λ p. p.0) ps)) ≤ 3 * sum (map pattern_nodes (map (λ p. p.0) ps))
   each_small [] = omega arith
-  each_small (p ∷ ps) = let a = p.1 in let b = each_small ps in omega (arith, a, b)
+  each_small (p ∷ ps) = added (fold-Pattern ℕ step p.0) (pattern_nodes p.0) (map (fold-Pattern ℕ step) (map (λ q. q.0) ps)) (map pattern_nodes (map (λ q. q.0) ps)) p.1 (each_small ps)
 
   leaf_small : (c n : ℕ) → c ≤ 3 + 0 → n ≡ 1 → c ≤ 3 * n
   leaf_small c n a b = omega (arith, a, b)

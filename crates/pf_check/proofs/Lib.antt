@@ -1,3 +1,4 @@
+mod PartLaws
 pub mod CitedLaws
 pub mod StepsSound
 pub mod RulesSound

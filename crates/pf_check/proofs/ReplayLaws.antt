@@ -32,7 +32,8 @@ use Rattle.pf_check.specs.Meaning.Replaying.{Makes, CitedOf, Takes, on_side, Rep
 use Rattle.pf_check.specs.Meaning.Faults.{Fault, TooLarge, Apart, Cites, made_by, made_at, cite_of, put_answer, stepped, large_fault, after_step, replay_from, replay_fault, is_refused, cites_refused, cites_from, shift_fault, sort_fault, range_fault, lift_fault, first_at, first_fault}
 use Rattle.pf_check.proofs.AcceptedLaws.{none_both, none_at, is_sound}
 use Rattle.pf_check.proofs.CitedLaws.{left_sort, right_sort}
-use Rattle.pf_check.proofs.StepsSound.{part_form, takes_keeps}
+use Rattle.pf_check.proofs.StepsSound.{takes_keeps}
+use Rattle.pf_check.proofs.PartLaws.{part_is_form}
 
 -- ---- a citing step
 
@@ -47,15 +48,15 @@ granted_ok (Denied got) x g h = absurd (cc)
 
 stated_pair : (ps : List Pair) (w k : ℕ) → has_pair ps w k ≡ true → Contains ps (pair w k)
 stated_pair [] w k h = absurd (cc)
-stated_pair (p ∷ ps) w k h = by (p.w == w) (p.k == k) refl refl h
+stated_pair (p ∷ ps) w k h = by (p.w == w) (p.k == k) refl refl h (λ g. stated_pair ps w k g)
   where
     later : Contains ps (pair w k) → Contains (p ∷ ps) (pair w k)
     later (n, below, is) = (suc n, omega (arith, below), is)
 
-    by : (a b : Bool) → (p.w == w) ≡ a → (p.k == k) ≡ b → (a && b) || has_pair ps w k ≡ true → Contains (p ∷ ps) (pair w k)
-    by true true e f g = (zero, omega arith, ap (λ x. pair x p.k) (eqb-true _ _ e) ∙ ap (pair w) (eqb-true _ _ f))
-    by true false e f g = later (stated_pair ps w k g)
-    by false b e f g = later (stated_pair ps w k g)
+    by : (a b : Bool) → (p.w == w) ≡ a → (p.k == k) ≡ b → (a && b) || has_pair ps w k ≡ true → (has_pair ps w k ≡ true → Contains ps (pair w k)) → Contains (p ∷ ps) (pair w k)
+    by true true e f g rest = (zero, omega arith, ap (λ x. pair x p.k) (eqb-true _ _ e) ∙ ap (pair w) (eqb-true _ _ f))
+    by true false e f g rest = later (rest g)
+    by false b e f g rest = later (rest g)
 
 -- what is found in a form is a form
 module _ (count : ℕ) where
@@ -64,7 +65,7 @@ module _ (count : ℕ) where
   written_form false f g h k = k
 
   found_form : (x f : Shape) (s : ℕ → Shape) → IsFormOver count f → ((n : ℕ) → IsFormOver count (s n)) → (n : ℕ) → IsFormOver count (found x f s n)
-  found_form (Var m) f s h k n = written_form (n == m) f (s n) h (k n)
+  found_form (Var m) f s h k = λ n. written_form (n == m) f (s n) h (k n)
   found_form (Add x y) (Add f g) s h k = found_form y g (found x f s) h.1 (found_form x f s h.0 k)
   found_form (Sub x y) (Sub f g) s h k = found_form y g (found x f s) h.1 (found_form x f s h.0 k)
   found_form (Mul x y) (Mul f g) s h k = found_form y g (found x f s) h.1 (found_form x f s h.0 k)
@@ -88,7 +89,7 @@ module _ (ranges : List Range) (p : Pair) (s : ℕ → Shape) (forms : (n : ℕ)
       by_range got (Some whole) e f g = by_test (lies_in got whole) refl g
         where
           by_test : (b : Bool) → lies_in got whole ≡ b → cond b Granted (Denied got) ≡ Granted → LiesIn ranges p d (s i)
-          by_test true i g = record { is_form = forms _; got = got; is_got = e; whole = whole; is_whole = f; inside = subst IsTrue (sym i) tt }
+          by_test true i g = record { is_form = forms _; got = got; is_got = e; whole = whole; is_whole = f; inside = i }
           by_test false i g = absurd (cc)
 
       no_grant : (got x : Range) (o : Option Range) → denied_unless got o (Denied x) ≡ Granted → ⊥
@@ -107,7 +108,10 @@ module _ (ranges : List Range) (p : Pair) (s : ℕ → Shape) (forms : (n : ℕ)
 
   all_inside : (i : ℕ) (ds : List VarDecl) → range_verdict ranges p s i ds ≡ Granted → (n : ℕ) (d : VarDecl) → slice_get ds n ≡ Some d → LiesIn ranges p d (s (n + i))
   all_inside i [] h n d e = absurd (cc)
-  all_inside i (x ∷ xs) h zero d e = let same : x ≡ d = cc e in subst (λ y. LiesIn ranges p y (s i)) same (first_inside i x (range_verdict ranges p s (suc i) xs) h).0
+  all_inside i (x ∷ xs) h zero d e =
+      let same : x ≡ d = cc e in
+      let start : i ≡ 0 + i = omega arith in
+      subst (λ m. LiesIn ranges p d (s m)) start (subst (λ y. LiesIn ranges p y (s i)) same (first_inside i x (range_verdict ranges p s (suc i) xs) h).0)
   all_inside i (x ∷ xs) h (suc n) d e =
       let next : n + suc i ≡ suc n + i = omega arith in
       subst (λ m. LiesIn ranges p d (s m)) next (all_inside (suc i) xs (first_inside i x (range_verdict ranges p s (suc i) xs) h).1 n d e)
@@ -151,7 +155,7 @@ module _ (earlier : Earlier) (ranges : List Range) (p : Pair) where
       by_answer : (x : Shape) (a : Answer) → part_at f s.path ≡ Some x → made_by earlier ranges p s.by x ≡ a → put_answer f s.path a ≡ Ok h → Takes earlier ranges p s f h
       by_answer x (Err k) d m g = absurd (cc)
       by_answer x (Ok y) d m g =
-          record { part = x; new = y; there = d; made = makes_is s.by x y (part_form (length ranges) f x s.path d form) m; is_put = (let same : put_at f s.path y ≡ h = cc g in sym same); small = small }
+          record { part = x; new = y; there = d; made = makes_is s.by x y (part_is_form (length ranges) f x s.path d form) m; is_put = (let same : put_at f s.path y ≡ h = cc g in sym same); small = small }
 
       by : (o : Option Shape) → part_at f s.path ≡ o → made_at earlier ranges p s f o ≡ Ok h → Takes earlier ranges p s f h
       by None d g = absurd (cc)
@@ -179,22 +183,23 @@ module _ (earlier : Earlier) (checked : AreChecked earlier) (ranges : List Range
       by : (c : Bool) → same f g ≡ c → cond c None (Some (Apart p.w p.k f g)) ≡ None → f ≡ g
       by true e d = same_true f g e
       by false e d = absurd (cc)
-  replays_is n (s ∷ ss) f g a b h = by s.left h
+  replays_is n (s ∷ ss) f g a b h = by s.left h (λ x y c d e. replays_is (n + 1) ss x y c d e)
     where
       by : (left : Bool) → cond left (after_step n p (λ x. replay_from earlier ranges p (n + 1) ss x g) (stepped earlier ranges p s f)) (after_step n p (λ x. replay_from earlier ranges p (n + 1) ss f x) (stepped earlier ranges p s g)) ≡ None →
+          ((x y : Shape) → IsFormOver (length ranges) x → IsFormOver (length ranges) y → replay_from earlier ranges p (n + 1) ss x y ≡ None → Replays earlier ranges p ss x y) →
           (x : Shape) × on_side left (Takes earlier ranges p s f x) (Takes earlier ranges p s g x) × on_side left (Replays earlier ranges p ss x g) (Replays earlier ranges p ss f x)
-      by true d =
+      by true d later =
           let t = taken n s f (λ x. replay_from earlier ranges p (n + 1) ss x g) a d in
-          (t.0, t.1, replays_is (n + 1) ss t.0 g (takes_keeps earlier checked ranges p s f t.0 a t.1).form b t.2)
-      by false d =
+          (t.0, t.1, later t.0 g (takes_keeps earlier checked ranges p s f t.0 a t.1).form b t.2)
+      by false d later =
           let t = taken n s g (λ x. replay_from earlier ranges p (n + 1) ss f x) b d in
-          (t.0, t.1, replays_is (n + 1) ss f t.0 a (takes_keeps earlier checked ranges p s g t.0 b t.1).form t.2)
+          (t.0, t.1, later f t.0 a (takes_keeps earlier checked ranges p s g t.0 b t.1).form t.2)
 
 -- ---- a rule without a fault
 
 cites_is : (earlier : Earlier) (n : ℕ) (ss : List Step) → cites_from n earlier ss ≡ None → (s : Step) → Contains ss s → CitesChecked earlier s.by
 cites_is earlier n [] h s (i, below, is) = absurd (omega (arith, below))
-cites_is earlier n (x ∷ xs) h s c = by (cites_refused earlier x.by) refl h c
+cites_is earlier n (x ∷ xs) h s c = by (cites_refused earlier x.by) refl h c (λ g at. cites_is earlier (n + 1) xs g s at)
   where
     by_rule : (o : Option (Option CheckedRule)) → is_refused o ≡ false → IsCheckedAt o
     by_rule None e = absurd (cc)
@@ -205,10 +210,10 @@ cites_is earlier n (x ∷ xs) h s c = by (cites_refused earlier x.by) refl h c
     by_cause (by.Axiom law) e = tt
     by_cause (by.Rule m) e = by_rule (slice_get earlier m) e
 
-    by : (b : Bool) → cites_refused earlier x.by ≡ b → cond b (Some (Cites n)) (cites_from (n + 1) earlier xs) ≡ None → Contains (x ∷ xs) s → CitesChecked earlier s.by
-    by true e g c = absurd (cc)
-    by false e g (zero, below, is) = subst (λ y. CitesChecked earlier y.by) is (by_cause x.by e)
-    by false e g (suc i, below, is) = cites_is earlier (n + 1) xs g s (i, omega (arith, below), is)
+    by : (b : Bool) → cites_refused earlier x.by ≡ b → cond b (Some (Cites n)) (cites_from (n + 1) earlier xs) ≡ None → Contains (x ∷ xs) s → (cites_from (n + 1) earlier xs ≡ None → Contains xs s → CitesChecked earlier s.by) → CitesChecked earlier s.by
+    by true e g c later = absurd (cc)
+    by false e g (zero, below, is) later = subst (λ y. CitesChecked earlier y.by) is (by_cause x.by e)
+    by false e g (suc i, below, is) later = later g (i, omega (arith, below), is)
 
 certifies_is : (r : RuleParts) (kind : Kind) (earlier : Earlier) → AreChecked earlier → IsSound r kind → (p : Pair) → Contains (pairs r) p → replay_fault earlier r p ≡ None → Certifies earlier r p
 certifies_is r kind earlier checked sound p c h =

@@ -37,7 +37,7 @@ in_ranges r p v some inside n whole e = by (range_at p.w p.k found.0) refl (some
     there = got_contains r.vars n found.0 found.1
 
     by : (o : Option Range) → range_at p.w p.k found.0 ≡ o → IsSome o → range_or o ≡ whole → Includes whole (v n)
-    by None f s g = absurd s
+    by None f s g = absurd (cc)
     by (Some x) f s g = subst (λ y. Includes y (v n)) g (inside n found.0 x found.1 f)
 
 -- an accepted rule holds, where the earlier rules do

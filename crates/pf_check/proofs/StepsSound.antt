@@ -6,7 +6,6 @@ use Rattle.pf_forms.specs.declared.axioms.Axiom.{Axiom}
 use Rattle.pf_forms.specs.Meaning.Shapes.{Shape, Var, Num, Pow, Add, Sub, Mul, FloorDiv, Min, Max, Abs, Sel, Wrap, Sat}
 use Rattle.pf_forms.specs.Meaning.Values.{FVal, AreIn, IsFormOver}
 use Rattle.pf_forms.specs.Meaning.Parts.{child, part_at, put_at}
-use Rattle.pf_forms.proofs.PartLaws.{put_form, put_value}
 use Rattle.pf_axioms.specs.Meaning.Rows.{AxiomRow, Law, Folding, axiom_row}
 use Rattle.pf_axioms.specs.Meaning.AxiomSteps.{RowStep, KeepsValue}
 use Rattle.pf_axioms.proofs.FoldLaws.{fold_keeps}
@@ -19,45 +18,7 @@ use Rattle.pf_rules.specs.declared.shifts.Pair.{Pair}
 use Rattle.pf_check.specs.Meaning.Accepting.{CheckedRule, Earlier, IsKept, AreChecked}
 use Rattle.pf_check.specs.Meaning.Replaying.{CitedOf, Makes, Takes, on_side, Replays}
 use Rattle.pf_check.proofs.CitedLaws.{cited_keeps}
-
--- ---- the parts of a form are forms
-
-module _ (count : ℕ) where
-  only : (x w : Shape) (a : Bool) → cond a (Some x) None ≡ Some w → IsFormOver count x → IsFormOver count w
-  only x w true e h = let same : x ≡ w = cc e in subst (IsFormOver count) same h
-  only x w false e h = absurd (cc)
-
-  either : (x y w : Shape) (a b : Bool) → cond a (Some x) (cond b (Some y) None) ≡ Some w → IsFormOver count x × IsFormOver count y → IsFormOver count w
-  either x y w true b e h = let same : x ≡ w = cc e in subst (IsFormOver count) same h.0
-  either x y w false b e h = only y w b e h.1
-
-  child_form : (f w : Shape) (i : ℕ) → child f i ≡ Some w → IsFormOver count f → IsFormOver count w
-  child_form (Var n) w i e h = absurd (cc)
-  child_form (Num n) w i e h = absurd (cc)
-  child_form (Pow k) w i e h = absurd (cc)
-  child_form (Add x y) w i e h = either x y w (i == 0) (i == 1) e h
-  child_form (Sub x y) w i e h = either x y w (i == 0) (i == 1) e h
-  child_form (Mul x y) w i e h = either x y w (i == 0) (i == 1) e h
-  child_form (Min x y) w i e h = either x y w (i == 0) (i == 1) e h
-  child_form (Max x y) w i e h = either x y w (i == 0) (i == 1) e h
-  child_form (FloorDiv x k) w i e h = only x w (i == 0) e h.0
-  child_form (Abs x) w i e h = only x w (i == 0) e h
-  child_form (Sel a b x y) w i e h = any (i == 0) (i == 1) e
-    where
-      any : (p q : Bool) → cond p (Some a) (cond q (Some b) (cond (i == 2) (Some x) (cond (i == 3) (Some y) None))) ≡ Some w → IsFormOver count w
-      any true q d = only a w true d h.0
-      any false true d = only b w true d h.1
-      any false false d = either x y w (i == 2) (i == 3) d (h.2, h.3)
-  child_form (Wrap t x) w i e h = only x w (i == 0) e h
-  child_form (Sat t x) w i e h = only x w (i == 0) e h
-
-  pub part_form : (f w : Shape) (path : List ℕ) → part_at f path ≡ Some w → IsFormOver count f → IsFormOver count w
-  part_form f w [] e h = let same : f ≡ w = cc e in subst (IsFormOver count) same h
-  part_form f w (i ∷ path) e h = by (child f i) refl e
-    where
-      by : (o : Option Shape) → child f i ≡ o → option_and_then (λ x. part_at x path) o ≡ Some w → IsFormOver count w
-      by None d g = absurd (cc)
-      by (Some x) d g = part_form x w path g (child_form f x i d h)
+use Rattle.pf_check.proofs.PartLaws.{part_is_form, put_form, put_value}
 
 -- ---- a step
 
@@ -82,9 +43,9 @@ module _ (earlier : Earlier) (checked : AreChecked earlier) (ranges : List Range
 
   pub takes_keeps : (s : Step) (f g : Shape) → IsFormOver (length ranges) f → Takes earlier ranges p s f g → KeepsValue ranges f g
   takes_keeps s f g h t =
-      let part = part_form (length ranges) f t.part s.path t.there h in
+      let part = part_is_form (length ranges) f t.part s.path t.there h in
       let new = makes_keeps s.by t.part t.new part t.made in
-      let there : IsSome (part_at f s.path) = subst (λ o. IsSome o) (sym t.there) tt in
+      let there : IsSome (part_at f s.path) = subst (λ o. IsSome o) (sym t.there) refl in
       record {
         same_value = λ v inside. put_value f g t.new s.path t.is_put there v (subst (λ o. IfSome o (λ x. FVal v t.new ≡ FVal v x)) (sym t.there) (new.same_value v inside));
         form = put_form f g t.new s.path t.is_put (length ranges) h new.form;
@@ -93,8 +54,9 @@ module _ (earlier : Earlier) (checked : AreChecked earlier) (ranges : List Range
   -- the steps make one form of both sides, so the sides have one value
   pub replays_keep : (ss : List Step) (f g : Shape) → IsFormOver (length ranges) f → IsFormOver (length ranges) g → Replays earlier ranges p ss f g → (v : ℕ → ℤ) → AreIn ranges v → FVal v f ≡ FVal v g
   replays_keep [] f g a b same v inside = ap (FVal v) same
-  replays_keep (s ∷ ss) f g a b (h, step, rest) v inside = by_side s.left step rest
+  replays_keep (s ∷ ss) f g a b (h, step, rest) v inside = by_side s.left step rest (λ x y c d more. replays_keep ss x y c d more v inside)
     where
-      by_side : (left : Bool) → on_side left (Takes earlier ranges p s f h) (Takes earlier ranges p s g h) → on_side left (Replays earlier ranges p ss h g) (Replays earlier ranges p ss f h) → FVal v f ≡ FVal v g
-      by_side true t more = let k = takes_keeps s f h a t in sym (k.same_value v inside) ∙ replays_keep ss h g k.form b more v inside
-      by_side false t more = let k = takes_keeps s g h b t in replays_keep ss f h a k.form more v inside ∙ k.same_value v inside
+      by_side : (left : Bool) → on_side left (Takes earlier ranges p s f h) (Takes earlier ranges p s g h) → on_side left (Replays earlier ranges p ss h g) (Replays earlier ranges p ss f h) →
+          ((x y : Shape) → IsFormOver (length ranges) x → IsFormOver (length ranges) y → Replays earlier ranges p ss x y → FVal v x ≡ FVal v y) → FVal v f ≡ FVal v g
+      by_side true t more later = let k = takes_keeps s f h a t in sym (k.same_value v inside) ∙ later h g k.form b more
+      by_side false t more later = let k = takes_keeps s g h b t in later f h a k.form more ∙ k.same_value v inside
