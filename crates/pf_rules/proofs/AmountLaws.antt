@@ -1,6 +1,6 @@
 -- No row of lane operations has an amount of 64 or more.
-use Rattle.std.proofs.Common.{◌≡◌, refl, sym, ap, ◌∙◌, ℕ, ◌<◌, ◌≤◌, ◌==◌, ℤ, pos, negsuc, Bool, true, false, cond, Some, None, List, arith}
-use Rattle.std.specs.Prelude.{Option, nat_lt, nat_le, ◌&&◌, ◌≤ℤ◌, ◌<ℤ◌, option_and_then}
+use Rattle.std.proofs.Common.{◌≡◌, refl, ap, ℕ, ◌≤◌, ℤ, pos, negsuc, Bool, false, cond, Some, None, List, arith}
+use Rattle.std.specs.Prelude.{Option, ◌≤ℤ◌, ◌<ℤ◌, option_and_then}
 use Rattle.std.proofs.lemmas.Int.{ints}
 use Rattle.std.proofs.lemmas.Bool.Decides.{nat_tests}
 use Rattle.pf_ints.specs.declared.lane.LaneType.{LaneType}
@@ -10,7 +10,6 @@ use Rattle.pf_ints.specs.declared.target.Target.{Target}
 use Rattle.pf_ints.specs.declared.target.Target.TheVariants.{Neon, Avx2, Hvx}
 use Rattle.pf_ints.specs.Meaning.Lanes.{lane_width, bit_count}
 use Rattle.pf_laneops.specs.declared.lane_name.LaneName.{LaneName}
-use Rattle.pf_laneops.specs.declared.lane_row.LaneRow.{LaneRow}
 use Rattle.pf_laneops.specs.declared.lane_row.LaneAmounts.{LaneAmounts}
 use Rattle.pf_laneops.specs.declared.lane_row.LaneAmounts.TheVariants.{Without, Below, Inside, UpTo, UpToButHvx}
 use Rattle.pf_laneops.specs.Meaning.LaneRows.{lane_row, row_type, row_key, lane_result, allowed, factor, cost_on, counted, priced, is_lane_amount}

@@ -1,6 +1,6 @@
 -- Powers that are too far from 0.
-use Rattle.std.proofs.Common.{◌≡◌, ◌≢◌, refl, sym, ℕ, zero, suc, ◌+◌, ◌*◌, ◌^◌, ◌<◌, ◌≤◌, ℤ, pos, negsuc, Bool, true, false, None, arith}
-use Rattle.std.specs.Prelude.{neg_ℤ, int_le, int_lt, ◌*ℤ◌, ◌<ℤ◌, ◌&&◌}
+use Rattle.std.proofs.Common.{◌≡◌, ◌≢◌, refl, sym, zero, suc, ◌^◌, ℤ, pos, negsuc, Bool, true, false, None, arith}
+use Rattle.std.specs.Prelude.{neg_ℤ, int_le, ◌*ℤ◌, ◌<ℤ◌}
 use Rattle.std.proofs.lemmas.Int.{ints}
 use Rattle.std.proofs.Math.Pow.{pow_mono}
 use Rattle.pf_ints.specs.Meaning.Ranges.{furthest}

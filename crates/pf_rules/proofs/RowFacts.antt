@@ -1,9 +1,8 @@
 -- What is known of a node that has a type: its operands' count, its type as the meanings of sides have it, and its amount.
-use Rattle.std.proofs.Common.{◌≡◌, refl, sym, ap, ◌∙◌, ℕ, zero, suc, ◌+◌, ◌<◌, ◌≤◌, ◌==◌, eqb-true, ℤ, pos, negsuc, Bool, true, false, cond, Some, None, List, [], ◌∷◌, length, arith, Ok, Err}
-use Rattle.std.specs.Prelude.{Option, nat_lt, nat_le, ◌&&◌, not, option_and_then, option_map, Result, is_some}
+use Rattle.std.proofs.Common.{◌≡◌, refl, sym, ap, ◌∙◌, ℕ, ◌<◌, ◌≤◌, ◌==◌, eqb-true, ℤ, pos, negsuc, Bool, true, false, cond, Some, None, List, [], ◌∷◌, length, arith, Ok}
+use Rattle.std.specs.Prelude.{Option, nat_lt, ◌&&◌, option_and_then, option_map, is_some}
 use Rattle.std.proofs.lemmas.Bool.Decides.{nat_tests}
 use Rattle.pf_ints.specs.declared.lane.LaneType.{LaneType}
-use Rattle.pf_ints.specs.declared.lane.Bits.{Bits}
 use Rattle.pf_ints.specs.declared.target.Target.{Target}
 use Rattle.pf_ints.specs.Meaning.Lanes.{lane_width}
 use Rattle.pf_values.specs.declared.op.Op.{Op}
@@ -11,20 +10,18 @@ use Rattle.pf_values.specs.declared.row.Amounts.{Amounts}
 use Rattle.pf_values.specs.declared.row.Amounts.TheVariants as amounts
 use Rattle.pf_values.specs.Meaning.Operators.{row_of}
 use Rattle.pf_values.specs.Meaning.Terms.{operand_count, type_fault, first_width, is_amount}
-use Rattle.pf_values.proofs.Typing.{and_left, and_right}
 use Rattle.pf_laneops.specs.declared.lane_name.LaneName.{LaneName}
 use Rattle.pf_laneops.specs.declared.lane_row.LaneRow.{LaneRow}
 use Rattle.pf_laneops.specs.declared.lane_row.LaneOperands.{LaneOperands}
 use Rattle.pf_laneops.specs.declared.lane_row.LaneOperands.TheVariants as operands
 use Rattle.pf_laneops.specs.Meaning.LaneRows.{lane_row, row_type, row_key, lane_result, allowed, factor, cost_on, counted, priced, is_lane_amount}
-use Rattle.pf_rules.specs.declared.fault.SortFault.{SortFault}
 use Rattle.pf_rules.specs.declared.number.Amount.{Amount as AmountOf}
 use Rattle.pf_rules.specs.declared.pattern.PatType.{PatType}
 use Rattle.pf_rules.specs.declared.rule.Kind.{Kind}
 use Rattle.pf_rules.specs.declared.rule.Kind.TheVariants.{Lift, Lower}
 use Rattle.pf_rules.specs.Meaning.Numbers.{amount_at}
-use Rattle.pf_rules.specs.Meaning.Sorts.{At, lane_at, states, is_stated, op_gives, unless_fault, op_type, has_op_amount, some_amount, lane_op_type, has_lane_amount, fits, if_fits, judged, stated_at, judged_op, judged_lane, type_or}
-use Rattle.pf_rules.specs.Meaning.Sides.{amount_or, stated_or, lane_gives, value_or}
+use Rattle.pf_rules.specs.Meaning.Sorts.{At, lane_at, states, is_stated, op_gives, unless_fault, op_type, has_op_amount, some_amount, lane_op_type, has_lane_amount, if_fits, judged, stated_at, judged_op, judged_lane, type_or}
+use Rattle.pf_rules.specs.Meaning.Sides.{amount_or, stated_or, lane_gives}
 use Rattle.pf_rules.proofs.AmountLaws.{bits_small, no_row}
 
 -- what is known of an amount that was found to fit

@@ -1,5 +1,5 @@
 -- Widths with their shifts, as they are gathered, and the range of a variable.
-use Rattle.std.proofs.Common.{◌≡◌, refl, sym, ap, ◌∙◌, subst, ℕ, zero, suc, ◌+◌, ◌-◌, ◌<◌, ◌≤◌, ℤ, pos, Bool, true, false, Some, None, List, [], ◌∷◌, ◌++◌, length, map, min, arith}
+use Rattle.std.proofs.Common.{◌≡◌, refl, sym, ap, ◌∙◌, subst, ℕ, zero, suc, ◌+◌, ◌-◌, ◌<◌, ◌≤◌, ℤ, pos, Bool, true, false, Some, None, List, [], ◌∷◌, ◌++◌, map, min, arith}
 use Rattle.std.specs.Prelude.{Option, All, ◌&&◌, ◌≤ℤ◌, ◌^◌, neg_ℤ, int_le, nat_le, option_and_then, cond}
 use Rattle.std.specs.Int.Signed.{le_z}
 use Rattle.std.specs.List.{range_with_len}

@@ -1,12 +1,11 @@
 -- A pattern that has a type: its form has its value.
-use Rattle.std.proofs.Common.{◌≡◌, refl, sym, ap, ◌∙◌, subst, ℕ, zero, suc, ◌+◌, ◌-◌, ◌<◌, ◌≤◌, ℤ, pos, Bool, true, false, Some, None, List, [], ◌∷◌, length, map, arith, Ok, Err}
-use Rattle.std.specs.Prelude.{Option, Result, slice_get, slice_index_or, neg_ℤ, int_le, ◌≤ℤ◌, ◌&&◌, option_and_then, cond}
+use Rattle.std.proofs.Common.{◌≡◌, refl, sym, ap, ◌∙◌, subst, ℕ, zero, suc, ◌+◌, ◌<◌, ℤ, pos, Bool, true, false, Some, None, List, [], ◌∷◌, length, map, arith, Ok, Err}
+use Rattle.std.specs.Prelude.{Option, Result, slice_get, slice_index_or, neg_ℤ, int_le, option_and_then, cond}
 use Rattle.std.proofs.lemmas.Int.{ints}
-use Rattle.std.proofs.lemmas.List.{length-map}
 use Rattle.pf_ints.specs.declared.lane.LaneType.{LaneType}
 use Rattle.pf_ints.specs.declared.lane.Bits.{Bits}
 use Rattle.pf_ints.specs.declared.lane.Bits.TheVariants.{Eight, Sixteen, ThirtyTwo}
-use Rattle.pf_ints.specs.Meaning.Lanes.{is_in, least, greatest, bit_count, lane_width}
+use Rattle.pf_ints.specs.Meaning.Lanes.{is_in, least, greatest}
 use Rattle.pf_ints.specs.Meaning.Ranges.{Includes, range, furthest}
 use Rattle.pf_values.specs.declared.op.Op.{Op}
 use Rattle.pf_values.specs.Meaning.Operators.{row_of}
@@ -17,7 +16,7 @@ use Rattle.pf_forms.specs.Meaning.Values.{FVal, IsFormOver}
 use Rattle.pf_templates.specs.Meaning.Templates.{at as at_letters}
 use Rattle.pf_laneops.specs.declared.lane_name.LaneName.{LaneName}
 use Rattle.pf_laneops.specs.declared.lane_name.LaneName.TheVariants as lane
-use Rattle.pf_laneops.specs.Meaning.Formulas.{formula, lane_formula, amount_by, over, operand, vars, row_form, AreFormsOver}
+use Rattle.pf_laneops.specs.Meaning.Formulas.{formula, lane_formula, amount_by, over, operand, row_form, AreFormsOver}
 use Rattle.pf_laneops.proofs.ValueLaws.{formula_value, value_over, some_of}
 use Rattle.pf_laneops.proofs.FormulaLaws.{form_over, op_room, lane_room}
 use Rattle.pf_rules.specs.declared.fault.SortFault.{SortFault}
@@ -32,10 +31,10 @@ use Rattle.pf_rules.specs.declared.pattern.Pattern.TheFolds.{fold-roll-Pattern, 
 use Rattle.pf_rules.specs.declared.rule.Kind.{Kind}
 use Rattle.pf_rules.specs.declared.rule.VarDecl.{VarDecl}
 use Rattle.pf_rules.specs.Meaning.Numbers.{number_at}
-use Rattle.pf_rules.specs.Meaning.Sorts.{At, lane_at, type_of_var, type_of_const, type_or, op_gives, typed, types_from, with_type, then_judged, own_sort, judged_op, judged_lane, stated_at, sort_step, sorting}
-use Rattle.pf_rules.specs.Meaning.Sides.{amount_or, stated_or, lane_gives, lane_value, value_or, firsts, seconds, own_value, own_form, value_step, form_step, typed_value, typed_form, PVal, form_at, HasSort}
+use Rattle.pf_rules.specs.Meaning.Sorts.{At, lane_at, type_of_var, type_of_const, type_or, op_gives, typed, types_from, with_type, then_judged, judged_op, judged_lane, stated_at, sort_step, sorting}
+use Rattle.pf_rules.specs.Meaning.Sides.{amount_or, stated_or, lane_gives, lane_value, value_or, firsts, seconds, value_step, form_step, typed_value, typed_form, PVal, form_at, HasSort}
 use Rattle.pf_rules.proofs.AmountLaws.{bits_small}
-use Rattle.pf_rules.proofs.RowFacts.{OpFacts, op_facts, LaneFacts, lane_facts}
+use Rattle.pf_rules.proofs.RowFacts.{op_facts, lane_facts}
 
 -- the value of a form depends on the variables' values alone
 module _ (v u : ℕ → ℤ) (same : (n : ℕ) → v n ≡ u n) where

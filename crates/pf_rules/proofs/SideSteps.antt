@@ -19,12 +19,12 @@ use Rattle.pf_rules.specs.declared.pattern.Pattern.TheVariants.{Var, Const, Node
 use Rattle.pf_rules.specs.declared.pattern.Pattern.TheOpen.Pattern-F.{Var as VarLayer, Const as ConstLayer, Node as NodeLayer, Lane as LaneLayer}
 use Rattle.pf_rules.specs.declared.pattern.Pattern.TheFolds.{fold-roll-Pattern}
 use Rattle.pf_rules.specs.declared.rule.Kind.{Kind}
-use Rattle.pf_rules.specs.Meaning.Sorts.{At, sorting, sort_step, own_sort, types_from, judged_op, judged_lane, stated_at}
+use Rattle.pf_rules.specs.Meaning.Sorts.{At, sorting, sort_step, own_sort, types_from}
 use Rattle.pf_rules.specs.Meaning.Sides.{typed_form, form_at, form_step, own_form, PVal, firsts, seconds, HasSort, stated_or, amount_or, lane_gives}
 use Rattle.pf_rules.specs.Steps.Sorted.{own_sorting, own_formed, HasOwnSort}
 use Rattle.pf_rules.proofs.SortLaws.{IsParent, sort_parent}
 use Rattle.pf_rules.proofs.RowFacts.{OpFacts, op_facts, LaneFacts, lane_facts}
-use Rattle.pf_rules.proofs.SideLaws.{all_found, first_found, says, IsSided, sided_of}
+use Rattle.pf_rules.proofs.SideLaws.{all_found, first_found, says, sided_of}
 
 -- the pattern is a variable or a number
 abbrev pub IsLeaf : Pattern → Type 0

@@ -1,7 +1,6 @@
 -- The nodes of a pattern's form are those that are counted without it.
-use Rattle.std.proofs.Common.{◌≡◌, refl, sym, ap, ◌∙◌, subst, ℕ, zero, suc, ◌+◌, ◌-◌, ◌^◌, ◌<◌, ◌≤◌, ◌==◌, eqb-true, Bool, true, false, List, [], ◌∷◌, length, map, min, drop, drop-cons, get_or, arith, inl, inr, Option}
-use Rattle.std.specs.Prelude.{◌&&◌}
-use Rattle.std.proofs.lemmas.List.{length-map, drop_all}
+use Rattle.std.proofs.Common.{◌≡◌, refl, sym, ap, ◌∙◌, subst, ℕ, suc, ◌+◌, ◌-◌, ◌^◌, eqb-true, Bool, true, List, [], ◌∷◌, length, map, min, arith, inl, inr, Option}
+use Rattle.std.proofs.lemmas.List.{length-map}
 use Rattle.pf_ints.specs.declared.lane.LaneType.{LaneType}
 use Rattle.pf_values.specs.declared.op.Op.{Op}
 use Rattle.pf_values.specs.declared.op.Op.TheVariants as op
@@ -15,11 +14,10 @@ use Rattle.pf_laneops.specs.declared.lane_name.LaneName.{LaneName}
 use Rattle.pf_laneops.specs.declared.lane_name.LaneName.TheVariants as lane
 use Rattle.pf_laneops.specs.Meaning.LaneRows.{lane_row}
 use Rattle.pf_laneops.specs.Meaning.Formulas.{formula, lane_formula, amount_by, over}
-use Rattle.pf_rules.specs.declared.number.Number.{Number}
 use Rattle.pf_rules.specs.declared.number.Amount.{Amount as AmountOf}
 use Rattle.pf_rules.specs.declared.pattern.PatType.{PatType}
 use Rattle.pf_rules.specs.declared.pattern.Pattern.{Pattern}
-use Rattle.pf_rules.specs.declared.pattern.Pattern.TheVariants.{Node, Lane, rolls-Node, rolls-Lane}
+use Rattle.pf_rules.specs.declared.pattern.Pattern.TheVariants.{rolls-Node, rolls-Lane}
 use Rattle.pf_rules.specs.declared.pattern.Pattern.TheOpen.{Pattern-F}
 use Rattle.pf_rules.specs.declared.pattern.Pattern.TheOpen.Pattern-F.{Var as VarLayer, Const as ConstLayer, Node as NodeLayer, Lane as LaneLayer}
 use Rattle.pf_rules.specs.declared.pattern.Pattern.TheViews.{roll-Pattern}
@@ -27,7 +25,7 @@ use Rattle.pf_rules.specs.declared.pattern.Pattern.TheFolds.{fold-roll-Pattern, 
 use Rattle.pf_rules.specs.Meaning.Sorts.{At, op_gives}
 use Rattle.pf_rules.specs.Meaning.Sides.{amount_or, stated_or, lane_gives, firsts, seconds, form_step, typed_form, form_at}
 use Rattle.pf_rules.specs.Meaning.Counts.{lane_operand_count, is_formed, formed_step, is_formed_op, is_formed_lane}
-use Rattle.pf_rules.specs.Steps.Sizes.{op_nodes, lane_nodes, op_twice, lane_twice, counted, counted_from, own_nodes_of, is_twice_in, form_nodes, form_nodes_step, own_nodes, is_twice}
+use Rattle.pf_rules.specs.Steps.Sizes.{op_nodes, lane_nodes, op_twice, lane_twice, counted_from, own_nodes_of, is_twice_in, form_nodes, form_nodes_step, own_nodes, is_twice}
 use Rattle.pf_rules.proofs.SortLaws.{IsParent}
 
 -- lists of one, two, three and four

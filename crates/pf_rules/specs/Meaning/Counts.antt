@@ -1,5 +1,5 @@
 -- What is counted in patterns, and which are formed.
-use Rattle.std.specs.Prelude.{ℕ, ℤ, pos, ◌+◌, ◌==◌, nat_lt, nat_le, sum, Bool, true, false, not, ◌&&◌, ◌||◌, if◌then◌else◌, List, length, Option, zero, suc}
+use Rattle.std.specs.Prelude.{ℕ, pos, ◌+◌, ◌==◌, nat_lt, nat_le, sum, Bool, true, false, ◌&&◌, ◌||◌, if◌then◌else◌, length, Option, zero, suc}
 use Rattle.std.specs.Ordering.{int_eq}
 use Rattle.pf_values.specs.Meaning.Operators.{Row, row_of}
 use Rattle.pf_values.specs.Meaning.Terms.{all_true, operand_count, has_amount}

@@ -1,5 +1,5 @@
 -- Files of rules: what each keeps.
-use Rattle.std.specs.Prelude.{ℕ, ◌+◌, ◌==◌, nat_lt, Bool, true, false, not, ◌&&◌, ◌||◌, List, [], ◌∷◌, map}
+use Rattle.std.specs.Prelude.{ℕ, ◌+◌, ◌==◌, nat_lt, Bool, true, ◌&&◌, ◌||◌, List, [], ◌∷◌, map}
 use Rattle.pf_values.specs.Meaning.Terms.{all_true}
 use Rattle.pf_rules.specs.declared.rule.By.{By}
 use Rattle.pf_rules.specs.declared.rule.By.TheVariants as by

@@ -1,5 +1,5 @@
 -- Rules: what each keeps, and the widths and shifts at which it is one.
-use Rattle.std.specs.Prelude.{◌≡◌, ℕ, ℤ, pos, negsuc, ◌+◌, ◌-◌, ◌*◌, ◌==◌, nat_le, nat_lt, int_le, int_lt, unsigned_abs, Bool, true, false, not, ◌&&◌, ◌||◌, if◌then◌else◌, List, [], ◌∷◌, ◌++◌, length, map, slice_get, Option, Some, None, option_and_then, Contains}
+use Rattle.std.specs.Prelude.{◌≡◌, ℕ, ℤ, pos, ◌+◌, ◌-◌, nat_le, int_le, int_lt, unsigned_abs, Bool, true, false, not, ◌&&◌, ◌||◌, if◌then◌else◌, List, [], ◌∷◌, ◌++◌, length, map, slice_get, Option, Some, None, option_and_then, Contains}
 use Rattle.std.specs.List.{range_with_len}
 use Rattle.std.specs.Ordering.{int_eq}
 use Rattle.pf_ints.specs.declared.lane.LaneType.{LaneType}
@@ -15,7 +15,6 @@ use Rattle.pf_rules.specs.declared.number.NumberItem.{NumberItem}
 use Rattle.pf_rules.specs.declared.number.NumberItem.TheVariants as item
 use Rattle.pf_rules.specs.declared.number.NumberPart.{NumberPart}
 use Rattle.pf_rules.specs.declared.number.Number.{Number}
-use Rattle.pf_rules.specs.declared.pattern.Pattern.{Pattern}
 use Rattle.pf_rules.specs.declared.rule.VarDecl.{VarDecl}
 use Rattle.pf_rules.specs.declared.rule.RuleParts.{RuleParts}
 use Rattle.pf_rules.specs.declared.rule.Kind.{Kind}

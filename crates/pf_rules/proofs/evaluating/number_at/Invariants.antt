@@ -1,4 +1,4 @@
-use Rattle.std.proofs.Common.{◌≡◌, drop, map, ℤ, pos}
+use Rattle.std.proofs.Common.{◌≡◌, drop, map, pos}
 use Rattle.pf_rules.specs.Meaning.Numbers.{sum_from, part_at}
 use Rattle.pf_rules.proofs.evaluating.number_at.Given as goal
 

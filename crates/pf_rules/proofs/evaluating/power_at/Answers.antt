@@ -1,4 +1,4 @@
-use Rattle.std.proofs.Common.{arith, ap, ◌≡◌, of_z, w64}
+use Rattle.std.proofs.Common.{arith, ap, of_z, w64}
 use Rattle.std.specs.Prelude.{◌<ℤ◌, pos}
 use Rattle.std.proofs.lemmas.Int.{ints}
 use Rattle.pf_rules.proofs.NumberLaws.{far_power}

@@ -1,5 +1,4 @@
-use Rattle.std.proofs.Common.{rules, ◌∙◌, ap, refl, ◌++◌}
-use Rattle.pf_rules.specs.declared.rule.RuleParts.{RuleParts}
+use Rattle.std.proofs.Common.{◌∙◌, ap, refl, ◌++◌}
 use Rattle.pf_rules.specs.Meaning.Rules.{pairs_at}
 use Rattle.pf_rules.proofs.ShiftLaws.{widths_each}
 use Rattle.pf_rules.proofs.shifts.pairs.Goals as goal

@@ -1,4 +1,4 @@
-use Rattle.std.proofs.Common.{rules, arith, ◌∙◌, sym, ap, map, min, ◌+◌, ◌-◌, ◌^◌}
+use Rattle.std.proofs.Common.{rules, ◌∙◌, sym, ap, map, min, ◌+◌, ◌-◌, ◌^◌}
 use Rattle.pf_rules.specs.Steps.Sizes.{form_nodes, is_twice, counted_from}
 use Rattle.pf_rules.proofs.SizeLaws.{counted_whole}
 use Rattle.pf_rules.proofs.sizes.+form_nodes.Goals as goal

@@ -1,4 +1,4 @@
-use Rattle.std.proofs.Common.{◌≡◌, ◌<◌, sym, ap, ◌∙◌, map, arith}
+use Rattle.std.proofs.Common.{ap, ◌∙◌, map, arith}
 use Rattle.pf_forms.specs.Meaning.Shapes.{shape}
 use Rattle.pf_laneops.specs.Meaning.LaneRows.{row_type}
 use Rattle.pf_rules.specs.Meaning.Sides.{stated_or}

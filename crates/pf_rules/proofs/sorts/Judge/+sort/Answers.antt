@@ -1,5 +1,4 @@
-use Rattle.std.proofs.Common.{arith, List}
-use Rattle.pf_ints.specs.declared.lane.LaneType.{LaneType}
+use Rattle.std.proofs.Common.{arith}
 use Rattle.pf_rules.specs.Meaning.Sorts.{sorting}
 use Rattle.pf_rules.specs.Steps.Sorted.{here, own_sorting}
 use Rattle.pf_rules.proofs.SortLaws.{fault_told, type_told, sort_whole}
