@@ -4,7 +4,7 @@ use pf_ints::Path;
 use std::alloc::{AllocError, AllocFailed};
 
 /// Why a pattern has no type at a width and a shift.
-#[derive(Debug, Drop)]
+#[derive(Drop)]
 pub enum SortFault {
     /// The node at the path has operands or a stated type that aren't the table's, or a type or a
     /// number that is none at this width and shift.
