@@ -1,3 +1,4 @@
 pub mod TokenLaws
 pub mod SumLaws
 pub mod ChainLaws
+pub mod NameLaws

@@ -1,5 +1,5 @@
 ghost use Rattle.std.specs.Prelude.{◌≡◌, MatchOption, None, Some};
-ghost use Rattle.pf_rulefile.specs.Meaning.Words.{lane_word, ptype_of, closing_type, op_in, call_ops, lane_in, lane_ops, is_variable, shaped, shape_of, lane_shape, operands_behind, is_stated, has_amount, comparison, is_rule_name};
+ghost use Rattle.pf_rulefile.specs.Meaning.Words.{lane_word, ptype_of, closing_type, op_in, call_ops, lane_in, lane_ops, is_variable, shaped, shape_of, lane_shape, operands_behind, is_stated, has_amount, comparison, is_rule_name, is_word};
 
 use pf_laneops::{LaneAmounts, LaneGives, LaneName, LaneOperands};
 use pf_rules::PatType;
@@ -283,4 +283,15 @@ pub fn lane_shape(op: LaneName) -> Shape
         operands_behind(row.operands),
         has_amount(row.amounts),
     )
+}
+
+/// Whether the word may be that of an axiom or a lane operation: at most 32 bytes, a small letter
+/// and then small letters, digits or `_`.
+pub fn is_word(word: &[u8]) -> bool
+    ensures { result ≡ is_word word.now }
+{
+    match word {
+        [first, ..] => b'a' <= *first && *first <= b'z' && word.len() <= 32,
+        [] => false,
+    }
 }

@@ -1,7 +1,7 @@
 -- The words of patterns.
-use Rattle.std.specs.Prelude.{ℕ, List, [], ◌∷◌, Bool, true, false, not, ◌&&◌, ◌||◌, ◌==◌, if◌then◌else◌, Option, Some, None, codes}
+use Rattle.std.specs.Prelude.{ℕ, List, [], ◌∷◌, Bool, true, false, not, ◌&&◌, ◌||◌, ◌==◌, nat_le, length, if◌then◌else◌, Option, Some, None, codes}
 use Rattle.std.specs.Str.{bytes_eq}
-use Rattle.pf_text.specs.Meaning.Words.{is_name}
+use Rattle.pf_text.specs.Meaning.Words.{is_letter, is_name}
 use Rattle.pf_values.specs.declared.op.Op.{Op}
 use Rattle.pf_values.specs.declared.op.Op.TheVariants as op
 use Rattle.pf_values.specs.Meaning.Spellings.{op_word}
@@ -139,3 +139,8 @@ has_amount _ = true
 -- what stands in the round brackets behind a lane operation's word
 abbrev pub lane_shape : LaneName → Shape
 lane_shape o = shaped (is_stated (lane_row o).gives) (operands_behind (lane_row o).operands) (has_amount (lane_row o).amounts)
+
+-- a token that begins with a letter, of at most 32 bytes
+abbrev pub is_word : List ℕ → Bool
+is_word [] = false
+is_word (c ∷ w) = is_letter c && nat_le (length (c ∷ w)) 32

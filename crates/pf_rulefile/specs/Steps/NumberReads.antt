@@ -26,7 +26,7 @@ abbrev pub then_read : {A B : Type 0} → Option (A × List (List ℕ)) → (A �
 then_read None f = None
 then_read (Some p) f = f p.0 p.1
 
--- ---- sums
+-- ---- sums: parts with signs between them, which tell of the next part whether it is taken away
 abbrev pub first_by : List (List ℕ) → Option (List (List ℕ)) → Bool × List (List ℕ)
 first_by ts (Some us) = (true, us)
 first_by ts None = (false, ts)
@@ -40,12 +40,12 @@ abbrev pub sum_on : {A : Type 0} → (Bool → List (List ℕ) → Option (List 
 sum_on more a ts None = Some (a ∷ [], ts)
 sum_on more a ts (Some s) = option_map (λ p. (a ∷ p.0, p.1)) (more s.0 s.1)
 
-abbrev pub sum_read : {A : Type 0} → (Bool → List (List ℕ) → Option (A × List (List ℕ))) → ℕ → Bool → List (List ℕ) → Option (List A × List (List ℕ))
-sum_read part zero minus ts = None
-sum_read part (suc most) minus ts = then_read (part minus ts) (λ a us. sum_on (sum_read part most) a us (signed_by us))
+abbrev pub sum_read : {A : Type 0} → (List (List ℕ) → Option (Bool × List (List ℕ))) → (Bool → List (List ℕ) → Option (A × List (List ℕ))) → ℕ → Bool → List (List ℕ) → Option (List A × List (List ℕ))
+sum_read sign part zero minus ts = None
+sum_read sign part (suc most) minus ts = then_read (part minus ts) (λ a us. sum_on (sum_read sign part most) a us (sign us))
 
 abbrev pub signed_read : {A : Type 0} → (Bool → List (List ℕ) → Option (A × List (List ℕ))) → ℕ → List (List ℕ) → Option (List A × List (List ℕ))
-signed_read part most ts = sum_read part most (first_sign ts).0 (first_sign ts).1
+signed_read part most ts = sum_read signed_by part most (first_sign ts).0 (first_sign ts).1
 
 -- ---- linear amounts
 abbrev pub unit_of : List ℕ → Option LinOf
