@@ -7,3 +7,5 @@ mod axioms;
 mod forms;
 #[cfg(test)]
 mod laneops;
+#[cfg(test)]
+mod rules;

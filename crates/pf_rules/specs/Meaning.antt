@@ -4,3 +4,4 @@ pub mod Sides
 pub mod Counts
 pub mod Rules
 pub mod Files
+pub mod Shifts

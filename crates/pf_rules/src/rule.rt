@@ -142,6 +142,14 @@ impl Duplicate for RuleParts {
     }
 }
 
+impl Duplicate for Rule {
+    fn copy(&self, alloc: Global) -> Result<Rule, AllocError> {
+        Ok(Rule {
+            parts: self.parts.copy(alloc)?,
+        })
+    }
+}
+
 fn copied_range(
     alloc: Global,
     range: &Option<(Number, Number)>,

@@ -1,6 +1,6 @@
 -- Numbers that depend on the width w and the shift k.
 use Rattle.std.specs.Prelude.{ℕ, ℤ, pos, negsuc, neg_ℤ, ◌^◌, ◌+ℤ◌, ◌*ℤ◌, int_le, Bool, ◌&&◌, if◌then◌else◌, List, [], ◌∷◌, map, Option, Some, None, option_and_then, option_map}
-use Rattle.pf_ints.specs.Meaning.Ranges.{furthest}
+use Rattle.pf_ints.specs.Meaning.Ranges.{Includes, range, furthest}
 use Rattle.pf_rules.specs.declared.number.LinOf.{LinOf}
 use Rattle.pf_rules.specs.declared.number.LinOf.TheVariants as of
 use Rattle.pf_rules.specs.declared.number.LinPart.{LinPart}
@@ -56,3 +56,7 @@ part_at w k p = option_map (with_sign p.minus) (item_at w k p.item)
 -- the value of a number; none where one of its parts, or the sum of its first parts, has none
 abbrev pub number_at : ℕ → ℕ → Number → Option ℤ
 number_at w k n = sum_from (pos 0) (map (part_at w k) n.parts)
+
+-- what limited numbers are
+abbrev pub IsLimited : ℤ → Type 0
+IsLimited n = Includes (range (neg_ℤ furthest) furthest) n

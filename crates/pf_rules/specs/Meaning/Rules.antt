@@ -20,7 +20,7 @@ use Rattle.pf_rules.specs.declared.rule.VarDecl.{VarDecl}
 use Rattle.pf_rules.specs.declared.rule.RuleParts.{RuleParts}
 use Rattle.pf_rules.specs.declared.rule.Kind.{Kind}
 use Rattle.pf_rules.specs.declared.rule.Kind.TheVariants.{Lift, Lower}
-use Rattle.pf_rules.specs.declared.pairs.Pair.{Pair}
+use Rattle.pf_rules.specs.declared.shifts.Pair.{Pair}
 use Rattle.pf_rules.specs.Meaning.Numbers.{number_at}
 use Rattle.pf_rules.specs.Meaning.Sorts.{At, place, lane_at}
 use Rattle.pf_rules.specs.Meaning.Sides.{PVal}
@@ -87,7 +87,7 @@ suits (Lower target) r = is_lane_free r.lhs && is_op_free r.rhs
 
 -- ---- the widths and the shifts
 
-abbrev shifts_from : ℤ → ℤ → Option (List ℕ)
+abbrev pub shifts_from : ℤ → ℤ → Option (List ℕ)
 shifts_from (pos lo) (pos hi) = if nat_le lo hi && nat_le hi 63 then Some (range_with_len lo (hi - lo + 1)) else None
 shifts_from _ _ = None
 
@@ -122,7 +122,7 @@ first_bad (w ∷ ws) shift = unless_shifts (unsigned_abs w) (first_bad ws shift)
 
 -- ---- the ranges of the variables, and what a rule says
 
-abbrev range_in : LaneType → ℤ → ℤ → Option Range
+abbrev pub range_in : LaneType → ℤ → ℤ → Option Range
 range_in t lo hi = if int_le (least t) lo && (int_le lo hi && int_le hi (greatest t)) then Some (range lo hi) else None
 
 abbrev pub stated_range : ℕ → ℕ → LaneType → Option (Number × Number) → Option Range

@@ -1,5 +1,5 @@
 -- The types of patterns at a width and a shift.
-use Rattle.std.specs.Prelude.{◌≡◌, ℕ, ℤ, pos, negsuc, ◌+◌, ◌*◌, ◌==◌, min, Bool, true, false, not, ◌&&◌, ◌||◌, if◌then◌else◌, List, [], ◌∷◌, length, slice_get, Option, Some, None, option_and_then, option_map, Result, Ok, Err}
+use Rattle.std.specs.Prelude.{◌≡◌, ℕ, ℤ, pos, negsuc, ◌+◌, ◌*◌, ◌==◌, min, Bool, true, false, not, ◌&&◌, ◌||◌, if◌then◌else◌, List, [], ◌∷◌, length, slice_get, Option, Some, None, option_and_then, option_map, is_some, Result, Ok, Err}
 use Rattle.pf_ints.specs.declared.lane.LaneType.{LaneType}
 use Rattle.pf_ints.specs.declared.lane.Bits.{Bits}
 use Rattle.pf_ints.specs.declared.lane.Bits.TheVariants.{Eight, Sixteen, ThirtyTwo}
@@ -72,7 +72,7 @@ is_stated states (Some _) = states
 abbrev pub op_gives : Op → Option LaneType → List LaneType → LaneType
 op_gives op to types = result_type (row_of op).gives (type_or to) types
 
-abbrev unless_fault : {A B : Type 0} → Option A → B → Option B
+abbrev pub unless_fault : {A B : Type 0} → Option A → B → Option B
 unless_fault (Some _) t = None
 unless_fault None t = Some t
 
@@ -96,10 +96,6 @@ some_amount _ = 1
 abbrev pub lane_op_type : Kind → LaneName → Option LaneType → List LaneType → Option LaneType
 lane_op_type Lift op to types = None
 lane_op_type (Lower target) op to types = option_map (λ r. r.0) (row_type target op to types (some_amount (lane_row op).amounts))
-
-abbrev is_some : {A : Type 0} → Option A → Bool
-is_some None = false
-is_some (Some _) = true
 
 abbrev pub has_lane_amount : Kind → LaneName → Option LaneType → List LaneType → ℕ → Bool
 has_lane_amount Lift op to types k = false
@@ -131,11 +127,14 @@ abbrev pub fits : (ℕ → Bool) → ℤ → Bool
 fits has (pos k) = has k
 fits has (negsuc k) = false
 
+abbrev pub if_fits : Bool → Bool → LaneType → ℤ → Result LaneType SortFault
+if_fits amounts fits t k = if not amounts || fits then Ok t else Err (Amount [] k)
+
 -- a node of a type, whose amounts are these; a number without a value is a fault of types
 abbrev pub judged : Bool → Option LaneType → (ℕ → Bool) → Option ℤ → Result LaneType SortFault
 judged amounts None has k = Err (Types [])
 judged amounts (Some t) has None = Err (Types [])
-judged amounts (Some t) has (Some k) = if not amounts || fits has k then Ok t else Err (Amount [] k)
+judged amounts (Some t) has (Some k) = if_fits amounts (fits has k) t k
 
 -- what is stated, at the width w; none where a type is stated that is none there
 abbrev pub stated_at : ℕ → Option PatType → Option (Option LaneType)
@@ -157,11 +156,21 @@ then_judged node (Err e) = Err e
 
 -- ---- patterns
 
+-- a node by itself, where its operands have these types
+abbrev pub own_sort : {A : Type 0} → Bool → Kind → At → List LaneType → Pattern-F A → Result LaneType SortFault
+own_sort amounts kind at types (Var n) = typed (type_of_var at n)
+own_sort amounts kind at types (Const n ty) = typed (type_of_const at n ty)
+own_sort amounts kind at types (Node op to k args) = judged_op amounts at op k types (stated_at at.w to)
+own_sort amounts kind at types (Lane op to k args) = judged_lane amounts kind at op k types (stated_at at.w to)
+
+abbrev pub args_of : {A : Type 0} → Pattern-F A → List A
+args_of (Var n) = []
+args_of (Const n ty) = []
+args_of (Node op to k args) = args
+args_of (Lane op to k args) = args
+
 abbrev pub sort_step : Bool → Kind → At → Pattern-F (Result LaneType SortFault) → Result LaneType SortFault
-sort_step amounts kind at (Var n) = typed (type_of_var at n)
-sort_step amounts kind at (Const n ty) = typed (type_of_const at n ty)
-sort_step amounts kind at (Node op to k args) = then_judged (λ types. judged_op amounts at op k types (stated_at at.w to)) (types_from 0 args)
-sort_step amounts kind at (Lane op to k args) = then_judged (λ types. judged_lane amounts kind at op k types (stated_at at.w to)) (types_from 0 args)
+sort_step amounts kind at layer = then_judged (λ types. own_sort amounts kind at types layer) (types_from 0 (args_of layer))
 
 -- the type of a pattern, or the fault of the first node in post-order that has one, at one node that of its types before that of its amount;
 -- whether amounts are outside their ranges is judged too, or isn't

@@ -1,0 +1,4 @@
+pub mod Citing
+pub mod Accepting
+pub mod Replaying
+pub mod Faults
