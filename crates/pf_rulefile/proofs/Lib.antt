@@ -2,3 +2,4 @@ pub mod TokenLaws
 pub mod SumLaws
 pub mod ChainLaws
 pub mod NameLaws
+pub mod Comments

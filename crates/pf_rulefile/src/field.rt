@@ -6,14 +6,13 @@ ghost use Rattle.pf_rulefile.specs.Steps.NumberReads.{Gives};
 ghost use Rattle.pf_rulefile.specs.Steps.FieldReads.{GivesOnly, name_of, no_more, lone_name, optional, widths_of, widths_read, range_read, shift_read, var_head, var_read, child_read, children_read, path_read, axiom_in, axioms, axiom_by, rule_place, used_by, by_read, side_word, kind_of, format_of, header_of, slash, step_side};
 
 use crate::number::number;
-use crate::part::is_free;
 use crate::side::behind;
 use crate::stop::Stop;
 use crate::token::{after, int_of, next_token};
 use crate::word::{is_rule_name, is_variable, is_word, ptype_of};
 use pf_forms::Axiom;
 use pf_ints::{Name, NumberList, Path, Sequence, Target};
-use pf_rules::{By, Kind, Number, PatType, Rule, VarDecl};
+use pf_rules::{By, Kind, Number, PatType, Rule, VarDecl, is_free};
 use std::alloc::{AllocError, Global};
 
 /// The name of a rule or a variable.

@@ -1,11 +1,18 @@
 //! The texts of rule files: read, each fault by its line and its kind, and written.
 #![tactic(auto)]
 
+mod fault;
 mod field;
 mod lane;
+mod line;
 mod number;
 mod part;
+mod read;
+mod reading;
 mod side;
 mod stop;
 mod token;
 mod word;
+
+pub use fault::{RuleTextFault, RuleTextKind};
+pub use read::read_rules;

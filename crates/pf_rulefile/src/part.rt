@@ -1,9 +1,8 @@
-ghost use Rattle.std.specs.Prelude.{◌≡◌, ◌≤◌, length, IfOk, true};
-ghost use Rattle.pf_rules.specs.Meaning.Rules.{is_free_unit, is_free_amount, is_free_item, is_free};
+ghost use Rattle.std.specs.Prelude.{◌≡◌, ◌≤◌, length, IfOk};
 ghost use Rattle.pf_rulefile.specs.Steps.Parts.{place_in, only, none_used, both_used, name_part, typed_part, joined_part, node_part, lane_part, one, both_patterns, node_items, lane_items};
 
 use pf_laneops::LaneName;
-use pf_rules::{Amount, LinOf, Number, NumberItem, PatType, Pattern, Patterns, VarDecl};
+use pf_rules::{Amount, Number, PatType, Pattern, Patterns, VarDecl, is_free, is_free_amount};
 use pf_values::Op;
 use sqlite_items::Items;
 use std::alloc::{AllocError, Global};
@@ -28,56 +27,8 @@ pub struct Part {
     pub patterns: Option<Patterns>,
 }
 
-fn is_free_linear(of: LinOf) -> bool
-    ensures { result ≡ is_free_unit of }
-{
-    match of {
-        LinOf::K => false,
-        LinOf::One | LinOf::W => true,
-    }
-}
-
-fn is_free_amount(amount: &Amount) -> bool
-    ensures { result ≡ is_free_amount amount.now }
-{
-    match amount {
-        Amount::Int(_) | Amount::W => true,
-        Amount::K => false,
-        Amount::Linear(parts) => {
-            for part in parts.as_slice() {
-                if !is_free_linear(part.of) {
-                    return false;
-                }
-            }
-            true
-        }
-    }
-}
-
-fn is_free_item(item: &NumberItem) -> bool
-    ensures { result ≡ is_free_item item.now }
-{
-    match item {
-        NumberItem::Int(_) | NumberItem::W => true,
-        NumberItem::K => false,
-        NumberItem::Power { exponent, .. } => is_free_amount(exponent),
-    }
-}
-
-/// Whether no k stands in the number.
-pub fn is_free(number: &Number) -> bool
-    ensures { result ≡ is_free number.now }
-{
-    for part in number.parts.as_slice() {
-        if !is_free_item(&part.item) {
-            return false;
-        }
-    }
-    true
-}
-
 /// The number of the variable of this name.
-fn place_in(vars: &[VarDecl], word: &[u8]) -> Option<u8>
+pub fn place_in(vars: &[VarDecl], word: &[u8]) -> Option<u8>
     requires { length vars.now ≤ 8 }
     ensures { result ≡ place_in 0 vars.now word.now }
 {

@@ -69,6 +69,7 @@ pub fn after<'a>(word: &[u8], text: &'a [u8]) -> Option<&'a [u8]>
 }
 
 /// The number that one to ten digits stand for.
+#[tactic(auto, using(crate::proofs::TokenLaws::digits_same))]
 pub fn int_of(word: &[u8]) -> Option<i64>
     ensures { result ≡ int_of word.now }
 {

@@ -1,9 +1,8 @@
 -- The tokens of a line of a rule file.
-use Rattle.std.specs.Prelude.{ℕ, ℤ, pos, List, [], ◌∷◌, length, Bool, true, false, ◌&&◌, ◌||◌, nat_le, ◌==◌, if◌then◌else◌, Option, Some, None}
+use Rattle.std.specs.Prelude.{ℕ, ◌+◌, ◌-◌, ◌*◌, ℤ, pos, List, [], ◌∷◌, length, Bool, true, false, ◌&&◌, ◌||◌, nat_le, ◌==◌, if◌then◌else◌, Option, Some, None}
 use Rattle.std.specs.List.{list_all}
 use Rattle.pf_text.specs.Meaning.Words.{is_digit, is_name_byte}
 use Rattle.pf_text.specs.Meaning.Lines.{is_blank}
-use Rattle.pf_text.specs.Steps.Scan.{number_on}
 
 -- two bytes side by side belong to one token: those of a word, those of `<<`, `==` and `>>`, and `}` with the word behind it
 abbrev pub sticks : ℕ → ℕ → Bool
@@ -26,5 +25,10 @@ tokens (c ∷ cs) = if is_blank c then tokens cs else (if goes_on c cs then long
 abbrev pub is_int : List ℕ → Bool
 is_int w = nat_le 1 (length w) && (nat_le (length w) 10 && list_all is_digit w)
 
+-- the number that digits stand for, behind a number that was read before them
+abbrev pub digits_behind : ℕ → List ℕ → ℕ
+digits_behind n [] = n
+digits_behind n (c ∷ cs) = digits_behind (10 * n + (c - 48)) cs
+
 abbrev pub int_of : List ℕ → Option ℤ
-int_of w = if is_int w then Some (pos (number_on 0 w)) else None
+int_of w = if is_int w then Some (pos (digits_behind 0 w)) else None

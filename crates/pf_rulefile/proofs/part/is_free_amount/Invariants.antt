@@ -1,8 +1,0 @@
-use Rattle.std.proofs.Common.{◌≡◌, drop}
-use Rattle.std.specs.Prelude.{map}
-use Rattle.pf_values.specs.Meaning.Terms.{all_true}
-use Rattle.pf_rules.specs.Meaning.Rules.{is_free_part}
-use Rattle.pf_rulefile.proofs.part.is_free_amount.Given as goal
-
-abbrev pub invariant-loop-part : goal.invariant-loop-part
-invariant-loop-part l = all_true (map is_free_part (drop l.part-index l.part-items)) ≡ all_true (map is_free_part l.part-items)
