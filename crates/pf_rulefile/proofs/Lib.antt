@@ -3,3 +3,4 @@ pub mod SumLaws
 pub mod ChainLaws
 pub mod NameLaws
 pub mod Comments
+pub mod WriteLaws

@@ -13,6 +13,10 @@ mod side;
 mod stop;
 mod token;
 mod word;
+mod write;
+mod write_number;
+mod write_side;
 
 pub use fault::{RuleTextFault, RuleTextKind};
 pub use read::read_rules;
+pub use write::write_rules;
