@@ -1,7 +1,7 @@
 //! Texts that are no rule files: the line of the first fault and its kind, each worked out by hand;
 //! and texts that are some.
 
-use pf_rulefile::{RuleTextFault, RuleTextKind, read_rules};
+use pf_rulefile::{RuleTextFault, RuleTextKind, read_rules, write_rules};
 use std::alloc::Global;
 use std::process::Abort;
 use std::test::Fail;
@@ -403,5 +403,26 @@ fn reads_no_front(rt: HostRuntime) -> Result<(), Fail> {
     }
     assert_eq!(rt; read, 3);
     assert!(rt; fault_of(alloc, text)?.0 == 0);
+    Ok(())
+}
+
+/// What is written of what is read.
+fn written(alloc: Global, text: &str) -> Result<Vec<u8>, Fail> {
+    match read_rules(alloc, text.as_bytes()) {
+        Ok(file) => Ok(write_rules(alloc, &file)?),
+        Err(_) => Err(Fail::from("no rules")),
+    }
+}
+
+const LOOSE: &str = "rules 2 neon # all\r\n\nrule a\nwidths  8 16\nshift k from 01 to w - 1\nvar x u1 from -0 to 1*2 ^ (w-1*k)+3\nvar y i2\nleft select(x < y, x, {2^w - 1}u1)+x*x>>k\nright @shl( (x),(2*k) )\nstep l /0 / 1 fold\nend\nrule b\nwidths 32\nvar z u1\nleft rounding_shr(saturating_cast(i1, z), 3)\nright @sat_narrow(u1, z)\nstep r / use a\nend";
+
+const TIGHT: &str = "rules 2 neon\nrule a\nwidths 8 16\nshift k from 1 to w-1\nvar x u1 from -0 to 2^(w-k)+3\nvar y i2\nleft ((select(y > x, x, {2^w-1}u1) + (x * x)) >> k)\nright @shl(x, (2*k))\nstep l /0/1 fold\nend\nrule b\nwidths 32\nvar z u1\nleft rounding_shr(saturating_cast(i1, z), 3)\nright @sat_narrow(u1, z)\nstep r / use a\nend\n";
+
+/// A text is written without what is loose, and read back.
+#[test]
+fn writes_rules(rt: HostRuntime) -> Result<(), Fail> {
+    let alloc = rt.alloc();
+    assert!(rt; written(alloc, LOOSE)?.as_slice() == TIGHT.as_bytes());
+    assert!(rt; written(alloc, TIGHT)?.as_slice() == TIGHT.as_bytes());
     Ok(())
 }

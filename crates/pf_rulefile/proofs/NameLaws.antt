@@ -1,6 +1,6 @@
 -- Words that are names.
 use Rattle.std.proofs.Common.{◌≡◌, refl, ap, sym, ◌∙◌, ℕ, ◌≤◌, List, [], ◌∷◌, Bool, true, false, length, arith}
-use Rattle.std.specs.Prelude.{Option, Some, None, IfSome, IsSome, ◌↔◌, ◌&&◌, not, nat_le, is_some}
+use Rattle.std.specs.Prelude.{Option, Some, None, IfSome, IsSome, ◌&&◌, not, nat_le}
 use Rattle.std.proofs.lemmas.Bool.{and_parts}
 use Rattle.std.proofs.lemmas.Bool.Decides.{nat_tests}
 use Rattle.pf_text.specs.Meaning.Words.{is_name, is_spelled, is_reserved}

@@ -1,7 +1,7 @@
 -- Sums that are read part by part.
 use Rattle.std.proofs.Common.{◌≡◌, refl, sym, ap, ◌∙◌, ℕ, zero, suc, ◌-◌, ◌<◌, ◌≤◌, List, [], ◌∷◌, ◌++◌, Bool, arith, append_assoc}
 use Rattle.std.specs.Prelude.{Option, Some, None, option_map}
-use Rattle.pf_rulefile.specs.Steps.NumberReads.{then_read, sum_on, sum_read}
+use Rattle.pf_rulefile.specs.Steps.NumberReads.{sum_read}
 
 -- parts in front of those that are read
 abbrev pub behind_parts : {A : Type 0} → List A → Option (List A × List (List ℕ)) → Option (List A × List (List ℕ))

@@ -1,6 +1,6 @@
 -- The first token of a text, and those behind it.
-use Rattle.std.proofs.Common.{◌≡◌, refl, sym, ap, ◌∙◌, subst, ℕ, suc, ◌+◌, ◌-◌, ◌*◌, ◌<◌, ◌≤◌, List, [], ◌∷◌, Bool, true, false, arith, ⊎_elim, take, drop, length, get_or, add-one}
-use Rattle.std.specs.Prelude.{All, ◌&&◌, ◌||◌, nat_le, ◌==◌}
+use Rattle.std.proofs.Common.{◌≡◌, refl, sym, ap, ◌∙◌, subst, ℕ, suc, ◌+◌, ◌-◌, ◌*◌, ◌<◌, ◌≤◌, List, [], ◌∷◌, true, false, arith, ⊎_elim, take, drop, length, get_or, add-one}
+use Rattle.std.specs.Prelude.{All}
 use Rattle.std.specs.List.{list_all}
 use Rattle.std.proofs.lemmas.Bool.{cases_Bool, and_parts}
 use Rattle.std.proofs.lemmas.Bool.Decides.{nat_tests}
@@ -8,8 +8,8 @@ use Rattle.std.proofs.lemmas.List.Elements.{All-nil, All-cons}
 use Rattle.pf_text.proofs.LineLaws.{rest_is}
 use Rattle.pf_text.specs.Meaning.Lines.{is_blank}
 use Rattle.pf_text.specs.Steps.Scan.{number_on}
-use Rattle.pf_text.specs.Meaning.Words.{is_digit, is_name_byte, is_letter}
-use Rattle.pf_rulefile.specs.Meaning.Tokens.{sticks, goes_on, longer, tokens, digits_behind}
+use Rattle.pf_text.specs.Meaning.Words.{is_digit}
+use Rattle.pf_rulefile.specs.Meaning.Tokens.{sticks, longer, tokens, digits_behind}
 use Rattle.pf_rulefile.specs.Steps.Fronts.{stuck, behind_stuck, from_solid, IsSolid}
 
 pub solid_tokens : (text : List ℕ) → tokens (from_solid text) ≡ tokens text
@@ -66,10 +66,11 @@ module _ (text : List ℕ) where
       ∙ ap (λ (us : List ℕ). (c ∷ take n cs) ∷ tokens us) (b ∙ same_end n)
       ∙ same_front n
     where
-    same_end : (n : ℕ) → drop n cs ≡ take (length (c ∷ cs) - (n + 1)) (drop (n + 1) (c ∷ cs))
-    same_end n = rw add-one (sym (rest_is (c ∷ cs) (suc n)))
-    same_front : (n : ℕ) → (c ∷ take n cs) ∷ tokens (take (length (c ∷ cs) - (n + 1)) (drop (n + 1) (c ∷ cs))) ≡ take (n + 1) (c ∷ cs) ∷ tokens (take (length (c ∷ cs) - (n + 1)) (drop (n + 1) (c ∷ cs)))
-    same_front n = ap (λ (w : List ℕ). w ∷ tokens (take (length (c ∷ cs) - (n + 1)) (drop (n + 1) (c ∷ cs)))) (rw add-one refl)
+      same_end : (n : ℕ) → drop n cs ≡ take (length (c ∷ cs) - (n + 1)) (drop (n + 1) (c ∷ cs))
+      same_end n = rw add-one (sym (rest_is (c ∷ cs) (suc n)))
+
+      same_front : (n : ℕ) → (c ∷ take n cs) ∷ tokens (take (length (c ∷ cs) - (n + 1)) (drop (n + 1) (c ∷ cs))) ≡ take (n + 1) (c ∷ cs) ∷ tokens (take (length (c ∷ cs) - (n + 1)) (drop (n + 1) (c ∷ cs)))
+      same_front n = ap (λ (w : List ℕ). w ∷ tokens (take (length (c ∷ cs) - (n + 1)) (drop (n + 1) (c ∷ cs)))) (rw add-one refl)
 
 pub digits_same : (n : ℕ) (w : List ℕ) → number_on n w ≡ digits_behind n w
 digits_same n [] = refl

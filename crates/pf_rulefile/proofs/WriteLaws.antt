@@ -1,5 +1,5 @@
 -- Texts that are written part by part.
-use Rattle.std.proofs.Common.{◌≡◌, refl, sym, ap, ◌∙◌, ℕ, ◌+◌, ◌<◌, List, [], ◌∷◌, ◌++◌, length, drop, map, get_or, append_assoc}
+use Rattle.std.proofs.Common.{◌≡◌, sym, ap, ◌∙◌, ℕ, ◌+◌, ◌<◌, List, ◌∷◌, ◌++◌, length, drop, map, get_or, append_assoc}
 use Rattle.std.specs.List.{flat_map}
 use Rattle.std.proofs.lemmas.List.{drop_more}
 use Rattle.pf_values.specs.declared.op.Op.{Op}
@@ -15,7 +15,7 @@ use Rattle.pf_values.specs.Meaning.Spellings.{op_word, spelling_of}
 use Rattle.std.specs.Prelude.{Option, Bool, false}
 use Rattle.pf_rules.specs.declared.number.LinPart.{LinPart}
 use Rattle.pf_rules.specs.declared.number.NumberPart.{NumberPart}
-use Rattle.pf_rulefile.specs.Meaning.RuleTexts.{opening, onward, before, lane_opening, lane_onward, comma, text_step, pattern_text, sign_text, lin_text, lin_parts_text, item_text, parts_text}
+use Rattle.pf_rulefile.specs.Meaning.RuleTexts.{opening, onward, lane_opening, lane_onward, text_step, pattern_text, sign_text, lin_text, lin_parts_text, item_text, parts_text}
 
 -- one more text is written
 pub written_next : {A : Type 0} (f : A → List ℕ) (xs : List A) (i : ℕ) (x : A) (text now whole : List ℕ) → i < length xs → x ≡ get_or xs i x → now ≡ text ++ f x →

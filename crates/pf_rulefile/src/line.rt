@@ -18,7 +18,9 @@ use pf_rules::{Kind, Number, Pattern, Patterns, Rule, Step, StepList, VarDecl, V
 use std::alloc::Global;
 
 const MOST_BRACKETS: u32 = 1024;
+
 const MOST_VARS: usize = 8;
+
 const MOST_STEPS: usize = 512;
 
 /// What the lines of a rule say so far.

@@ -178,12 +178,7 @@ fn behind_times(text: &[u8]) -> Option<(i64, &[u8])>
     Some((times, behind))
 }
 
-fn item(
-    alloc: Global,
-    most: usize,
-    minus: bool,
-    text: &[u8],
-) -> Result<(NumberPart, &[u8]), Stop>
+fn item(alloc: Global, most: usize, minus: bool, text: &[u8]) -> Result<(NumberPart, &[u8]), Stop>
     ensures { Gives result (item_read most minus (tokens text.now)) }
 {
     if let Some(rest) = behind_base(text) {

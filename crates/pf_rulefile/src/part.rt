@@ -43,7 +43,16 @@ pub fn place_in(vars: &[VarDecl], word: &[u8]) -> Option<u8>
 fn only(n: u8) -> [bool; 8]
     ensures { result ≡ only n }
 {
-    [n == 0, n == 1, n == 2, n == 3, n == 4, n == 5, n == 6, n == 7]
+    [
+        n == 0,
+        n == 1,
+        n == 2,
+        n == 3,
+        n == 4,
+        n == 5,
+        n == 6,
+        n == 7,
+    ]
 }
 
 fn none_used() -> [bool; 8]

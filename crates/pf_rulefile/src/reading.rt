@@ -6,7 +6,9 @@ ghost use Rattle.pf_rulefile.specs.Steps.FileReads.{IsReading, nothing, begun, u
 
 use crate::fault::{LineStop, RuleTextKind};
 use crate::field::{lone_name, no_more, rule_place};
-use crate::line::{Open, left_line, right_line, shift_line, step_line, told, var_line, widths_line};
+use crate::line::{
+    Open, left_line, right_line, shift_line, step_line, told, var_line, widths_line,
+};
 use crate::token::next_token;
 use pf_ints::{Name, Sequence};
 use pf_rules::{Kind, Rule, RuleList, RuleParts, is_rule};
@@ -214,7 +216,16 @@ fn read_words(
     let Reading { rules, current } = reading;
     match current {
         Some(rule) => {
-            let rule = inside(alloc, format, kind, most, rules.as_slice(), rule, word, rest)?;
+            let rule = inside(
+                alloc,
+                format,
+                kind,
+                most,
+                rules.as_slice(),
+                rule,
+                word,
+                rest,
+            )?;
             let current = Some(rule);
             Ok(Reading { rules, current })
         }

@@ -1,5 +1,5 @@
 -- How right sides of lane operations are read from the front of tokens.
-use Rattle.std.specs.Prelude.{ℕ, zero, suc, List, [], ◌∷◌, Bool, true, false, if◌then◌else◌, Option, Some, None, option_map, codes}
+use Rattle.std.specs.Prelude.{ℕ, zero, suc, List, [], ◌∷◌, if◌then◌else◌, Option, Some, None, option_map, codes}
 use Rattle.std.specs.Str.{bytes_eq}
 use Rattle.pf_laneops.specs.declared.lane_name.LaneName.{LaneName}
 use Rattle.pf_rules.specs.declared.number.Amount.{Amount}

@@ -57,13 +57,13 @@ both_patterns nodes _ _ = None
 
 abbrev pub joined_part : Part → Part → Part
 joined_part a b = record {
-    nodes = sum_of a.nodes b.nodes;
-    used = both_used a.used b.used;
-    unknown = a.unknown || b.unknown;
-    bare = false;
-    has_k = a.has_k || b.has_k;
-    patterns = both_patterns (sum_of a.nodes b.nodes) a.patterns b.patterns;
-  }
+  nodes = sum_of a.nodes b.nodes;
+  used = both_used a.used b.used;
+  unknown = a.unknown || b.unknown;
+  bare = false;
+  has_k = a.has_k || b.has_k;
+  patterns = both_patterns (sum_of a.nodes b.nodes) a.patterns b.patterns;
+}
 
 abbrev pub node_items : ℕ → Op → Option PatType → Amount → Option (List Pattern) → Option (List Pattern)
 node_items nodes op to k (Some args) = if nat_le nodes 64 then one (Node op to k args) else None
@@ -71,13 +71,13 @@ node_items nodes op to k None = None
 
 abbrev pub node_part : Op → Option PatType → Amount → Part → Part
 node_part op to k args = record {
-    nodes = sum_of args.nodes 1;
-    used = args.used;
-    unknown = args.unknown;
-    bare = false;
-    has_k = args.has_k || not (is_free_amount k);
-    patterns = node_items (sum_of args.nodes 1) op to k args.patterns;
-  }
+  nodes = sum_of args.nodes 1;
+  used = args.used;
+  unknown = args.unknown;
+  bare = false;
+  has_k = args.has_k || not (is_free_amount k);
+  patterns = node_items (sum_of args.nodes 1) op to k args.patterns;
+}
 
 abbrev pub lane_items : ℕ → Option LaneName → Option PatType → Amount → Option (List Pattern) → Option (List Pattern)
 lane_items nodes (Some op) to k (Some args) = if nat_le nodes 64 then one (Lane op to k args) else None
@@ -85,13 +85,13 @@ lane_items nodes _ to k _ = None
 
 abbrev pub lane_part : Option LaneName → Option PatType → Amount → Part → Part
 lane_part op to k args = record {
-    nodes = sum_of args.nodes 1;
-    used = args.used;
-    unknown = args.unknown || not (is_some op);
-    bare = false;
-    has_k = args.has_k || not (is_free_amount k);
-    patterns = lane_items (sum_of args.nodes 1) op to k args.patterns;
-  }
+  nodes = sum_of args.nodes 1;
+  used = args.used;
+  unknown = args.unknown || not (is_some op);
+  bare = false;
+  has_k = args.has_k || not (is_free_amount k);
+  patterns = lane_items (sum_of args.nodes 1) op to k args.patterns;
+}
 
 -- what is kept, as an algebra
 abbrev pub parts : List VarDecl → Algebra Part

@@ -1,9 +1,8 @@
 -- How the sides of rules are read from the front of tokens: what is made of their parts is given, as an algebra. No chain or sum is read
 -- that has more links than a number that is given, `most`.
-use Rattle.std.specs.Prelude.{◌≡◌, ℕ, zero, suc, ◌<◌, ℤ, pos, List, [], ◌∷◌, Bool, true, false, ◌&&◌, nat_le, length, if◌then◌else◌, Option, Some, None, option_map, option_and_then, Result, Ok, Err, codes}
+use Rattle.std.specs.Prelude.{◌≡◌, ℕ, zero, suc, pos, List, [], ◌∷◌, Bool, true, false, if◌then◌else◌, Option, Some, None, option_map, option_and_then, Result, Ok, Err, codes}
 use Rattle.std.specs.Borrow.{Bor}
 use Rattle.std.specs.Str.{bytes_eq}
-use Rattle.pf_text.specs.Meaning.Words.{is_spelled}
 use Rattle.pf_values.specs.declared.op.Op.{Op}
 use Rattle.pf_values.specs.declared.op.Op.TheVariants.{Cast, Add, Sub, Mul, ShiftLeft, ShiftRight}
 use Rattle.pf_laneops.specs.declared.lane_name.LaneName.{LaneName}
@@ -15,7 +14,7 @@ use Rattle.pf_rulefile.specs.declared.word.Shape.{Shape}
 use Rattle.pf_rulefile.specs.declared.stop.Stop.{Stop}
 use Rattle.pf_rulefile.specs.declared.stop.Stop.TheVariants.{Syntax, Memory}
 use Rattle.pf_rulefile.specs.Meaning.Tokens.{tokens}
-use Rattle.pf_rulefile.specs.Meaning.Words.{ptype_of, closing_type, comparison, is_variable, op_in, call_ops, lane_in, lane_ops, shape_of, lane_shape}
+use Rattle.pf_rulefile.specs.Meaning.Words.{ptype_of, closing_type, comparison, is_variable, op_in, call_ops, shape_of}
 use Rattle.pf_rulefile.specs.Steps.Fronts.{after}
 use Rattle.pf_rulefile.specs.Steps.NumberReads.{then_read, exponent_read, number_read}
 

@@ -1,7 +1,7 @@
 use Rattle.std.proofs.Common.{◌≡◌}
 use Rattle.pf_rulefile.specs.Meaning.Tokens.{tokens}
 use Rattle.pf_rulefile.specs.Steps.Fronts.{signed_by}
-use Rattle.pf_rulefile.specs.Steps.NumberReads.{lin_read, item_read, sum_read, signed_read}
+use Rattle.pf_rulefile.specs.Steps.NumberReads.{lin_read, sum_read, signed_read}
 use Rattle.pf_rulefile.proofs.SumLaws.{behind_parts}
 use Rattle.pf_rulefile.proofs.number.lin_parts.Given as goal
 

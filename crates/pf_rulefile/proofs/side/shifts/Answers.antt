@@ -10,4 +10,4 @@ pub links-preserved : goal.links-preserved
 links-preserved c =
     c.links.invariant
     ∙ chain_step Part (sign_by shift_of) (shift_link (parts c.args.vars.now) c.args.most) c.links.part (tokens c.links.rest.now) c.in-Some.op (tokens c.in-Some.onward.now) c.in-Some.ensures c.links.left c.in_ok-linked-in-Some.linked (tokens c.in_ok-linked-in-Some.next.now)
-        c.links-test.true c.in_ok-linked-in-Some.ensures
+    c.links-test.true c.in_ok-linked-in-Some.ensures

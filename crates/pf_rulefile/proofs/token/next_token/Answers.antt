@@ -1,4 +1,3 @@
-use Rattle.std.proofs.Common.{arith}
 use Rattle.pf_rulefile.proofs.TokenLaws.{no_token, token_in_front}
 use Rattle.pf_rulefile.proofs.token.next_token.Goals as goal
 
