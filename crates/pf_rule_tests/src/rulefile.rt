@@ -398,7 +398,7 @@ fn reads_no_front(rt: HostRuntime) -> Result<(), Fail> {
     for end in 0..text.len() {
         let (line, _) = fault_of(alloc, &text[..end])?;
         if line == 0 {
-            read += 1;
+            read = read.saturating_add(1);
         }
     }
     assert_eq!(rt; read, 3);
