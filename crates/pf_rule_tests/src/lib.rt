@@ -8,4 +8,6 @@ mod forms;
 #[cfg(test)]
 mod laneops;
 #[cfg(test)]
+mod rulefile;
+#[cfg(test)]
 mod rules;
