@@ -1,8 +1,10 @@
-//! Tests of what certificates stand on: forms, axioms and lane operations.
+//! Tests of rules and of what they stand on: forms, axioms, lane operations, rule files, certificates.
 #![tactic(auto)]
 
 #[cfg(test)]
 mod axioms;
+#[cfg(test)]
+mod checks;
 #[cfg(test)]
 mod forms;
 #[cfg(test)]

@@ -1,0 +1,4 @@
+pub mod CitingLaws
+pub mod StepLaws
+pub mod PairLaws
+pub mod JudgeLaws

@@ -1,0 +1,6 @@
+pub mod Orders
+pub mod Faults
+pub mod Checks
+pub mod Citing
+pub mod Replays
+pub mod Accepts

@@ -1,0 +1,16 @@
+//! Checking rules: whether the certificate of a rule shows that both its sides have one value.
+#![tactic(auto)]
+
+mod certifying;
+mod checked;
+mod citing;
+mod fault;
+mod filling;
+mod judging;
+mod lifting;
+mod replay;
+mod sides;
+
+pub use checked::{Checked, CheckedParts, EarlierList};
+pub use fault::RuleFault;
+pub use judging::check_rule;
