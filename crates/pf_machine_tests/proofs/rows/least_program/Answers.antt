@@ -1,0 +1,10 @@
+use Rattle.std.proofs.Common.{ℕ, rules}
+use Rattle.pf_neon.specs.Meaning.Neon.{table}
+use Rattle.pf_rows.specs.Meaning.BlockRows.{IsRowBlock}
+use Rattle.pf_machine_tests.specs.Steps.RowBlocks.{least_block}
+use Rattle.pf_machine_tests.proofs.rows.least_program.Goals as goal
+
+pub row_program-requires : goal.row_program-requires
+row_program-requires g c =
+    let there : (slots : ℕ) × IsRowBlock table c.in_ok-head.head slots least_block = search rules in
+    rw c.in_ok-least_block.ensures there
