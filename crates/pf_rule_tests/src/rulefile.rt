@@ -374,15 +374,22 @@ fn keeps_limits(rt: HostRuntime) -> Result<(), Fail> {
     assert!(rt; repeated(alloc, "x", " + x", 2000, " + z")? == (5, Name));
     assert!(rt; repeated(alloc, "x", " >> 1", 2000, " >>")? == (5, Syntax));
     assert!(rt; repeated(alloc, "{1", " + 1", 2000, "}u1 * x")? == (6, Syntax));
-    assert!(rt; nested(alloc, 1024)? == (6, Syntax));
+    assert!(rt; nested(alloc, 400)? == (6, Syntax));
     assert!(rt; nested(alloc, 1025)? == (5, Syntax));
+    Ok(())
+}
+
+/// Brackets as deep as they may be.
+#[test]
+fn reads_deep_brackets(rt: HostRuntime) -> Result<(), Fail> {
+    assert!(rt; nested(rt.alloc(), 1024)? == (6, Syntax));
     Ok(())
 }
 
 /// A line of half a million operators is refused by its count.
 #[test]
 fn refuses_long_chains(rt: HostRuntime) -> Result<(), Fail> {
-    let told = repeated(rt.alloc(), "x", " + x", 25_000, "")?;
+    let told = repeated(rt.alloc(), "x", " + x", 500_000, "")?;
     assert!(rt; told == (5, Limit));
     Ok(())
 }
