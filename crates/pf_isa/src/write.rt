@@ -211,11 +211,7 @@ fn push_instruction<I: Isa>(text: &mut Vec<u8>, line: &Line<I>) -> Result<(), Me
     text.extend_from_slice(b"\n")
 }
 
-fn push_code<I: Isa>(
-    text: &mut Vec<u8>,
-    code: &[Line<I>],
-    labels: &[Label],
-) -> Result<(), Memory>
+fn push_code<I: Isa>(text: &mut Vec<u8>, code: &[Line<I>], labels: &[Label]) -> Result<(), Memory>
     ensures text { OnOk result (text.new.items ≡ text.old.items ++ printed (code_lines I.table 0 code.now labels.now)) }
     ensures known { OnOk result (All (IsOpOf I.is_op) code.now) }
 {

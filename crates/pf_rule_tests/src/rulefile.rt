@@ -1,11 +1,11 @@
 //! Texts that are no rule files: the line of the first fault and its kind, each worked out by hand;
 //! and texts that are some.
 
+use RuleTextKind::{Header, Limit, Name, Syntax, Unbound};
 use pf_rulefile::{RuleTextFault, RuleTextKind, read_rules, write_rules};
 use std::alloc::Global;
 use std::process::Abort;
 use std::test::Fail;
-use RuleTextKind::{Header, Limit, Name, Syntax, Unbound};
 
 /// What follows the front of a text, and where the first fault is; in line 0 where there is none.
 type Case = (&'static str, u32, RuleTextKind);
@@ -255,8 +255,16 @@ const VAR: [Case; 18] = [
     ("x u1\nvar x u2", 5, Name),
     ("x u1\nwidths 8", 5, Syntax),
     ("x u1\nshift k from 0 to 1", 5, Syntax),
-    ("a u1\nvar b u1\nvar c u1\nvar d u1\nvar e u1\nvar f u1\nvar g u1\nvar h u1", 12, Syntax),
-    ("a u1\nvar b u1\nvar c u1\nvar d u1\nvar e u1\nvar f u1\nvar g u1\nvar h u1\nvar i u1", 12, Limit),
+    (
+        "a u1\nvar b u1\nvar c u1\nvar d u1\nvar e u1\nvar f u1\nvar g u1\nvar h u1",
+        12,
+        Syntax,
+    ),
+    (
+        "a u1\nvar b u1\nvar c u1\nvar d u1\nvar e u1\nvar f u1\nvar g u1\nvar h u1\nvar i u1",
+        12,
+        Limit,
+    ),
 ];
 
 #[test]
@@ -328,7 +336,8 @@ const CITE: [Case; 6] = [
 
 #[test]
 fn tells_cite(rt: HostRuntime) -> Result<(), Fail> {
-    let front = "rules 2 lift\nrule a\nwidths 8\nvar x u1\nleft u1(x)\nright x\nend\nrule b\nwidths 8\nvar x u1\nleft u1(x)\nright x\n";
+    let front =
+        "rules 2 lift\nrule a\nwidths 8\nvar x u1\nleft u1(x)\nright x\nend\nrule b\nwidths 8\nvar x u1\nleft u1(x)\nright x\n";
     assert_eq!(rt; wrong(rt.alloc(), front, &CITE)?, "none");
     Ok(())
 }
@@ -394,7 +403,8 @@ fn refuses_long_chains(rt: HostRuntime) -> Result<(), Fail> {
     Ok(())
 }
 
-const HALVE: &str = "rules 1 lift\nrule halve_u\nwidths 8 16\nvar x u1\nvar y u1\nleft u1((u2(x) + u2(y)) >> 1)\nright halving_add(x, y)\nstep l /0/0/0/0 drop_wrap\nstep l /0/0/0/1 drop_wrap\nstep l /0/0 drop_wrap\nstep l / drop_wrap\nend\n";
+const HALVE: &str =
+    "rules 1 lift\nrule halve_u\nwidths 8 16\nvar x u1\nvar y u1\nleft u1((u2(x) + u2(y)) >> 1)\nright halving_add(x, y)\nstep l /0/0/0/0 drop_wrap\nstep l /0/0/0/1 drop_wrap\nstep l /0/0 drop_wrap\nstep l / drop_wrap\nend\n";
 
 /// Each front of the text but the header's, and the whole without its last LF, is refused.
 #[test]
@@ -421,9 +431,11 @@ fn written(alloc: Global, text: &str) -> Result<Vec<u8>, Fail> {
     }
 }
 
-const LOOSE: &str = "rules 2 neon # all\r\n\nrule a\nwidths  8 16\nshift k from 01 to w - 1\nvar x u1 from -0 to 1*2 ^ (w-1*k)+3\nvar y i2\nleft select(x < y, x, {2^w - 1}u1)+x*x>>k\nright @shl( (x),(2*k) )\nstep l /0 / 1 fold\nend\nrule b\nwidths 32\nvar z u1\nleft rounding_shr(saturating_cast(i1, z), 3)\nright @sat_narrow(u1, z)\nstep r / use a\nend";
+const LOOSE: &str =
+    "rules 2 neon # all\r\n\nrule a\nwidths  8 16\nshift k from 01 to w - 1\nvar x u1 from -0 to 1*2 ^ (w-1*k)+3\nvar y i2\nleft select(x < y, x, {2^w - 1}u1)+x*x>>k\nright @shl( (x),(2*k) )\nstep l /0 / 1 fold\nend\nrule b\nwidths 32\nvar z u1\nleft rounding_shr(saturating_cast(i1, z), 3)\nright @sat_narrow(u1, z)\nstep r / use a\nend";
 
-const TIGHT: &str = "rules 2 neon\nrule a\nwidths 8 16\nshift k from 1 to w-1\nvar x u1 from -0 to 2^(w-k)+3\nvar y i2\nleft ((select(y > x, x, {2^w-1}u1) + (x * x)) >> k)\nright @shl(x, (2*k))\nstep l /0/1 fold\nend\nrule b\nwidths 32\nvar z u1\nleft rounding_shr(saturating_cast(i1, z), 3)\nright @sat_narrow(u1, z)\nstep r / use a\nend\n";
+const TIGHT: &str =
+    "rules 2 neon\nrule a\nwidths 8 16\nshift k from 1 to w-1\nvar x u1 from -0 to 2^(w-k)+3\nvar y i2\nleft ((select(y > x, x, {2^w-1}u1) + (x * x)) >> k)\nright @shl(x, (2*k))\nstep l /0/1 fold\nend\nrule b\nwidths 32\nvar z u1\nleft rounding_shr(saturating_cast(i1, z), 3)\nright @sat_narrow(u1, z)\nstep r / use a\nend\n";
 
 /// A text is written without what is loose, and read back.
 #[test]
