@@ -1,6 +1,6 @@
 -- A step by an earlier rule keeps the value.
 use Rattle.std.proofs.Common.{◌≡◌, refl, sym, ap, ◌∙◌, subst, ℕ, zero, suc, ◌+◌, ◌<◌, ℤ, Bool, true, false, cond, Some, None, List, [], ◌∷◌, length, arith, eqb-true}
-use Rattle.std.specs.Prelude.{Option, slice_get, slice_index_or, option_and_then, option_map, is_some, ◌&&◌, ◌||◌, ◌==◌, Contains}
+use Rattle.std.specs.Prelude.{Option, slice_get, slice_index_or, option_and_then, option_map, is_some, ◌||◌, ◌==◌, Contains}
 use Rattle.std.specs.Int.Signed.{le_z}
 use Rattle.std.proofs.lemmas.Int.{ints}
 use Rattle.pf_ints.specs.Meaning.Ranges.{Range, Includes, lies_in}
@@ -14,13 +14,12 @@ use Rattle.pf_axioms.specs.Meaning.AxiomSteps.{KeepsValue}
 use Rattle.pf_rules.specs.declared.shifts.Pair.{Pair}
 use Rattle.pf_rules.specs.declared.rule.VarDecl.{VarDecl}
 use Rattle.pf_rules.specs.declared.rule.RuleParts.{RuleParts}
-use Rattle.pf_rules.specs.Meaning.Sorts.{place}
 use Rattle.pf_rules.specs.Meaning.Sides.{form_at, HasSort}
 use Rattle.pf_rules.specs.Meaning.Rules.{pairs, range_at, AreInside}
 use Rattle.pf_rules.proofs.SideLaws.{sided_of}
 use Rattle.pf_check.specs.declared.checked.CheckedParts.{CheckedParts}
 use Rattle.pf_check.specs.Meaning.Orders.{this_or}
-use Rattle.pf_check.specs.Meaning.Checks.{at_pair, HasOneType, IsChecked}
+use Rattle.pf_check.specs.Meaning.Checks.{at_pair, IsChecked}
 use Rattle.pf_check.specs.Meaning.Citing.{filled, standing, bindings, is_pair, has_pair, outside, have_bounds, first_outside}
 use Rattle.pf_check.specs.Steps.Answers.{AreForms}
 

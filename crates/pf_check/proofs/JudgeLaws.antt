@@ -16,8 +16,8 @@ use Rattle.pf_check.specs.declared.checked.CheckedParts.{CheckedParts}
 use Rattle.pf_check.specs.Meaning.Orders.{this_or, first_some, fault_in}
 use Rattle.pf_check.specs.Meaning.Faults.{Fault}
 use Rattle.pf_check.specs.Meaning.Faults as fault
-use Rattle.pf_check.specs.Meaning.Checks.{HasOneType, HasRanges, IsLighter, LiftsLighter, IsSound, IsChecked, weighed, occurs, shift_fault, types_fault, with_range, ranged, ranges_from, ranges_fault, heavier_fault, repeats_fault, repeats_from, lifting_fault}
-use Rattle.pf_check.specs.Meaning.Accepts.{first_fault, cites_fault, replay_fault}
+use Rattle.pf_check.specs.Meaning.Checks.{LiftsLighter, IsSound, IsChecked, weighed, occurs, shift_fault, types_fault, with_range, ranged, ranges_from, ranges_fault, heavier_fault, repeats_fault, repeats_from, lifting_fault}
+use Rattle.pf_check.specs.Meaning.Accepts.{first_fault, cites_fault}
 use Rattle.pf_check.specs.Steps.Pairs.{HoldsAt, AllHold, Lasts, from_types, from_ranges, from_weights, from_amounts, from_cites, from_replays}
 use Rattle.pf_check.proofs.PairLaws.{first_none, has_one_type}
 

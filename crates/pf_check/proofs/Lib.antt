@@ -2,3 +2,4 @@ pub mod CitingLaws
 pub mod StepLaws
 pub mod PairLaws
 pub mod JudgeLaws
+pub mod FileLaws

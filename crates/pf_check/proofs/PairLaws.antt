@@ -1,12 +1,12 @@
 -- What holds over widths and shifts.
-use Rattle.std.proofs.Common.{◌≡◌, refl, sym, ap, ◌∙◌, subst, ℕ, zero, suc, ◌+◌, ◌-◌, ◌<◌, ◌≤◌, ℤ, pos, Bool, true, false, cond, Some, None, List, [], ◌∷◌, ◌++◌, length, map, drop, take, get_or, arith, append_assoc, Ok, Err}
-use Rattle.std.specs.Prelude.{Option, Result, slice_get, Contains, ◌&&◌, nat_le}
+use Rattle.std.proofs.Common.{◌≡◌, refl, sym, ap, ◌∙◌, subst, ℕ, zero, suc, ◌+◌, ◌-◌, ◌≤◌, ℤ, pos, Bool, true, false, cond, Some, None, List, [], ◌∷◌, ◌++◌, length, map, drop, take, get_or, arith, append_assoc, Ok, Err}
+use Rattle.std.specs.Prelude.{Option, Result, slice_get}
 use Rattle.std.proofs.lemmas.List.{append-nil}
 use Rattle.pf_ints.specs.declared.lane.LaneType.{LaneType}
 use Rattle.pf_ints.specs.Meaning.Ranges.{Range, Includes}
 use Rattle.pf_forms.specs.Meaning.Shapes.{Shape, Num, Wrap}
 use Rattle.pf_forms.specs.Meaning.Equality.{same_type}
-use Rattle.pf_forms.specs.Meaning.Values.{FVal, AreIn, IsFormOver}
+use Rattle.pf_forms.specs.Meaning.Values.{FVal, AreIn}
 use Rattle.pf_forms.specs.Meaning.Equality.{same}
 use Rattle.pf_forms.proofs.EqualityLaws.{same_true}
 use Rattle.pf_rules.specs.declared.fault.SortFault.{SortFault}
@@ -15,8 +15,8 @@ use Rattle.pf_rules.specs.declared.rule.RuleParts.{RuleParts}
 use Rattle.pf_rules.specs.declared.rule.VarDecl.{VarDecl}
 use Rattle.pf_rules.specs.declared.shifts.Pair.{Pair}
 use Rattle.pf_rules.specs.Meaning.Sorts.{sorting}
-use Rattle.pf_rules.specs.Meaning.Sides.{form_at, HasSort}
-use Rattle.pf_rules.specs.Meaning.Rules.{range_at, AreInside}
+use Rattle.pf_rules.specs.Meaning.Sides.{form_at}
+use Rattle.pf_rules.specs.Meaning.Rules.{range_at}
 use Rattle.pf_rules.proofs.SideLaws.{sided_of}
 use Rattle.pf_check.specs.declared.fault.RuleFault.{RuleFault}
 use Rattle.pf_check.specs.Meaning.Orders.{this_or, first_some, onward, fault_in}

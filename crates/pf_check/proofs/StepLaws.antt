@@ -1,11 +1,11 @@
 -- Steps keep the value, and the first fault of several.
-use Rattle.std.proofs.Common.{◌≡◌, refl, sym, ap, ◌∙◌, subst, ℕ, ℤ, ◌<◌, Some, None, List, [], ◌∷◌, length, IfSome, IfOk, OnOk, arith}
+use Rattle.std.proofs.Common.{◌≡◌, refl, sym, ap, subst, ℕ, ℤ, ◌<◌, Some, None, List, [], ◌∷◌, length, IfSome, IfOk, OnOk, arith}
 use Rattle.std.specs.Prelude.{Option, Result, Ok, Err}
 use Rattle.pf_ints.specs.Meaning.Ranges.{Range}
 use Rattle.pf_forms.specs.declared.form.Form.{Form}
 use Rattle.pf_forms.specs.Meaning.Shapes.{Shape, shape}
 use Rattle.pf_forms.specs.Meaning.Parts.{part_at}
-use Rattle.pf_forms.specs.Meaning.Values.{FVal, AreIn, IsFormOver}
+use Rattle.pf_forms.specs.Meaning.Values.{FVal, IsFormOver}
 use Rattle.pf_axioms.specs.Meaning.AxiomSteps.{KeepsValue}
 use Rattle.pf_check.specs.declared.fault.RuleFault.{RuleFault}
 use Rattle.pf_check.specs.declared.fault.RuleFault.TheVariants as told

@@ -4,3 +4,4 @@ pub mod Checks
 pub mod Citing
 pub mod Replays
 pub mod Accepts
+pub mod Files

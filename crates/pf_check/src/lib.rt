@@ -5,6 +5,7 @@ mod certifying;
 mod checked;
 mod citing;
 mod fault;
+mod files;
 mod filling;
 mod judging;
 mod lifting;
@@ -13,4 +14,5 @@ mod sides;
 
 pub use checked::{Checked, CheckedParts, EarlierList};
 pub use fault::RuleFault;
+pub use files::{CheckedFile, CheckedList, check_file};
 pub use judging::check_rule;

@@ -1,13 +1,14 @@
 //! Rules that are checked: accepted ones, and one refused for each cause.
 
 use pf_axioms::StepFault;
-use pf_check::{Checked, EarlierList, RuleFault, check_rule};
+use pf_check::{Checked, CheckedFile, EarlierList, RuleFault, check_file, check_rule};
 use pf_forms::{Axiom, Form};
 use pf_ints::{Name, NumberList, Path, Target};
 use pf_laneops::LaneName;
 use pf_rules::{
-    Amount, By, Kind, LinOf, LinPart, LinParts, Number, NumberItem, NumberPart, NumberParts,
-    PatType, Pattern, Rule, RuleParts, Step, StepList, VarDecl, VarList, is_rule, suits,
+    Amount, By, FileParts, Kind, LinOf, LinPart, LinParts, Number, NumberItem, NumberPart,
+    NumberParts, PatType, Pattern, Rule, RuleFile, RuleList, RuleParts, Step, StepList, VarDecl,
+    VarList, is_file, is_rule, suits,
 };
 use pf_values::Op;
 use sqlite_items::Items;
@@ -361,13 +362,24 @@ fn is_lift(alloc: Global, parts: RuleParts) -> Result<bool, Fail> {
     Ok(checked(alloc, parts, Kind::Lift, &earlier)?.is_ok())
 }
 
+fn refused(answer: Result<Checked, (Rule, RuleFault)>) -> Option<RuleFault> {
+    match answer {
+        Ok(_) => None,
+        Err((_, fault)) => Some(fault),
+    }
+}
+
+fn refused_in(answer: Result<CheckedFile, (Name, RuleFault)>) -> Option<RuleFault> {
+    match answer {
+        Ok(_) => None,
+        Err((_, fault)) => Some(fault),
+    }
+}
+
 /// The fault of a rule that lifts.
 fn fault(alloc: Global, parts: RuleParts) -> Result<RuleFault, Fail> {
     let earlier = EarlierList::new(alloc);
-    match checked(alloc, parts, Kind::Lift, &earlier)? {
-        Ok(_) => Err("accepted".into()),
-        Err((_, fault)) => Ok(fault),
-    }
+    Ok(refused(checked(alloc, parts, Kind::Lift, &earlier)?).ok_or("accepted")?)
 }
 
 fn is_got(fault: &RuleFault, step: u32, width: u8, lo: i128, hi: i128) -> bool {
@@ -407,10 +419,7 @@ fn a_product_needs_a_range(rt: HostRuntime) -> Result<(), Fail> {
 fn by_average(alloc: Global, rows: &[(bool, &[u8], &str)]) -> Result<Option<RuleFault>, Fail> {
     let kind = Kind::Lower(Target::Avx2);
     let earlier = EarlierList::new(alloc);
-    match checked(alloc, halve_by_avg(alloc, rows)?, kind, &earlier)? {
-        Ok(_) => Ok(None),
-        Err((_, fault)) => Ok(Some(fault)),
-    }
+    Ok(refused(checked(alloc, halve_by_avg(alloc, rows)?, kind, &earlier)?))
 }
 
 #[test]
@@ -549,33 +558,57 @@ fn steps_by_an_earlier_rule(rt: HostRuntime) -> Result<(), Fail> {
         Ok(rule) => earlier.push(Some(rule))?,
         Err(_) => return Err("refused".into()),
     }
+    let fine = same_add(alloc, narrow(alloc)?)?;
+    assert!(rt; checked(alloc, fine, Kind::Lift, &earlier)?.is_ok());
+    let wide = refused(checked(alloc, same_add(alloc, None)?, Kind::Lift, &earlier)?);
+    assert!(rt; is_got(&wide.ok_or("accepted")?, 1, 8, 0, 65535));
+    let mut none = EarlierList::new(alloc);
+    none.push(None)?;
+    let fine = same_add(alloc, narrow(alloc)?)?;
     assert!(rt;
-        checked(
-            alloc,
-            same_add(alloc, narrow(alloc)?)?,
-            Kind::Lift,
-            &earlier
-        )?
-        .is_ok()
-    );
-    assert!(rt;
-        match checked(alloc, same_add(alloc, None)?, Kind::Lift, &earlier)? {
-            Err((_, fault)) => is_got(&fault, 1, 8, 0, 65535),
-            Ok(_) => false,
-        }
-    );
-    let mut refused = EarlierList::new(alloc);
-    refused.push(None)?;
-    assert!(rt;
-        match checked(
-            alloc,
-            same_add(alloc, narrow(alloc)?)?,
-            Kind::Lift,
-            &refused
-        )? {
-            Err((_, RuleFault::Cites { n })) => n == 1,
+        match refused(checked(alloc, fine, Kind::Lift, &none)?) {
+            Some(RuleFault::Cites { n }) => n == 1,
             _ => false,
         }
     );
+    Ok(())
+}
+
+/// A file of `same` and `same_add`, these with ranges for x.
+fn two_rules(alloc: Global, first: Range, second: Range) -> Result<RuleFile, Fail> {
+    let mut rules = RuleList::new(alloc);
+    for parts in [same(alloc, first)?, same_add(alloc, second)?] {
+        if !is_rule(&parts) {
+            return Err("no rule".into());
+        }
+        rules.push(Rule::new(parts))?;
+    }
+    let parts = FileParts {
+        format: 2,
+        kind: Kind::Lift,
+        rules,
+    };
+    if is_file(&parts) {
+        Ok(RuleFile::new(parts))
+    } else {
+        Err("no file".into())
+    }
+}
+
+#[test]
+fn files_of_rules(rt: HostRuntime) -> Result<(), Fail> {
+    let alloc = rt.alloc();
+    let file = two_rules(alloc, narrow(alloc)?, narrow(alloc)?)?;
+    match check_file(alloc, file) {
+        Ok(file) => {
+            assert!(rt; file.rules().len() == 2);
+            assert!(rt; file.rules().get(1).is_some());
+            assert!(rt; file.rules().get(2).is_none());
+        }
+        Err(_) => return Err("refused".into()),
+    }
+    let file = two_rules(alloc, None, narrow(alloc)?)?;
+    let wide = refused_in(check_file(alloc, file));
+    assert!(rt; is_got(&wide.ok_or("accepted")?, 1, 8, 0, 65535));
     Ok(())
 }

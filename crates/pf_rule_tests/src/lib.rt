@@ -1,4 +1,4 @@
-//! Tests of rules and of what they stand on: forms, axioms, lane operations, rule files, certificates.
+//! Tests of rules and of what they stand on: forms, axioms, lane operations, bounds, rule files, certificates.
 #![tactic(auto)]
 
 #[cfg(test)]
@@ -13,3 +13,5 @@ mod laneops;
 mod rulefile;
 #[cfg(test)]
 mod rules;
+#[cfg(test)]
+mod term_bounds;

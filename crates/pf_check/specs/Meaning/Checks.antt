@@ -1,5 +1,5 @@
 -- What a rule is checked for before its certificate, and what a checked rule keeps.
-use Rattle.std.specs.Prelude.{◌≡◌, ℕ, ℤ, ◌+◌, ◌-◌, ◌^◌, ◌<◌, ◌≤◌, min, nat_lt, Bool, true, false, if◌then◌else◌, List, [], ◌∷◌, length, map, slice_get, Option, Some, None, option_map, Result, Ok, Err, Contains}
+use Rattle.std.specs.Prelude.{◌≡◌, ℕ, ◌+◌, ◌-◌, ◌^◌, ◌<◌, ◌≤◌, min, nat_lt, Bool, true, false, if◌then◌else◌, List, [], ◌∷◌, length, slice_get, Option, Some, None, option_map, Result, Ok, Err, Contains}
 use Rattle.pf_ints.specs.declared.lane.LaneType.{LaneType}
 use Rattle.pf_ints.specs.Meaning.Ranges.{Range}
 use Rattle.pf_forms.specs.Meaning.Equality.{same_type}
@@ -15,7 +15,7 @@ use Rattle.pf_rules.specs.Meaning.Sorts.{At, place, sorting}
 use Rattle.pf_rules.specs.Meaning.Counts.{pattern_weight, occurrences}
 use Rattle.pf_rules.specs.Meaning.Rules.{suits, pairs, first_bad, range_at, Holds}
 use Rattle.pf_check.specs.declared.checked.CheckedParts.{CheckedParts}
-use Rattle.pf_check.specs.Meaning.Orders.{this_or, first_some, onward, fault_in}
+use Rattle.pf_check.specs.Meaning.Orders.{this_or, fault_in}
 use Rattle.pf_check.specs.Meaning.Faults.{Fault}
 use Rattle.pf_check.specs.Meaning.Faults as fault
 

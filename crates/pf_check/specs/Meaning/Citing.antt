@@ -1,5 +1,5 @@
 -- A step by an earlier rule: a form that is the rule's left side, with forms for its variables, becomes its right side with these.
-use Rattle.std.specs.Prelude.{◌≡◌, ℕ, ◌+◌, ◌==◌, nat_lt, Bool, true, false, ◌&&◌, ◌||◌, if◌then◌else◌, List, [], ◌∷◌, length, map, slice_index_or, Option, Some, None, option_map, option_and_then, is_some, Result, Ok, Err, Contains}
+use Rattle.std.specs.Prelude.{◌≡◌, ℕ, ◌+◌, ◌==◌, Bool, true, false, ◌&&◌, ◌||◌, if◌then◌else◌, List, [], ◌∷◌, slice_index_or, Option, Some, None, option_map, option_and_then, is_some, Ok, Err, Contains}
 use Rattle.pf_ints.specs.Meaning.Ranges.{Range, lies_in}
 use Rattle.pf_forms.specs.Meaning.Shapes.{Shape, Var, Num, Pow, Add, Sub, Mul, FloorDiv, Min, Max, Abs, Sel, Wrap, Sat}
 use Rattle.pf_forms.specs.Meaning.Equality.{same}

@@ -1,5 +1,5 @@
 -- The first of several things that may be there.
-use Rattle.std.specs.Prelude.{ℕ, ◌+◌, List, [], ◌∷◌, Option, Some, None, Result, Ok, Err}
+use Rattle.std.specs.Prelude.{List, [], ◌∷◌, Option, Some, None, Result, Ok, Err}
 
 abbrev pub this_or : {A : Type 0} → Option A → Option A → Option A
 this_or (Some x) o = Some x

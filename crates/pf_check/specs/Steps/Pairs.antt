@@ -1,5 +1,5 @@
 -- What is kept over widths and shifts.
-use Rattle.std.specs.Prelude.{◌≡◌, ℕ, ℤ, ◌+◌, ◌<◌, ◌^◌, ◌++◌, true, false, List, [], ◌∷◌, length, Result, Ok, Err, Option, map}
+use Rattle.std.specs.Prelude.{◌≡◌, ℕ, ℤ, ◌<◌, ◌++◌, true, false, List, [], ◌∷◌, length, Result, Ok, Err, Option, map}
 use Rattle.pf_ints.specs.Meaning.Ranges.{Range}
 use Rattle.pf_rules.specs.declared.rule.Kind.{Kind}
 use Rattle.pf_rules.specs.declared.rule.RuleParts.{RuleParts}
@@ -10,7 +10,7 @@ use Rattle.pf_check.specs.declared.fault.RuleFault.{RuleFault}
 use Rattle.pf_check.specs.declared.checked.CheckedParts.{CheckedParts}
 use Rattle.pf_check.specs.Meaning.Orders.{this_or, first_some, fault_in}
 use Rattle.pf_check.specs.Meaning.Faults.{Fault, Tells}
-use Rattle.pf_check.specs.Meaning.Checks.{at_pair, HasOneType, shift_fault, types_fault, ranges_fault, lifting_fault}
+use Rattle.pf_check.specs.Meaning.Checks.{at_pair, HasOneType, types_fault, ranges_fault, lifting_fault}
 use Rattle.pf_check.specs.Meaning.Accepts.{cites_fault, replay_fault}
 
 -- the call makes these ranges, or tells the fault

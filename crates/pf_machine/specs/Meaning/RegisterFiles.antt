@@ -38,3 +38,9 @@ abbrev pub renamed_register : ℕ → ℕ → Reg → Reg
 renamed_register from to (V n) = V (renamed_vector from to n)
 renamed_register from to K = K
 renamed_register from to Q = Q
+
+-- the register, where a function gives each vector's name
+abbrev pub register_by : (ℕ → ℕ) → Reg → Reg
+register_by f (V n) = V (f n)
+register_by f K = K
+register_by f Q = Q

@@ -8,7 +8,7 @@ use Rattle.pf_machine.specs.declared.registers.RegFile.{RegFile}
 use Rattle.pf_machine.specs.declared.access.Access.{Access}
 use Rattle.pf_machine.specs.declared.control.Control.{Control}
 use Rattle.pf_machine.specs.Meaning.Bytes.{AreBytes}
-use Rattle.pf_machine.specs.Meaning.RegisterFiles.{reads, writes, IsRegisterOf, renamed_vector, renamed_register}
+use Rattle.pf_machine.specs.Meaning.RegisterFiles.{reads, writes, IsRegisterOf, renamed_vector, renamed_register, register_by}
 use Rattle.pf_machine.specs.Meaning.Control.{IsControl}
 use Rattle.pf_text.specs.Meaning.Lines.{IsLine, IsInstruction}
 
@@ -26,8 +26,9 @@ pub record Table (O : Type 0) : Type 0 where
   -- the load or store that it is
   pub access : O → Option Access
   pub cost : O → ℕ
-  -- the operation with another name for a vector
+  -- the operation with another name for a vector, and with other names for all of them
   pub renamed : O → ℕ → ℕ → O
+  pub renamed_all : O → (ℕ → ℕ) → O
   -- names that stand for one register of the machine for good
   pub fixed : ℕ → Bool
   -- a load and a store through the pointer register, at a number of vectors behind it
@@ -88,6 +89,13 @@ Accesses uses defs a = (a.base < 8) × (IsTrue a.load → Contains defs (V a.vec
 abbrev pub renamed_access : ℕ → ℕ → Access → Access
 renamed_access from to a = record a { vector = renamed_vector from to a.vector }
 
+abbrev pub access_by : (ℕ → ℕ) → Access → Access
+access_by f a = record a { vector = f a.vector }
+
+-- a function of names keeps the fixed ones
+abbrev pub KeepsFixed : (ℕ → Bool) → (ℕ → ℕ) → Type 0
+KeepsFixed fixed f = (n : ℕ) → fixed n ≡ true → f n ≡ n
+
 -- how many of the registers are vectors
 abbrev pub vector_count : List Reg → ℕ
 vector_count [] = 0
@@ -109,6 +117,13 @@ pub record IsTable {O : Type 0} (t : Table O) (is_op : O → Type 0) : Type 0 wh
   pub rename_outcome : (op : O) (from to : ℕ) (held : List (List ℕ)) → t.outcome (t.renamed op from to) held ≡ t.outcome op held
   pub rename_access : (op : O) (from to : ℕ) → t.access (t.renamed op from to) ≡ option_map (λ a. renamed_access from to a) (t.access op)
   pub rename_cost : (op : O) (from to : ℕ) → t.cost (t.renamed op from to) ≡ t.cost op
+  -- the same where a function that keeps fixed names gives all names; another name for one vector is such a function
+  pub rename_all_uses : (op : O) (f : ℕ → ℕ) → KeepsFixed t.fixed f → t.uses (t.renamed_all op f) ≡ map (λ r. register_by f r) (t.uses op)
+  pub rename_all_defs : (op : O) (f : ℕ → ℕ) → KeepsFixed t.fixed f → t.defs (t.renamed_all op f) ≡ map (λ r. register_by f r) (t.defs op)
+  pub rename_all_outcome : (op : O) (f : ℕ → ℕ) (held : List (List ℕ)) → t.outcome (t.renamed_all op f) held ≡ t.outcome op held
+  pub rename_all_access : (op : O) (f : ℕ → ℕ) → t.access (t.renamed_all op f) ≡ option_map (λ a. access_by f a) (t.access op)
+  pub rename_all_cost : (op : O) (f : ℕ → ℕ) → t.cost (t.renamed_all op f) ≡ t.cost op
+  pub rename_one : (op : O) (from to : ℕ) → t.fixed from ≡ false → t.renamed op from to ≡ t.renamed_all op (λ n. renamed_vector from to n)
   -- a vector has 1 to 128 bytes
   pub some_bytes : 1 ≤ t.vector
   pub few_bytes : t.vector ≤ 128

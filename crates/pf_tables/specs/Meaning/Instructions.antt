@@ -11,7 +11,7 @@ use Rattle.pf_tables.specs.declared.row.place.TheConstants as Places
 use Rattle.pf_tables.specs.declared.operands.Ends.{Ends}
 use Rattle.pf_tables.specs.declared.instruction.Instruction.{Instruction}
 use Rattle.pf_tables.specs.declared.instruction.Instruction.TheVariants.{Load, Store, Copy, Constant, ConstantHigh, FromConstant, Unary, Binary, Accumulate, Shift, ByConstant, JoinedByConstant, Upper, UpperShift, Blend, Choose, Compare, Pair, PairUnary, Move}
-use Rattle.pf_tables.specs.Meaning.Registers.{renamed_sources, renamed_ends}
+use Rattle.pf_tables.specs.Meaning.Registers.{renamed_sources, renamed_ends, double_by, triple_by, transfer_by, sources_by, ends_by}
 use Rattle.pf_tables.specs.Meaning.Sets.{InstructionSet, is_fixed}
 
 -- the place of its row. A constant register that is one of the general ones is set by their line.
@@ -184,3 +184,29 @@ renamed s (Compare place r) old new = Compare place (renamed_sources old new r)
 renamed s (Pair place to r) old new = Pair place (ends_renamed s old new to) (renamed_sources old new r)
 renamed s (PairUnary place to from) old new = PairUnary place (ends_renamed s old new to) (renamed_vector old new from)
 renamed s (Move place to r) old new = Move place (ends_renamed s old new to) (renamed_sources old new r)
+
+-- with other names for all vectors; fixed ones stay
+abbrev pub unless_fixed : InstructionSet → (ℕ → ℕ) → ℕ → ℕ
+unless_fixed s f n = if is_fixed s n then n else f n
+
+abbrev pub renamed_all : InstructionSet → Instruction → (ℕ → ℕ) → Instruction
+renamed_all s (Load r) f = Load (transfer_by f r)
+renamed_all s (Store r) f = Store (transfer_by f r)
+renamed_all s (Copy r) f = Copy (double_by f r)
+renamed_all s (Constant n) f = Constant n
+renamed_all s (ConstantHigh n) f = ConstantHigh n
+renamed_all s (FromConstant place to) f = FromConstant place (f to)
+renamed_all s (Unary place r) f = Unary place (double_by f r)
+renamed_all s (Binary place r) f = Binary place (triple_by f r)
+renamed_all s (Accumulate place r) f = Accumulate place (triple_by f r)
+renamed_all s (Shift place r by) f = Shift place (double_by f r) by
+renamed_all s (ByConstant place r) f = ByConstant place (double_by f r)
+renamed_all s (JoinedByConstant place r) f = JoinedByConstant place (triple_by f r)
+renamed_all s (Upper place r) f = Upper place (double_by f r)
+renamed_all s (UpperShift place r by) f = UpperShift place (double_by f r) by
+renamed_all s (Blend place r mask) f = Blend place (triple_by f r) (f mask)
+renamed_all s (Choose place r) f = Choose place (triple_by f r)
+renamed_all s (Compare place r) f = Compare place (sources_by f r)
+renamed_all s (Pair place to r) f = Pair place (ends_by (unless_fixed s f) to) (sources_by f r)
+renamed_all s (PairUnary place to from) f = PairUnary place (ends_by (unless_fixed s f) to) (f from)
+renamed_all s (Move place to r) f = Move place (ends_by (unless_fixed s f) to) (sources_by f r)

@@ -5,7 +5,7 @@ use Rattle.pf_frames.specs.Meaning.LineTables.{text_of, others, control_text_of}
 use Rattle.pf_tables.specs.declared.instruction.Instruction.{Instruction}
 use Rattle.pf_tables.specs.declared.instruction.Instruction.TheVariants.{Load, Store}
 use Rattle.pf_tables.specs.Meaning.Sets.{InstructionSet, is_fixed}
-use Rattle.pf_tables.specs.Meaning.Instructions.{uses, defs, access, cost, renamed}
+use Rattle.pf_tables.specs.Meaning.Instructions.{uses, defs, access, cost, renamed, renamed_all}
 use Rattle.pf_tables.specs.Meaning.Effects.{outcome}
 use Rattle.pf_tables.specs.Meaning.Lines.{lines, also}
 
@@ -21,6 +21,7 @@ table_of s = record {
   access = access s;
   cost = cost s;
   renamed = renamed s;
+  renamed_all = renamed_all s;
   fixed = is_fixed s;
   load = λ to j. Load (record { vector = to; base = 5; j = j });
   store = λ from j. Store (record { vector = from; base = 5; j = j });

@@ -1,5 +1,5 @@
 -- A set's table meets the laws of every set of instructions.
-use Rattle.std.proofs.Common.{◌≡◌, ℕ, ◌+◌, ◌/◌, ◌%◌, ◌<◌, ◌≤◌, List, [], ◌∷◌, ◌++◌, take, All, Bool, true, false, length, map, Option, None, Some, MatchOption, refl, arith, sym, ◌∙◌, ⊎_elim, length-append, length-take}
+use Rattle.std.proofs.Common.{◌≡◌, ℕ, ◌+◌, ◌/◌, ◌%◌, ◌<◌, ◌≤◌, List, [], ◌∷◌, ◌++◌, take, All, Bool, true, false, length, map, Option, None, Some, MatchOption, refl, arith, sym, ap, ◌∙◌, ⊎_elim, length-append, length-take}
 use Rattle.std.specs.Prelude.{nat_lt, ◌||◌, ◌==◌, replicate, slice_index_or, if◌then◌else◌}
 use Rattle.std.specs.Option.{option_map}
 use Rattle.std.proofs.lemmas.Bool.{and_parts, cases_Bool, eqb-true, ltb-true, ne_eqb, or_cases}
@@ -13,18 +13,19 @@ use Rattle.pf_lanes.proofs.LaneLaws.{length-made, bytes-made}
 use Rattle.pf_machine.specs.declared.registers.RegFile.{RegFile}
 use Rattle.pf_machine.specs.declared.registers.Reg.TheVariants.{V, K, Q}
 use Rattle.pf_machine.specs.Meaning.Bytes.{AreBytes}
-use Rattle.pf_machine.specs.Meaning.RegisterFiles.{IsRegisterOf, renamed_register, write, writes}
-use Rattle.pf_machine.specs.Meaning.Tables.{IsTable, IsFile, CanRun, Accesses, renamed_access, vector_count, after}
+use Rattle.pf_machine.specs.Meaning.RegisterFiles.{IsRegisterOf, renamed_vector, renamed_register, register_by, write, writes}
+use Rattle.pf_machine.specs.Meaning.Tables.{IsTable, IsFile, CanRun, Accesses, renamed_access, access_by, KeepsFixed, vector_count, after}
 use Rattle.pf_machine.proofs.FileLaws.{vector_are, file_with}
 use Rattle.pf_frames.proofs.TextLaws as Texts
 use Rattle.pf_tables.specs.declared.row.Row.{Row}
 use Rattle.pf_tables.specs.declared.row.Extent.{Extent}
 use Rattle.pf_tables.specs.declared.row.Extent.TheVariants.{Whole, Lower}
 use Rattle.pf_tables.specs.declared.operands.Ends.{Ends}
+use Rattle.pf_tables.specs.Meaning.Registers.{renamed_sources, ends_by}
 use Rattle.pf_tables.specs.declared.instruction.Instruction.{Instruction}
 use Rattle.pf_tables.specs.declared.instruction.Instruction.TheVariants.{Load, Store, Copy, Constant, ConstantHigh, FromConstant, Unary, Binary, Accumulate, Shift, ByConstant, JoinedByConstant, Upper, UpperShift, Blend, Choose, Compare, Pair, PairUnary, Move}
 use Rattle.pf_tables.specs.Meaning.Sets.{InstructionSet, is_fixed}
-use Rattle.pf_tables.specs.Meaning.Instructions.{IsListed, uses, defs, access, cost, renamed, ends_renamed}
+use Rattle.pf_tables.specs.Meaning.Instructions.{IsListed, uses, defs, access, cost, renamed, ends_renamed, renamed_all, unless_fixed}
 use Rattle.pf_tables.specs.Meaning.Effects.{lanes_of, vector_of, upper_of, truths, made_by, made_by_two, pair_of, moved, elements, lower, upper, outcome}
 use Rattle.pf_tables.specs.Meaning.Lines.{lines}
 use Rattle.pf_tables.specs.Meaning.Tables.{table_of}
@@ -189,6 +190,55 @@ module _ (s : InstructionSet) (set : IsSet s) where
   rename_cost (Load r) old new = refl
   rename_cost _ old new = refl
 
+  all_uses : (op : Instruction) (f : ℕ → ℕ) → uses (renamed_all s op f) ≡ map (λ r. register_by f r) (uses op)
+  all_uses (Load r) f = refl
+  all_uses _ f = refl
+
+  kept_name : (f : ℕ → ℕ) (n : ℕ) (b : Bool) → is_fixed s n ≡ b → KeepsFixed (is_fixed s) f → unless_fixed s f n ≡ f n
+  kept_name f n true is keeps = rw is (sym (keeps n is))
+  kept_name f n false is keeps = rw is refl
+
+  all_ends : (to : Ends) (f : ℕ → ℕ) → KeepsFixed (is_fixed s) f
+      → V (ends_by (unless_fixed s f) to).low ∷ V (ends_by (unless_fixed s f) to).high ∷ [] ≡ map (λ r. register_by f r) (V to.low ∷ V to.high ∷ [])
+  all_ends to f keeps = rw (kept_name f to.low (is_fixed s to.low) refl keeps, kept_name f to.high (is_fixed s to.high) refl keeps) refl
+
+  all_defs : (op : Instruction) (f : ℕ → ℕ) → KeepsFixed (is_fixed s) f → defs (renamed_all s op f) ≡ map (λ r. register_by f r) (defs op)
+  all_defs (Pair place to r) f keeps = all_ends to f keeps
+  all_defs (PairUnary place to from) f keeps = all_ends to f keeps
+  all_defs (Move place to r) f keeps = all_ends to f keeps
+  all_defs _ f keeps = refl
+
+  all_outcome : (op : Instruction) (f : ℕ → ℕ) (held : List (List ℕ)) → outcome s (renamed_all s op f) held ≡ outcome s op held
+  all_outcome (Load r) f held = refl
+  all_outcome _ f held = refl
+
+  all_access : (op : Instruction) (f : ℕ → ℕ) → access s (renamed_all s op f) ≡ option_map (λ a. access_by f a) (access s op)
+  all_access (Load r) f = refl
+  all_access _ f = refl
+
+  all_cost : (op : Instruction) (f : ℕ → ℕ) → cost s (renamed_all s op f) ≡ cost s op
+  all_cost (Load r) f = refl
+  all_cost _ f = refl
+
+  -- a new name for one that isn't fixed keeps those that are
+  one_keeps : (old new : ℕ) → is_fixed s old ≡ false → KeepsFixed (is_fixed s) (λ n. renamed_vector old new n)
+  one_keeps old new free n is = one_other (n == old) refl
+    where
+      one_other : (b : Bool) → (n == old) ≡ b → renamed_vector old new n ≡ n
+      one_other true same = absurd (let e : n ≡ old = eqb-true n old same in let no : is_fixed s n ≡ false = rw e free in cc)
+      one_other false other = rw other refl
+
+  one_ends : (to : Ends) (old new : ℕ) → is_fixed s old ≡ false → ends_renamed s old new to ≡ ends_by (unless_fixed s (λ n. renamed_vector old new n)) to
+  one_ends to old new free =
+      let keeps = one_keeps old new free in
+      rw (free, kept_name (λ n. renamed_vector old new n) to.low (is_fixed s to.low) refl keeps, kept_name (λ n. renamed_vector old new n) to.high (is_fixed s to.high) refl keeps) refl
+
+  one_name : (op : Instruction) (old new : ℕ) → is_fixed s old ≡ false → renamed s op old new ≡ renamed_all s op (λ n. renamed_vector old new n)
+  one_name (Pair place to r) old new free = ap (λ e. Pair place e (renamed_sources old new r)) (one_ends to old new free)
+  one_name (PairUnary place to from) old new free = ap (λ e. PairUnary place e (renamed_vector old new from)) (one_ends to old new free)
+  one_name (Move place to r) old new free = ap (λ e. Move place e (renamed_sources old new r)) (one_ends to old new free)
+  one_name _ old new free = refl
+
   -- the names that are fixed stand behind those that an allocator hands out
   free : (n : ℕ) → n < s.names + 4 → is_fixed s n ≡ false
   free n h =
@@ -225,6 +275,12 @@ module _ (s : InstructionSet) (set : IsSet s) where
     rename_outcome = rename_outcome;
     rename_access = rename_access;
     rename_cost = rename_cost;
+    rename_all_uses = λ op f keeps. all_uses op f;
+    rename_all_defs = all_defs;
+    rename_all_outcome = all_outcome;
+    rename_all_access = all_access;
+    rename_all_cost = all_cost;
+    rename_one = one_name;
     room = set.room;
     free = free;
     inside = inside;

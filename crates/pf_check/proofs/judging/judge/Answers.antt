@@ -1,4 +1,4 @@
-use Rattle.std.proofs.Common.{◌≡◌, sym, subst, ap, ◌∙◌}
+use Rattle.std.proofs.Common.{◌≡◌, sym, subst, ◌∙◌}
 use Rattle.pf_rules.specs.Meaning.Rules.{pairs, Holds}
 use Rattle.pf_check.specs.Meaning.Faults.{Says}
 use Rattle.pf_check.specs.Steps.Pairs.{AllHold, from_types}

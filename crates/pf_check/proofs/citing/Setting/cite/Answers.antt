@@ -1,4 +1,4 @@
-use Rattle.std.proofs.Common.{◌≡◌, sym, ap, ◌∙◌, subst, length, map, Some, None, true}
+use Rattle.std.proofs.Common.{◌≡◌, sym, ◌∙◌, subst, length, map, Some, None, true}
 use Rattle.pf_forms.specs.Meaning.Shapes.{shape}
 use Rattle.pf_forms.specs.Meaning.Equality.{same}
 use Rattle.pf_rules.specs.Meaning.Sides.{form_at}

@@ -1,4 +1,4 @@
-use Rattle.std.proofs.Common.{◌≡◌, ℕ, ℤ, sym, subst, length}
+use Rattle.std.proofs.Common.{◌≡◌, ℕ, ℤ, sym, subst}
 use Rattle.pf_forms.specs.Meaning.Shapes.{shape}
 use Rattle.pf_forms.specs.Meaning.Values.{FVal, AreIn, IsFormOver}
 use Rattle.pf_rules.specs.Meaning.Rules.{pair}

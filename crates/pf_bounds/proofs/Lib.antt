@@ -1,0 +1,5 @@
+pub mod Narrowing
+pub mod WholeTypes
+pub mod TermLaws
+pub mod KeptLaws
+pub mod PlaceLaws

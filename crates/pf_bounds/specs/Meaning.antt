@@ -1,0 +1,2 @@
+pub mod TermBounds
+pub mod KeptBounds

@@ -1,0 +1,11 @@
+//! Bounds of terms: the interval in which a term's value lies, by the ranges of its leaves.
+#![tactic(auto)]
+
+mod inference;
+mod kept;
+mod operators;
+mod ranges;
+
+pub use inference::bounds;
+pub use kept::{Bounded, Bounds};
+pub use ranges::Ranges;
