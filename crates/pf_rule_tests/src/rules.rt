@@ -3,9 +3,8 @@
 
 ghost use Rattle.std.specs.Prelude.{◌≡◌, IfOk, length};
 
-use crate::forms::names;
 use pf_forms::{Axiom, print_form, size};
-use pf_ints::{Duplicate, LaneType, Name, NumberList, Path, Target};
+use pf_ints::{Duplicate, LaneType, Name, NameList, NumberList, Path, Target};
 use pf_laneops::LaneName;
 use pf_rules::{
     Amount, By, FileParts, Kind, LinOf, LinPart, LinParts, Number, NumberItem, NumberPart,
@@ -221,6 +220,17 @@ fn plain(alloc: Global) -> Result<RuleParts, Fail> {
     let lhs = two(alloc, Op::Add, none(), Pattern::Var(0), Pattern::Var(1))?;
     let rhs = two(alloc, Op::Add, none(), Pattern::Var(1), Pattern::Var(0))?;
     rule(alloc, &[8, 16], U1, lhs, rhs)
+}
+
+/// The names x, y and z.
+fn names(alloc: Global) -> Result<NameList, Fail>
+    ensures { IfOk result (λ names. length names ≡ 3) }
+{
+    let mut names = NameList::new(alloc);
+    names.push(Name::new(b"x").ok_or("no name")?)?;
+    names.push(Name::new(b"y").ok_or("no name")?)?;
+    names.push(Name::new(b"z").ok_or("no name")?)?;
+    Ok(names)
 }
 
 /// Whether the pattern over x, y and z has a type and a form with this text.

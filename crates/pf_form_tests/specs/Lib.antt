@@ -1,1 +1,2 @@
 pub mod TestedTerms
+pub mod TestedCode

@@ -17,7 +17,7 @@ use Rattle.pf_values.proofs.TermRanges.{stated_node, stated_leaf, formed_leaf}
 use Rattle.pf_bounds.specs.declared.ranges.Ranges.{Ranges}
 use Rattle.pf_bounds.specs.Meaning.TermBounds.{are_ranges_of, is_ranged_leaf}
 use Rattle.pf_bounds.proofs.TermLaws.{ranged_leaf, ranged_node}
-use Rattle.pf_rule_tests.specs.TestedTerms.{HasRanges, IsTested}
+use Rattle.pf_form_tests.specs.TestedTerms.{HasRanges, IsTested}
 
 pub leaf_tested : (leaf : LeafOf) (ty : LaneType) → is_formed_leaf leaf ty ≡ true → ((r : Ranges) → HasRanges r → is_ranged_leaf r leaf ty ≡ true) → IsTested ty (Leaf leaf ty)
 leaf_tested leaf ty formed ranged =

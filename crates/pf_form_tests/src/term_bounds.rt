@@ -4,7 +4,7 @@ ghost use Rattle.std.specs.Prelude.{◌≡◌, ◌∷◌, [], true, IfOk, Ok};
 ghost use Rattle.pf_ints.specs.Meaning.Ranges.{lies_in, lane_range};
 ghost use Rattle.pf_values.specs.Meaning.Operators.{row_of};
 ghost use Rattle.pf_values.specs.Meaning.Terms.{is_formed_node, node_type};
-ghost use Rattle.pf_rule_tests.specs.TestedTerms.{HasRanges, IsTested};
+ghost use Rattle.pf_form_tests.specs.TestedTerms.{HasRanges, IsTested};
 
 use pf_bounds::{Bounded, Ranges, bounds};
 use pf_ints::{Interval, IntervalList, LaneType, Path};
