@@ -1,2 +1,3 @@
 pub mod LaneRows
 pub mod Formulas
+pub mod LaneCodes

@@ -1,5 +1,5 @@
 /// An operation on the lanes of vectors. x and y are operands of a type of w bits, k is the amount.
-#[derive(Clone, Copy, Debug, PartialEq, Eq)]
+#[derive(Clone, Copy, Debug, PartialEq, Eq, Hash)]
 pub enum LaneName {
     /// x + y, wrapped.
     Add,
