@@ -24,7 +24,7 @@ use Rattle.pf_values.specs.declared.term.Term.TheVariants.{Leaf, Node, rolls-Lea
 use Rattle.pf_values.specs.declared.term.Term.TheOpen.{Term-F}
 use Rattle.pf_values.specs.declared.term.Term.TheOpen.Term-F.{Leaf as LeafLayer, Node as NodeLayer}
 use Rattle.pf_values.specs.declared.term.Term.TheViews.{roll-Term}
-use Rattle.pf_values.specs.declared.term.Term.TheFolds.{fold-roll-Term, ind-Term, map-Term}
+use Rattle.pf_values.specs.declared.term.Term.TheFolds.{fold-Term, fold-roll-Term, ind-Term, map-Term}
 use Rattle.pf_values.specs.Meaning.Operators.{row_of}
 use Rattle.pf_values.specs.Meaning.Terms.{all_true, is_well_formed, is_formed_leaf, stated_type, Val, leaf_value, IsWellTyped, operand_count, is_amount, least_amount, greatest_amount, first_width, depth_of, depth_step, greatest_of}
 use Rattle.pf_values.proofs.Typing.{all_true_at}
@@ -39,12 +39,12 @@ use Rattle.pf_templates.specs.Meaning.Templates.{at}
 use Rattle.pf_laneops.specs.Meaning.Formulas.{formula, vars, operand}
 use Rattle.pf_laneops.proofs.ValueLaws.{value_over, formula_value}
 use Rattle.pf_bounds.specs.declared.ranges.Ranges.{Ranges}
-use Rattle.pf_bounds.specs.Meaning.TermBounds.{leaf_range, row_range, all_of, interval_step, interval_of, ranged_step, is_ranged_leaf, are_ranges_of, IsWithin}
-use Rattle.pf_bounds.proofs.Narrowing.{Under, AreUnder, Found, lies_true, lies_low, lies_high}
+use Rattle.pf_bounds.specs.Meaning.TermBounds.{leaf_range, row_range, all_of, interval_step, interval_of, ranged_step, is_ranged_leaf, are_ranges_of, lies_in_type, IsWithin}
+use Rattle.pf_bounds.proofs.Narrowing.{Under, AreUnder, Found, lies_true, lies_low, lies_high, within_kept}
 use Rattle.pf_bounds.proofs.WholeTypes.{row_found}
 
 -- each definition at a leaf and at a node
-interval_leaf : (ranges : Ranges) (leaf : LeafOf) (ty : LaneType) → interval_of ranges (Leaf leaf ty) ≡ leaf_range ranges leaf
+pub interval_leaf : (ranges : Ranges) (leaf : LeafOf) (ty : LaneType) → interval_of ranges (Leaf leaf ty) ≡ leaf_range ranges leaf
 interval_leaf ranges leaf ty = ap (interval_of ranges) (sym (rolls-Leaf leaf ty)) ∙ fold-roll-Term (Option Range) (interval_step ranges) (LeafLayer leaf ty)
 
 pub interval_node : (ranges : Ranges) (op : Op) (ty : LaneType) (k : ℕ) (args : List Term) → interval_of ranges (Node op ty k args) ≡ option_and_then (row_range op ty k) (all_of (map (interval_of ranges) args))
@@ -57,7 +57,7 @@ pub ranged_node : (ranges : Ranges) (op : Op) (ty : LaneType) (k : ℕ) (args : 
 ranged_node ranges op ty k args = ap (are_ranges_of ranges) (sym (rolls-Node op ty k args)) ∙ fold-roll-Term Bool (ranged_step ranges) (NodeLayer op ty k args)
 
 -- ---- amounts
-first_below : (ts : List LaneType) → first_width ts ≤ 32
+pub first_below : (ts : List LaneType) → first_width ts ≤ 32
 first_below [] = omega arith
 first_below (t ∷ ts) = by t.bits
   where
@@ -66,7 +66,7 @@ first_below (t ∷ ts) = by t.bits
     by Sixteen = omega arith
     by ThirtyTwo = omega arith
 
-amount_below : (a : Amounts) (w k : ℕ) → w ≤ 32 → is_amount a w k ≡ true → k < 64
+pub amount_below : (a : Amounts) (w k : ℕ) → w ≤ 32 → is_amount a w k ≡ true → k < 64
 amount_below a w k h is =
     let most : k ≤ greatest_amount a w = leb-true k (greatest_amount a w) (and_parts (nat_le (least_amount a) k) _ is).1 in
     by a most
@@ -160,7 +160,7 @@ node_found ranges op ty k xs rs h found =
 pub node_some : (ranges : Ranges) (op : Op) (ty : LaneType) (k : ℕ) (xs : List Term) (rs : List Range) (o : Option Range) → IsReady ranges op ty k xs → AreFound ranges xs rs → o ≡ row_range op ty k rs → IsSome o
 node_some ranges op ty k xs rs o h found e = let f = node_found ranges op ty k xs rs h found in rw (e, f.is) refl
 
-same_some : (r s : Range) → ◌≡◌ {A = Option Range} (Some r) (Some s) → r ≡ s
+pub same_some : (r s : Range) → ◌≡◌ {A = Option Range} (Some r) (Some s) → r ≡ s
 same_some r s e = cc
 
 pub node_told : (ranges : Ranges) (t : Term) (op : Op) (ty : LaneType) (k : ℕ) (args xs : List Term) (rs : List Range) (o : Option Range) (g : Range) →
@@ -321,3 +321,69 @@ module _ (ranges : Ranges) (env : Env) (inside : IsWithin ranges env) where
 -- so what a call gives as the interval holds the value
 pub bounds_hold : (ranges : Ranges) (t : Term) (r : Range) → IsWellTyped t → interval_of ranges t ≡ Some r → (env : Env) → IsWithin ranges env → Includes r (Val env t)
 bounds_hold ranges t r typed e env inside = value_held ranges env inside t typed.formed r e
+
+-- ---- a test of all leaves of a term that implies another
+module _ (f g : Term-F Bool → Bool) (f_node : (op : Op) (ty : LaneType) (k : ℕ) (bs : List Bool) → f (NodeLayer op ty k bs) ≡ all_true bs) (g_node : (op : Op) (ty : LaneType) (k : ℕ) (bs : List Bool) → g (NodeLayer op ty k bs) ≡ all_true bs)
+    (leaf_implied : (leaf : LeafOf) (ty : LaneType) → f (LeafLayer leaf ty) ≡ true → g (LeafLayer leaf ty) ≡ true) where
+  abbrev Implied : Term → Type 0
+  Implied t = fold-Term Bool f t ≡ true → fold-Term Bool g t ≡ true
+
+  each_implied : (ps : List ((t : Term) × Implied t)) → all_true (map (fold-Term Bool f) (map (λ p. p.0) ps)) ≡ true → all_true (map (fold-Term Bool g) (map (λ p. p.0) ps)) ≡ true
+  each_implied [] h = refl
+  each_implied (p ∷ ps) h =
+      let both = and_parts (fold-Term Bool f p.0) (all_true (map (fold-Term Bool f) (map (λ q. q.0) ps))) h in
+      rw (p.1 both.0, each_implied ps both.1) refl
+
+  layer_implied : (y : Term-F ((t : Term) × Implied t)) → Implied (roll-Term (map-Term ((t : Term) × Implied t) Term (λ e. e.0) y))
+  layer_implied (LeafLayer leaf ty) h =
+      fold-roll-Term Bool g (LeafLayer leaf ty) ∙ leaf_implied leaf ty (sym (fold-roll-Term Bool f (LeafLayer leaf ty)) ∙ h)
+  layer_implied (NodeLayer op ty k ps) h =
+      let args = map (λ p. p.0) ps in
+      fold-roll-Term Bool g (NodeLayer op ty k args) ∙ g_node op ty k (map (fold-Term Bool g) args) ∙ each_implied ps (sym (f_node op ty k (map (fold-Term Bool f) args)) ∙ sym (fold-roll-Term Bool f (NodeLayer op ty k args)) ∙ h)
+
+  pub implied : (t : Term) → Implied t
+  implied = ind-Term Implied (λ x y is. subst (λ z. Implied (roll-Term z)) is (layer_implied y))
+
+-- ---- there is an interval
+pub record AreOrdered (ranges : Ranges) : Type 0 where
+  pub taps : (n : ℕ) (r : Range) → slice_get ranges.taps n ≡ Some r → IsRange r
+  pub defs : (n : ℕ) (r : Range) → slice_get ranges.defs n ≡ Some r → IsRange r
+
+module _ (ranges : Ranges) (ordered : AreOrdered ranges) where
+  abbrev HasInterval : Term → Type 0
+  HasInterval t = IsWellTyped t → are_ranges_of ranges t ≡ true → (r : Range) × IsFound ranges t r
+
+  entry_found : (o : Option Range) (ty : LaneType) → ((r : Range) → o ≡ Some r → IsRange r) → lies_in_type o ty ≡ true → (r : Range) × (o ≡ Some r) × IsRange r × (lies_in r (lane_range ty) ≡ true)
+  entry_found None ty all h = absurd (cc)
+  entry_found (Some r) ty all h = (r, refl, all r refl, h)
+
+  leaf_found : (leaf : LeafOf) (ty : LaneType) → is_formed_leaf leaf ty ≡ true → is_ranged_leaf ranges leaf ty ≡ true → (r : Range) × (leaf_range ranges leaf ≡ Some r) × IsRange r × (lies_in r (lane_range ty) ≡ true)
+  leaf_found (Tap n) ty formed h = entry_found (slice_get ranges.taps n) ty (ordered.taps n) h
+  leaf_found (Const n) ty formed h =
+      let kept = const_kept ty n formed in
+      let is = within_kept (range n n) kept in
+      (range n n, is, kept, const_member ty n (range n n) is formed)
+  leaf_found (Def n) ty formed h = entry_found (slice_get ranges.defs n) ty (ordered.defs n) h
+
+  each_found : (ps : List ((t : Term) × HasInterval t)) → AreTyped (map (λ p. p.0) ps) → all_true (map (are_ranges_of ranges) (map (λ p. p.0) ps)) ≡ true → (rs : List Range) × AreFound ranges (map (λ p. p.0) ps) rs
+  each_found [] typed h = ([], tt)
+  each_found (p ∷ ps) typed h =
+      let both = and_parts (are_ranges_of ranges p.0) (all_true (map (are_ranges_of ranges) (map (λ q. q.0) ps))) h in
+      let first = p.1 typed.0 both.0 in
+      let rest = each_found ps typed.1 both.1 in
+      (first.0 ∷ rest.0, (first.1, rest.1))
+
+  layer_found : (y : Term-F ((t : Term) × HasInterval t)) → HasInterval (roll-Term (map-Term ((t : Term) × HasInterval t) Term (λ e. e.0) y))
+  layer_found (LeafLayer leaf ty) = subst HasInterval (sym (rolls-Leaf leaf ty)) (λ typed h.
+      let f = leaf_found leaf ty (leaf_formed (Leaf leaf ty) leaf ty refl typed) (leaf_ranged ranges (Leaf leaf ty) leaf ty refl h) in
+      (f.0, leaf_told ranges (Leaf leaf ty) leaf ty f.0 refl f.1 f.2 f.3))
+  layer_found (NodeLayer op ty k ps) =
+      let args = map (λ p. p.0) ps in
+      subst HasInterval (sym (rolls-Node op ty k args)) (λ typed h.
+      let found = each_found ps (typed_node op ty k args typed).operands (sym (ranged_node ranges op ty k args) ∙ h) in
+      let ready = ready_node ranges op ty k args typed h in
+      let f = node_found ranges op ty k args found.0 ready found.1 in
+      (f.range, node_told ranges (Node op ty k args) op ty k args args found.0 (row_range op ty k found.0) f.range refl refl ready found.1 refl f.is))
+
+  pub interval_found : (t : Term) → HasInterval t
+  interval_found = ind-Term HasInterval (λ x y is. subst (λ z. HasInterval (roll-Term z)) is (layer_found y))

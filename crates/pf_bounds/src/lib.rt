@@ -7,5 +7,5 @@ mod operators;
 mod ranges;
 
 pub use inference::bounds;
-pub use kept::{Bounded, Bounds};
+pub use kept::{Bounded, BoundedParts, Bounds, OperandParts, Operands, Part, operand};
 pub use ranges::Ranges;

@@ -10,6 +10,7 @@ use Rattle.pf_values.specs.declared.term.Term.{Term}
 use Rattle.pf_values.specs.declared.term.Term.TheOpen.{Term-F}
 use Rattle.pf_values.specs.declared.term.Term.TheOpen.Term-F.{Leaf, Node}
 use Rattle.pf_values.specs.declared.term.Term.TheFolds.{fold-Term}
+use Rattle.pf_values.specs.declared.term.Term.TheViews.{out-Term}
 use Rattle.pf_values.specs.Meaning.Terms.{all_true}
 use Rattle.pf_forms.specs.Meaning.Values.{G}
 use Rattle.pf_templates.specs.Meaning.Templates.{at}
@@ -65,3 +66,22 @@ AreWithin rs xs = (n : ℕ) (r : Range) → slice_get rs n ≡ Some r → Includ
 pub record IsWithin (ranges : Ranges) (env : Env) : Type 0 where
   pub taps : AreWithin ranges.taps env.taps
   pub defs : AreWithin ranges.defs env.defs
+
+-- ---- the parts of a term
+
+abbrev pub operands_step : {A : Type 0} → Term-F A → List A
+operands_step (Leaf leaf ty) = []
+operands_step (Node op ty k args) = args
+
+-- the operands at the root of a term
+abbrev pub operands : Term → List Term
+operands t = operands_step (out-Term t)
+
+-- the part of a term at a path, or none where the path leaves the term
+abbrev pub part_of : Term → List ℕ → Option Term
+part_of t [] = Some t
+part_of t (i ∷ path) = option_and_then (λ x. part_of x path) (slice_get (operands t) i)
+
+-- the interval of the part at a path
+abbrev pub interval_at : Ranges → Term → List ℕ → Option Range
+interval_at ranges t path = option_and_then (interval_of ranges) (part_of t path)

@@ -1,8 +1,9 @@
-use Rattle.std.proofs.Common.{◌∙◌, sym, ap, subst, List, length, map, take}
+use Rattle.std.proofs.Common.{sym, ap, subst, ◌∙◌, List, take}
+use Rattle.pf_values.specs.declared.term.Term.TheVariants.{Node}
+use Rattle.pf_values.specs.Meaning.Terms.{IsWellTyped}
 use Rattle.pf_bounds.specs.declared.kept.Bounds.{Bounds}
-use Rattle.pf_bounds.specs.Meaning.KeptBounds.{whole}
-use Rattle.pf_bounds.proofs.TermLaws.{ready, node_some}
-use Rattle.pf_bounds.proofs.KeptLaws.{AreMarked, marked_more, marked_all, marked_count, wholes_found, node_marked}
+use Rattle.pf_bounds.proofs.TermLaws.{ready, leaf_formed}
+use Rattle.pf_bounds.proofs.KeptLaws.{AreMarked, marked_more, marked_all, all_bounded, leaf_marked, node_marked, over_count, over_amount, over_some}
 use Rattle.pf_bounds.proofs.kept.+marked.Goals as goal
 
 pub loop-arg-init : goal.loop-arg-init
@@ -23,42 +24,36 @@ loop-arg-preserved t c =
       ranged = i.ranged;
       marked =
           marked_more c.args.ranges.now c.as_slice-arg-items.result.now c.loop-arg.below c.push.new.self c.loop-arg.arg-index c.arg-item.result c.in_ok-bounds-in-Node.bounds i.marked c.loop-arg-test.true c.arg-item.is
-          (record { bounds = f.bounds; found = record { value = f.value; kept = f.range; member = f.member } })
+          (record { bounds = f.bounds; bounded = f.bounded })
           c.in_ok-push-in-Node.ensures.ok;
     }
 
-pub of_node-requires-clause-count : goal.of_node-requires-clause-count
-of_node-requires-clause-count t c =
-    let h = ready c.args.ranges.now c.args.term.now c.in-Node.op c.in-Node.ty c.in-Node.k c.in-Node.args c.as_slice-arg-items.result.now c.in-Node.is c.as_slice-arg-items.ensures c.requires.typed c.requires.entries in
+pub of_node-requires : goal.of_node-requires
+of_node-requires t c =
+    let is = c.in-Node.is ∙ ap (Node c.in-Node.op c.in-Node.ty c.in-Node.k) (sym c.as_slice-arg-items.ensures) in
+    let typed = subst IsWellTyped is c.requires.typed in
     let all = marked_all c.args.ranges.now c.as_slice-arg-items.result.now c.loop-arg.below c.loop-arg.arg-index c.loop-arg.invariant.marked c.loop-arg-test.false in
-    ap length c.as_slice.ensures ∙ marked_count c.args.ranges.now c.as_slice-arg-items.result.now c.loop-arg.below all ∙ h.count
-
-pub of_node-requires-clause-amount : goal.of_node-requires-clause-amount
-of_node-requires-clause-amount t c =
-    let h = ready c.args.ranges.now c.args.term.now c.in-Node.op c.in-Node.ty c.in-Node.k c.in-Node.args c.as_slice-arg-items.result.now c.in-Node.is c.as_slice-arg-items.ensures c.requires.typed c.requires.entries in
-    h.amount
+    record {
+      count = over_count c.in-Node.op c.in-Node.ty c.in-Node.k c.as_slice-arg-items.result.now c.loop-arg.below c.as_slice.result.now typed (all_bounded c.args.ranges.now c.as_slice-arg-items.result.now c.loop-arg.below all) c.as_slice.ensures;
+      amount = over_amount c.in-Node.op c.in-Node.ty c.in-Node.k c.as_slice-arg-items.result.now typed;
+    }
 
 pub found-at-requires : goal.found-at-requires
 found-at-requires t c =
-    let h = ready c.args.ranges.now c.args.term.now c.in-Node.op c.in-Node.ty c.in-Node.k c.in-Node.args c.as_slice-arg-items.result.now c.in-Node.is c.as_slice-arg-items.ensures c.requires.typed c.requires.entries in
+    let is = c.in-Node.is ∙ ap (Node c.in-Node.op c.in-Node.ty c.in-Node.k) (sym c.as_slice-arg-items.ensures) in
     let all = marked_all c.args.ranges.now c.as_slice-arg-items.result.now c.loop-arg.below c.loop-arg.arg-index c.loop-arg.invariant.marked c.loop-arg-test.false in
-    let same : AreMarked c.args.ranges.now c.as_slice-arg-items.result.now c.as_slice.result.now = subst (λ (bs : List Bounds). AreMarked c.args.ranges.now c.as_slice-arg-items.result.now bs) (sym c.as_slice.ensures) all in
-    node_some c.args.ranges.now c.in-Node.op c.in-Node.ty c.in-Node.k c.as_slice-arg-items.result.now (map whole c.as_slice.result.now) c.of_node.result h (wholes_found c.args.ranges.now c.as_slice-arg-items.result.now c.as_slice.result.now same) c.of_node.ensures
+    over_some c.in-Node.op c.in-Node.ty c.in-Node.k c.as_slice-arg-items.result.now c.loop-arg.below c.as_slice.result.now c.of_node.result (subst IsWellTyped is c.requires.typed) (all_bounded c.args.ranges.now c.as_slice-arg-items.result.now c.loop-arg.below all) c.as_slice.ensures c.of_node.ensures
+
+pub returns-in-Leaf-clause-bounded : goal.returns-in-Leaf-clause-bounded
+returns-in-Leaf-clause-bounded t c =
+    (leaf_marked c.args.ranges.now c.args.term.now c.in-Leaf.leaf c.in-Leaf.ty c.of_leaf.result c.in-Leaf.is c.requires.typed c.of_leaf.ensures.value c.of_leaf.ensures.kept c.of_leaf.ensures.member).bounded
 
 pub returns-after-loop-arg-clause-bounds : goal.returns-after-loop-arg-clause-bounds
 returns-after-loop-arg-clause-bounds t c =
-    let h = ready c.args.ranges.now c.args.term.now c.in-Node.op c.in-Node.ty c.in-Node.k c.in-Node.args c.as_slice-arg-items.result.now c.in-Node.is c.as_slice-arg-items.ensures c.requires.typed c.requires.entries in
     let all = marked_all c.args.ranges.now c.as_slice-arg-items.result.now c.loop-arg.below c.loop-arg.arg-index c.loop-arg.invariant.marked c.loop-arg-test.false in
-    (node_marked c.args.ranges.now c.args.term.now c.in-Node.op c.in-Node.ty c.in-Node.k c.in-Node.args c.as_slice-arg-items.result.now c.loop-arg.below c.as_slice.result.now c.of_node.result c.found-at.result c.in-Node.is c.as_slice-arg-items.ensures h all c.as_slice.ensures c.of_node.ensures c.found-at.ensures).bounds
+    (node_marked c.args.ranges.now c.args.term.now c.in-Node.op c.in-Node.ty c.in-Node.k c.in-Node.args c.as_slice-arg-items.result.now c.loop-arg.below c.as_slice.result.now c.of_node.result c.found-at.result c.in-Node.is c.as_slice-arg-items.ensures c.requires.typed all c.as_slice.ensures c.of_node.ensures c.found-at.ensures).bounds
 
-pub returns-after-loop-arg-clause-value : goal.returns-after-loop-arg-clause-value
-returns-after-loop-arg-clause-value t c =
-    let h = ready c.args.ranges.now c.args.term.now c.in-Node.op c.in-Node.ty c.in-Node.k c.in-Node.args c.as_slice-arg-items.result.now c.in-Node.is c.as_slice-arg-items.ensures c.requires.typed c.requires.entries in
+pub returns-after-loop-arg-clause-bounded : goal.returns-after-loop-arg-clause-bounded
+returns-after-loop-arg-clause-bounded t c =
     let all = marked_all c.args.ranges.now c.as_slice-arg-items.result.now c.loop-arg.below c.loop-arg.arg-index c.loop-arg.invariant.marked c.loop-arg-test.false in
-    (node_marked c.args.ranges.now c.args.term.now c.in-Node.op c.in-Node.ty c.in-Node.k c.in-Node.args c.as_slice-arg-items.result.now c.loop-arg.below c.as_slice.result.now c.of_node.result c.found-at.result c.in-Node.is c.as_slice-arg-items.ensures h all c.as_slice.ensures c.of_node.ensures c.found-at.ensures).found.value
-
-pub returns-after-loop-arg-clause-member : goal.returns-after-loop-arg-clause-member
-returns-after-loop-arg-clause-member t c =
-    let h = ready c.args.ranges.now c.args.term.now c.in-Node.op c.in-Node.ty c.in-Node.k c.in-Node.args c.as_slice-arg-items.result.now c.in-Node.is c.as_slice-arg-items.ensures c.requires.typed c.requires.entries in
-    let all = marked_all c.args.ranges.now c.as_slice-arg-items.result.now c.loop-arg.below c.loop-arg.arg-index c.loop-arg.invariant.marked c.loop-arg-test.false in
-    (node_marked c.args.ranges.now c.args.term.now c.in-Node.op c.in-Node.ty c.in-Node.k c.in-Node.args c.as_slice-arg-items.result.now c.loop-arg.below c.as_slice.result.now c.of_node.result c.found-at.result c.in-Node.is c.as_slice-arg-items.ensures h all c.as_slice.ensures c.of_node.ensures c.found-at.ensures).found.member
+    (node_marked c.args.ranges.now c.args.term.now c.in-Node.op c.in-Node.ty c.in-Node.k c.in-Node.args c.as_slice-arg-items.result.now c.loop-arg.below c.as_slice.result.now c.of_node.result c.found-at.result c.in-Node.is c.as_slice-arg-items.ensures c.requires.typed all c.as_slice.ensures c.of_node.ensures c.found-at.ensures).bounded
