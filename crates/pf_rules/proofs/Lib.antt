@@ -6,3 +6,5 @@ pub mod SideLaws
 pub mod SideSteps
 pub mod SizeLaws
 pub mod ShiftLaws
+pub mod InstanceLaws
+pub mod InstanceTerms

@@ -9,7 +9,7 @@ use Rattle.pf_values.specs.declared.op.Op.{Op}
 use Rattle.pf_values.specs.declared.row.Amounts.{Amounts}
 use Rattle.pf_values.specs.declared.row.Amounts.TheVariants as amounts
 use Rattle.pf_values.specs.Meaning.Operators.{row_of}
-use Rattle.pf_values.specs.Meaning.Terms.{operand_count, type_fault, first_width, is_amount}
+use Rattle.pf_values.specs.Meaning.Terms.{operand_count, type_fault, first_width, is_amount, node_type, unless_differs}
 use Rattle.pf_laneops.specs.declared.lane_name.LaneName.{LaneName}
 use Rattle.pf_laneops.specs.declared.lane_row.LaneRow.{LaneRow}
 use Rattle.pf_laneops.specs.declared.lane_row.LaneOperands.{LaneOperands}
@@ -46,7 +46,7 @@ judged_some at k has None u h = absurd (cc)
 judged_some at k has (Some t) u h = let f = fitting at k has t (amount_at at.w at.k k) u refl h in (ap (λ x. Some x) f.0, f.1)
 
 -- what was stated
-stated_same : (at : At) (to : Option PatType) (s : Option LaneType) → stated_at at.w to ≡ Some s → stated_or at to ≡ s
+pub stated_same : (at : At) (to : Option PatType) (s : Option LaneType) → stated_at at.w to ≡ Some s → stated_or at to ≡ s
 stated_same at None s h = cc h
 stated_same at (Some t) s h = by (lane_at at.w t) refl h
   where
@@ -56,14 +56,14 @@ stated_same at (Some t) s h = by (lane_at at.w t) refl h
 
 -- ---- operators
 
-amount_small : (a : Amounts) (w k : ℕ) → w ≤ 32 → is_amount a w k ≡ true → k < 64
+pub amount_small : (a : Amounts) (w k : ℕ) → w ≤ 32 → is_amount a w k ≡ true → k < 64
 amount_small amounts.Without w k small h = grind (arith, nat_tests)
 amount_small amounts.Shift w k small h = grind (arith, nat_tests)
 amount_small amounts.RoundingShift w k small h = grind (arith, nat_tests)
 amount_small amounts.Product w k small h = grind (arith, nat_tests)
 amount_small amounts.RoundingProduct w k small h = grind (arith, nat_tests)
 
-width_small : (types : List LaneType) → first_width types ≤ 32
+pub width_small : (types : List LaneType) → first_width types ≤ 32
 width_small [] = omega arith
 width_small (t ∷ ts) = bits_small t.bits
 
@@ -72,17 +72,20 @@ pub record OpFacts (at : At) (op : Op) (to : Option PatType) (k : AmountOf) (typ
   pub gives : op_gives op (stated_or at to) types ≡ t
   pub amount : amount_at at.w at.k k ≡ Some (pos (amount_or at k))
   pub small : amount_or at k < 64
+  pub stated : stated_at at.w to ≡ Some (stated_or at to)
+  pub judged : node_type (row_of op) t (amount_or at k) types ≡ Ok t
 
-op_type_facts : (op : Op) (s : Option LaneType) (types : List LaneType) (t : LaneType) → op_type op s types ≡ Some t →
-    (length types ≡ operand_count (row_of op).operands) × (op_gives op s types ≡ t)
-op_type_facts op s types t h = by (length types == operand_count (row_of op).operands) (is_stated (states (row_of op).gives) s) (type_fault (row_of op) (op_gives op s types) types) refl h
+pub op_type_facts : (op : Op) (s : Option LaneType) (types : List LaneType) (t : LaneType) → op_type op s types ≡ Some t →
+    (length types ≡ operand_count (row_of op).operands) × (op_gives op s types ≡ t) × (type_fault (row_of op) (op_gives op s types) types ≡ None)
+op_type_facts op s types t h = by (length types == operand_count (row_of op).operands) (is_stated (states (row_of op).gives) s) (type_fault (row_of op) (op_gives op s types) types) refl refl h
   where
-    by : (c d : Bool) (f : Option (LaneType × LaneType)) → (length types == operand_count (row_of op).operands) ≡ c →
-        cond (c && d) (unless_fault f (op_gives op s types)) None ≡ Some t → (length types ≡ operand_count (row_of op).operands) × (op_gives op s types ≡ t)
-    by true true None e g = (eqb-true _ _ e, cc)
-    by true true (Some x) e g = absurd (cc)
-    by true false f e g = absurd (cc)
-    by false d f e g = absurd (cc)
+    by : (c d : Bool) (f : Option (LaneType × LaneType)) → (length types == operand_count (row_of op).operands) ≡ c → type_fault (row_of op) (op_gives op s types) types ≡ f →
+        cond (c && d) (unless_fault f (op_gives op s types)) None ≡ Some t →
+        (length types ≡ operand_count (row_of op).operands) × (op_gives op s types ≡ t) × (type_fault (row_of op) (op_gives op s types) types ≡ None)
+    by true true None e none g = (eqb-true _ _ e, cc g, none)
+    by true true (Some x) e none g = absurd (cc g)
+    by true false f e none g = absurd (cc g)
+    by false d f e none g = absurd (cc g)
 
 pub op_facts : (at : At) (op : Op) (to : Option PatType) (k : AmountOf) (types : List LaneType) (t : LaneType) → judged_op true at op k types (stated_at at.w to) ≡ Ok t → OpFacts at op to k types t
 op_facts at op to k types t h = by (stated_at at.w to) refl h
@@ -92,10 +95,13 @@ op_facts at op to k types t h = by (stated_at at.w to) refl h
     by (Some s) e g =
         let found = judged_some at k (has_op_amount op types) (op_type op s types) t g in
         let facts = op_type_facts op s types t found.0 in
+        let none : type_fault (row_of op) t types ≡ None = ap (λ u. type_fault (row_of op) u types) (sym facts.1) ∙ facts.2 in
         record {
           count = facts.0;
           gives = ap (λ x. op_gives op x types) (stated_same at to s e) ∙ facts.1;
           amount = found.1.is;
+          stated = e ∙ ap Some (sym (stated_same at to s e));
+          judged = ap (λ o. unless_differs o (has_op_amount op types (amount_or at k)) t (amount_or at k)) none ∙ ap (λ b. unless_differs None b t (amount_or at k)) found.1.has_it;
           small = amount_small (row_of op).amounts (first_width types) (amount_or at k) (width_small types) found.1.has_it;
         }
 

@@ -90,7 +90,7 @@ pub record AreSided (at : At) (args : List Pattern) (types : List LaneType) : Ty
   pub values : (v : ℕ → ℤ) → map (FVal v) (seconds (map (typed_form at) args)) ≡ seconds (map (typed_value at v) args)
   pub formed : AreFormsOver (length at.vars) (seconds (map (typed_form at) args))
 
-typed_some : (o : Option LaneType) (t : LaneType) → typed o ≡ Ok t → o ≡ Some t
+pub typed_some : (o : Option LaneType) (t : LaneType) → typed o ≡ Ok t → o ≡ Some t
 typed_some (Some u) t h = cc
 typed_some None t h = absurd (cc)
 

@@ -5,3 +5,4 @@ pub mod Counts
 pub mod Rules
 pub mod Files
 pub mod Shifts
+pub mod Instances
