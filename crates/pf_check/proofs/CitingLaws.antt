@@ -22,6 +22,7 @@ use Rattle.pf_check.specs.Meaning.Orders.{this_or}
 use Rattle.pf_check.specs.Meaning.Checks.{at_pair, IsChecked}
 use Rattle.pf_check.specs.Meaning.Citing.{filled, standing, bindings, is_pair, has_pair, outside, have_bounds, first_outside}
 use Rattle.pf_check.specs.Steps.Answers.{AreForms}
+use Rattle.pf_check.proofs.PairLaws.{first_none}
 
 -- ---- what stands for a variable
 
@@ -124,16 +125,12 @@ within_range got stated n e h =
     let high : le_z got.hi stated.hi ≡ true = and_right (le_z stated.lo got.lo) (le_z got.hi stated.hi) e in
     record { low = omega (arith, ints, low, h.low); high = omega (arith, ints, high, h.high) }
 
-inside_out : (o : Option Range) (stated got : Range) → o ≡ Some stated → outside o (Some got) ≡ None → lies_in got stated ≡ true
+pub inside_out : (o : Option Range) (stated got : Range) → o ≡ Some stated → outside o (Some got) ≡ None → lies_in got stated ≡ true
 inside_out o stated got e h = by_test (lies_in got stated) refl (subst (λ p. outside p (Some got) ≡ None) e h)
   where
     by_test : (b : Bool) → lies_in got stated ≡ b → cond b None (Some got) ≡ None → lies_in got stated ≡ true
     by_test true d u = d
     by_test false d u = absurd (cc)
-
-first_none : {A : Type 0} (o p : Option A) → this_or o p ≡ None → (o ≡ None) × (p ≡ None)
-first_none None p e = (refl, e)
-first_none (Some x) p e = absurd (cc)
 
 module _ (p : Pair) (ranges : List Range) (v : ℕ → ℤ) (inside : AreIn ranges v) where
   first_inside : (d : VarDecl) (x : Shape) (o : Option Range) (s : Range) → G ranges x ≡ o → is_some o ≡ true → outside (range_at p.w p.k d) o ≡ None → range_at p.w p.k d ≡ Some s → Includes s (FVal v x)

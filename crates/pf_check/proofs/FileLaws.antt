@@ -1,6 +1,7 @@
 -- Files whose rules are checked.
-use Rattle.std.proofs.Common.{◌≡◌, refl, sym, ap, ◌∙◌, ℕ, zero, suc, ◌+◌, Bool, true, Some, List, [], ◌∷◌, map}
-use Rattle.std.specs.Prelude.{Option, slice_get, option_map, ◌&&◌, ◌||◌, ◌==◌}
+use Rattle.std.proofs.Common.{◌≡◌, refl, sym, ap, ◌∙◌, subst, ℕ, zero, suc, ◌+◌, ◌-◌, ◌≤◌, Bool, true, Some, None, List, [], ◌∷◌, ◌++◌, map, length, take, drop, get_or, append_assoc, arith, Ok, Err, IfOk}
+use Rattle.std.proofs.lemmas.List.{take_all}
+use Rattle.std.specs.Prelude.{Option, Result, slice_get, option_map, ◌&&◌, ◌||◌, ◌==◌}
 use Rattle.pf_values.specs.Meaning.Terms.{all_true}
 use Rattle.pf_values.proofs.Typing.{and_left, and_right}
 use Rattle.pf_rules.specs.declared.rule.Kind.{Kind}
@@ -12,7 +13,9 @@ use Rattle.pf_check.specs.declared.checked.CheckedParts.{CheckedParts}
 use Rattle.pf_check.specs.declared.fault.RuleFault.{RuleFault}
 use Rattle.pf_check.specs.declared.fault.RuleFault.TheVariants as told
 use Rattle.pf_check.specs.Meaning.Faults.{Fault, Tells}
-use Rattle.pf_check.specs.Meaning.Files.{known, rule_of, entry, AreOfKind, AllSuit, refused_or, TellsRefused}
+use Rattle.pf_check.specs.Meaning.Files.{known, rule_of, entry, AreOfKind, AllSuit, AreOutcomes, IsOutcome, left_of, refused_or, IsNamed, TellsRefused}
+use Rattle.pf_check.specs.Steps.Pairs.{Continues}
+use Rattle.pf_check.proofs.StepLaws.{told_none}
 
 pub all_suit : (allowed : Bool) (kind : Kind) (n : ℕ) (rs : List RuleParts) → are_rules allowed kind n rs ≡ true → AllSuit kind rs
 all_suit allowed kind n [] h = tt
@@ -43,23 +46,27 @@ known_at os n cs e = ap (λ xs. slice_get xs n) e ∙ at cs n
     at (c ∷ cs) zero = refl
     at (c ∷ cs) (suc n) = at cs n
 
-told_first : (r : RuleParts) (x : Fault) (o : Option Fault) (rest : Option (RuleParts × Fault)) → o ≡ Some x → option_map (λ p. p.1) (refused_or r o rest) ≡ Some x
-told_first r x o rest h = ap (λ y. option_map (λ p. p.1) (refused_or r y rest)) h
-
-named_first : (r : RuleParts) (x : Fault) (o : Option Fault) (rest : Option (RuleParts × Fault)) → o ≡ Some x → option_map (λ p. p.0.name) (refused_or r o rest) ≡ Some r.name
-named_first r x o rest h = ap (λ y. option_map (λ p. p.0.name) (refused_or r y rest)) h
+is_named : (e : RuleFault) (name : List ℕ) → IsNamed e name (Some name)
+is_named told.Memory name = tt
+is_named _ name = refl
 
 pub refused_first : (r : RuleParts) (e : RuleFault) (o : Option Fault) (rest : Option (RuleParts × Fault)) → Tells e o → TellsRefused r.name e (refused_or r o rest)
-refused_first r (told.Types left path) o rest h = (told_first r _ o rest h, named_first r _ o rest h)
-refused_first r (told.Range var w k) o rest h = (told_first r _ o rest h, named_first r _ o rest h)
-refused_first r (told.Heavier left right) o rest h = (told_first r _ o rest h, named_first r _ o rest h)
-refused_first r (told.Repeats var) o rest h = (told_first r _ o rest h, named_first r _ o rest h)
-refused_first r (told.Immediate left path amount) o rest h = (told_first r _ o rest h, named_first r _ o rest h)
-refused_first r (told.Cites n) o rest h = (told_first r _ o rest h, named_first r _ o rest h)
-refused_first r (told.TooLarge n w k count) o rest h = (told_first r _ o rest h, named_first r _ o rest h)
-refused_first r (told.Step n w k fault) o rest h = (told_first r _ o rest h, named_first r _ o rest h)
-refused_first r (told.Apart w k left right) o rest h = (told_first r _ o rest h, named_first r _ o rest h)
-refused_first r told.Memory o rest h = (tt, tt)
+refused_first r e (Some x) rest h = (h, is_named e r.name)
+refused_first r e None rest h = rw (told_none e h) (tt, tt)
 
 pub suits_of : (f : FileParts) → is_file f ≡ true → AllSuit f.kind f.rules
 suits_of f h = all_suit (f.format == 2) f.kind 0 f.rules (and_right ((f.format == 1) || (f.format == 2)) (are_rules (f.format == 2) f.kind 0 f.rules) h)
+
+-- one more rule of which something is said
+pub continues_next : {E : Type 0} (kind : Kind) (earlier next : List (Option CheckedParts)) (r : RuleParts) (rules rest : List RuleParts) (before after : List (Option RuleFault)) (o : Option RuleFault) (result : Result (List (Option RuleFault)) E)
+    → rules ≡ r ∷ rest → next ≡ earlier ++ left_of kind r o ∷ [] → after ≡ before ++ o ∷ [] → IsOutcome kind earlier r o → IfOk result (Continues kind next rest after) → IfOk result (Continues kind earlier rules before)
+continues_next kind earlier next r rules rest before after o (Err e) is left more here h = tt
+continues_next kind earlier next r rules rest before after o (Ok all) is left more here (os, joined, are) =
+    (o ∷ os, joined ∙ ap (λ xs. xs ++ os) more ∙ append_assoc before (o ∷ []) os, subst (λ rs. AreOutcomes kind earlier rs (o ∷ os)) (sym is) (here, subst (λ es. AreOutcomes kind es rest os) left are))
+
+-- a list is its first item and the others
+pub first_and_rest : {A : Type 0} (xs : List A) (x : A) → 1 ≤ length xs → x ≡ get_or xs 0 x → xs ≡ x ∷ take (length xs - 1) (drop 1 xs)
+first_and_rest [] x some is = absurd (omega (arith, some))
+first_and_rest (y ∷ xs) x some is =
+    let whole : take (suc (length xs) - 1) xs ≡ xs = take_all (suc (length xs) - 1) xs (omega arith) in
+    ap (λ z. z ∷ xs) (sym is) ∙ ap (λ zs. x ∷ zs) (sym whole)

@@ -18,7 +18,7 @@ use Rattle.pf_check.specs.Meaning.Faults.{Fault}
 use Rattle.pf_check.specs.Meaning.Faults as fault
 use Rattle.pf_check.specs.Meaning.Checks.{LiftsLighter, IsSound, IsChecked, weighed, occurs, shift_fault, types_fault, with_range, ranged, ranges_from, ranges_fault, heavier_fault, repeats_fault, repeats_from, lifting_fault}
 use Rattle.pf_check.specs.Meaning.Accepts.{first_fault, cites_fault}
-use Rattle.pf_check.specs.Steps.Pairs.{HoldsAt, AllHold, Lasts, from_types, from_ranges, from_weights, from_amounts, from_cites, from_replays}
+use Rattle.pf_check.specs.Steps.Pairs.{Lasts, from_types, from_ranges, from_weights, from_amounts, from_cites, from_replays}
 use Rattle.pf_check.proofs.PairLaws.{first_none, has_one_type}
 
 pub lasts_of : (r : RuleParts) → is_rule r ≡ true → Lasts r
@@ -45,41 +45,14 @@ first_over r kind earlier e =
         (this_or (first_some (map (ranges_fault r) (pairs r)))
         (this_or (lifting_fault kind r) (this_or (first_some (map (types_fault true kind r) (pairs r))) (this_or (cites_fault earlier 1 r.steps) o))))
 
-module _ (r : RuleParts) where
-  holds_each : (ps : List Pair) → AllHold r ps → (p : Pair) → Contains ps p → HoldsAt r p
-  holds_each [] h p at = let k : at.0 < 0 = at.1 in absurd (omega (arith, k))
-  holds_each (q ∷ qs) h p (zero, k, is) = subst (HoldsAt r) is h.0
-  holds_each (q ∷ qs) h p (suc i, k, is) = holds_each qs h.1 p (i, omega (arith, k), is)
-
-  pub holds_of : AllHold r (pairs r) → Holds r
-  holds_of h p at v inside = holds_each (pairs r) h p at v inside
-
-none_each : (f : Pair → Option Fault) (ps : List Pair) → first_some (map f ps) ≡ None → (p : Pair) → Contains ps p → f p ≡ None
+pub none_each : (f : Pair → Option Fault) (ps : List Pair) → first_some (map f ps) ≡ None → (p : Pair) → Contains ps p → f p ≡ None
 none_each f [] e p at = let k : at.0 < 0 = at.1 in absurd (omega (arith, k))
 none_each f (q ∷ qs) e p (zero, k, is) = subst (λ x. f x ≡ None) is (first_none (f q) (first_some (map f qs)) e).0
 none_each f (q ∷ qs) e p (suc i, k, is) = none_each f qs (first_none (f q) (first_some (map f qs)) e).1 p (i, omega (arith, k), is)
 
-shift_none : (o : Option ℕ) → option_map (λ w. fault.Range None w 0) o ≡ None → o ≡ None
+pub shift_none : (o : Option ℕ) → option_map (λ w. fault.Range None w 0) o ≡ None → o ≡ None
 shift_none None e = refl
 shift_none (Some w) e = absurd (cc)
-
--- ---- ranges
-
-module _ (p : Pair) where
-  has_rest : (n : ℕ) (d : VarDecl) (ds : List VarDecl) (s : Range) (o : Result (List Range) Fault) → range_at p.w p.k d ≡ Some s → ((m : ℕ) (c : VarDecl) → fault_in o ≡ None → slice_get ds m ≡ Some c → (t : Range) × (range_at p.w p.k c ≡ Some t))
-      → fault_in (with_range s o) ≡ None → (m : ℕ) (c : VarDecl) → slice_get (d ∷ ds) m ≡ Some c → (t : Range) × (range_at p.w p.k c ≡ Some t)
-  has_rest n d ds s (Err e) a later u m c f = absurd (cc)
-  has_rest n d ds s (Ok ts) a later u zero c f = let is : d ≡ c = cc in (s, subst (λ y. range_at p.w p.k y ≡ Some s) is a)
-  has_rest n d ds s (Ok ts) a later u (suc m) c f = later m c refl f
-
-  has_first : (n : ℕ) (d : VarDecl) (ds : List VarDecl) (o : Option Range) → range_at p.w p.k d ≡ o → ((m : ℕ) (c : VarDecl) → fault_in (ranges_from p (n + 1) ds) ≡ None → slice_get ds m ≡ Some c → (t : Range) × (range_at p.w p.k c ≡ Some t))
-      → fault_in (ranged p n o (ranges_from p (n + 1) ds)) ≡ None → (m : ℕ) (c : VarDecl) → slice_get (d ∷ ds) m ≡ Some c → (t : Range) × (range_at p.w p.k c ≡ Some t)
-  has_first n d ds None a later u = absurd (cc)
-  has_first n d ds (Some s) a later u = has_rest n d ds s (ranges_from p (n + 1) ds) a later u
-
-  has_each : (n : ℕ) (ds : List VarDecl) → fault_in (ranges_from p n ds) ≡ None → (m : ℕ) (c : VarDecl) → slice_get ds m ≡ Some c → (t : Range) × (range_at p.w p.k c ≡ Some t)
-  has_each n [] u m c f = absurd (cc)
-  has_each n (d ∷ ds) u m c f = has_first n d ds (range_at p.w p.k d) refl (λ i y g. has_each (n + 1) ds g i y) u m c f
 
 -- ---- weights
 
@@ -103,7 +76,7 @@ module _ (r : RuleParts) where
       from_here n m later here from true d = later (leb-true (n + 1) m d)
       from_here n m later here from false d = let is : n ≡ m = grind (arith, nat_tests) in subst (λ k. occurs k r.rhs ≤ occurs k r.lhs) is here
 
-  lifts : (kind : Kind) → lifting_fault kind r ≡ None → LiftsLighter kind r
+  pub lifts : (kind : Kind) → lifting_fault kind r ≡ None → LiftsLighter kind r
   lifts (Lower target) u = tt
   lifts Lift u =
       let h = first_none (heavier_fault r) (repeats_from r 0 r.vars) u in
@@ -111,27 +84,3 @@ module _ (r : RuleParts) where
         lighter = lighter_by (weighed r.rhs) (weighed r.lhs) (fault.Heavier (weighed r.lhs) (weighed r.rhs)) (nat_lt (weighed r.rhs) (weighed r.lhs)) refl h.0;
         no_more = λ m below. no_more_from 0 r.vars h.1 m (omega arith) (omega (arith, below));
       }
-
--- ---- the rule
-
-module _ (r : RuleParts) (kind : Kind) (earlier : List (Option CheckedParts)) (h : first_fault r kind earlier ≡ None) where
-  no_shift_fault : first_bad r.widths r.shift ≡ None
-  no_shift_fault = shift_none (first_bad r.widths r.shift) (first_none (shift_fault r) _ h).0
-
-  sound_of : IsSound kind r
-  sound_of =
-      let all = sym (first_over r kind earlier no_shift_fault) ∙ h in
-      let a = first_none (first_some (map (types_fault false kind r) (pairs r))) (from_ranges r kind earlier (pairs r)) all in
-      let b = first_none (first_some (map (ranges_fault r) (pairs r))) (from_weights r kind earlier (pairs r)) a.1 in
-      let c = first_none (lifting_fault kind r) (from_amounts r kind earlier (pairs r)) b.1 in
-      let d = first_none (first_some (map (types_fault true kind r) (pairs r))) (from_cites r earlier (pairs r)) c.1 in
-      record {
-        shifts = no_shift_fault;
-        types = λ p at. has_one_type false kind r p (none_each (types_fault false kind r) (pairs r) a.0 p at);
-        ranges = λ p at. has_each p 0 r.vars (none_each (ranges_fault r) (pairs r) b.0 p at);
-        lighter = lifts r kind c.0;
-        amounts = λ p at. has_one_type true kind r p (none_each (types_fault true kind r) (pairs r) d.0 p at);
-      }
-
-pub checked_of : (r : RuleParts) (kind : Kind) (earlier : List (Option CheckedParts)) → suits kind r ≡ true → first_fault r kind earlier ≡ None → Holds r → IsChecked (record { rule = r; kind = kind })
-checked_of r kind earlier suited h holds = record { suited = suited; sound = sound_of r kind earlier h; holds = holds }

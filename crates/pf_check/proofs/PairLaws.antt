@@ -15,15 +15,15 @@ use Rattle.pf_rules.specs.declared.rule.RuleParts.{RuleParts}
 use Rattle.pf_rules.specs.declared.rule.VarDecl.{VarDecl}
 use Rattle.pf_rules.specs.declared.shifts.Pair.{Pair}
 use Rattle.pf_rules.specs.Meaning.Sorts.{sorting}
-use Rattle.pf_rules.specs.Meaning.Sides.{form_at}
-use Rattle.pf_rules.specs.Meaning.Rules.{range_at}
+use Rattle.pf_rules.specs.Meaning.Sides.{form_at, PVal}
+use Rattle.pf_rules.specs.Meaning.Rules.{range_at, AreInside}
 use Rattle.pf_rules.proofs.SideLaws.{sided_of}
 use Rattle.pf_check.specs.declared.fault.RuleFault.{RuleFault}
 use Rattle.pf_check.specs.Meaning.Orders.{this_or, first_some, onward, fault_in}
 use Rattle.pf_check.specs.Meaning.Faults.{Fault, Tells}
 use Rattle.pf_check.specs.Meaning.Faults as fault
 use Rattle.pf_check.specs.Meaning.Checks.{at_pair, HasOneType, two_types, types_fault, ranged, with_range, ranges_from}
-use Rattle.pf_check.specs.Steps.Pairs.{onto, MakesRanges, HoldsAt, AllTyped}
+use Rattle.pf_check.specs.Steps.Pairs.{onto, MakesRanges, AllTyped}
 use Rattle.pf_check.proofs.StepLaws.{tells_none}
 
 -- ---- ranges
@@ -55,27 +55,52 @@ pub record AreRanges (p : Pair) (ds : List VarDecl) (rs : List Range) : Type 0 w
   pub alike : length rs ≡ length ds
   pub inside : (u : ℕ → ℤ) → ((n : ℕ) (d : VarDecl) (s : Range) → slice_get ds n ≡ Some d → range_at p.w p.k d ≡ Some s → Includes s (u n)) → AreIn rs u
 
-module _ (p : Pair) (n : ℕ) (d : VarDecl) (ds : List VarDecl) (rs : List Range) (later : (ts : List Range) → ranges_from p (n + 1) ds ≡ Ok ts → AreRanges p ds ts) where
-  ranges_rest : (s : Range) (o : Result (List Range) Fault) → range_at p.w p.k d ≡ Some s → ranges_from p (n + 1) ds ≡ o → with_range s o ≡ Ok rs → AreRanges p (d ∷ ds) rs
-  ranges_rest s (Err e) a b u = absurd (cc)
-  ranges_rest s (Ok ts) a b u =
-      let is : s ∷ ts ≡ rs = cc in
-      let rest = later ts b in
-      subst (AreRanges p (d ∷ ds)) is (record { alike = ap suc rest.alike; inside = λ v h m t e. each v h rest m t e })
-    where
-      each : (v : ℕ → ℤ) → ((m : ℕ) (c : VarDecl) (t : Range) → slice_get (d ∷ ds) m ≡ Some c → range_at p.w p.k c ≡ Some t → Includes t (v m)) → AreRanges p ds ts
-          → (m : ℕ) (t : Range) → slice_get (s ∷ ts) m ≡ Some t → Includes t (v m)
-      each v h rest zero t e = let is : s ≡ t = cc in subst (λ y. Includes y (v 0)) is (h 0 d s refl a)
-      each v h rest (suc m) t e = rest.inside (λ i. v (suc i)) (λ i c y g k. h (suc i) c y g k) m t e
+module _ (p : Pair) where
+  abbrev at_place : VarDecl → Option Range
+  at_place = range_at p.w p.k
 
-  ranges_first : (o : Option Range) → range_at p.w p.k d ≡ o → ranged p n o (ranges_from p (n + 1) ds) ≡ Ok rs → AreRanges p (d ∷ ds) rs
-  ranges_first None a u = absurd (cc)
-  ranges_first (Some s) a u = ranges_rest s (ranges_from p (n + 1) ds) a refl u
+  pub ranges_are : (n : ℕ) (ds : List VarDecl) (rs : List Range) → ranges_from p n ds ≡ Ok rs → map at_place ds ≡ map Some rs
+  ranges_are n [] [] e = refl
+  ranges_are n [] (r ∷ rs) e = absurd (cc)
+  ranges_are n (d ∷ ds) rs e = by_first (λ ts b. ranges_are (n + 1) ds ts b) (at_place d) (ranges_from p (n + 1) ds) refl refl e
+    where
+      by_first : ((ts : List Range) → ranges_from p (n + 1) ds ≡ Ok ts → map at_place ds ≡ map Some ts) → (o : Option Range) (q : Result (List Range) Fault) → at_place d ≡ o → ranges_from p (n + 1) ds ≡ q → ranged p n o q ≡ Ok rs → map at_place (d ∷ ds) ≡ map Some rs
+      by_first later None q a b u = absurd (cc)
+      by_first later (Some s) (Err x) a b u = absurd (cc)
+      by_first later (Some s) (Ok ts) a b u =
+          let is : s ∷ ts ≡ rs = cc in
+          ap (λ o. o ∷ map at_place ds) a ∙ ap (λ xs. Some s ∷ xs) (later ts b) ∙ ap (map Some) is
+
+  pub ranges_only : (n : ℕ) (ds : List VarDecl) (rs : List Range) → map at_place ds ≡ map Some rs → ranges_from p n ds ≡ Ok rs
+  ranges_only n [] [] e = refl
+  ranges_only n [] (r ∷ rs) e = absurd (cc)
+  ranges_only n (d ∷ ds) [] e = absurd (cc)
+  ranges_only n (d ∷ ds) (r ∷ rs) e =
+      let a : at_place d ≡ Some r = cc in
+      let b : map at_place ds ≡ map Some rs = cc in
+      ap (λ o. ranged p n o (ranges_from p (n + 1) ds)) a ∙ ap (with_range r) (ranges_only (n + 1) ds rs b)
+
+  pub has_range : (ds : List VarDecl) (rs : List Range) → map at_place ds ≡ map Some rs → (m : ℕ) (c : VarDecl) → slice_get ds m ≡ Some c → (t : Range) × (at_place c ≡ Some t)
+  has_range [] rs e m c f = absurd (cc)
+  has_range (d ∷ ds) [] e m c f = absurd (cc)
+  has_range (d ∷ ds) (r ∷ rs) e zero c f = (r, let a : at_place d ≡ Some r = cc in let is : d ≡ c = cc in subst (λ y. at_place y ≡ Some r) is a)
+  has_range (d ∷ ds) (r ∷ rs) e (suc m) c f = has_range ds rs (cc) m c f
+
+  of_ranges : (ds : List VarDecl) (rs : List Range) → map at_place ds ≡ map Some rs → AreRanges p ds rs
+  of_ranges [] [] e = record { alike = refl; inside = λ u h m t f. absurd (cc) }
+  of_ranges [] (r ∷ rs) e = absurd (cc)
+  of_ranges (d ∷ ds) [] e = absurd (cc)
+  of_ranges (d ∷ ds) (r ∷ rs) e =
+      let rest = of_ranges ds rs (cc) in
+      record { alike = ap suc rest.alike; inside = λ u h m t f. each rest u h m t f }
+    where
+      each : AreRanges p ds rs → (u : ℕ → ℤ) → ((m : ℕ) (c : VarDecl) (t : Range) → slice_get (d ∷ ds) m ≡ Some c → at_place c ≡ Some t → Includes t (u m))
+          → (m : ℕ) (t : Range) → slice_get (r ∷ rs) m ≡ Some t → Includes t (u m)
+      each rest u h zero t f = let is : r ≡ t = cc in subst (λ y. Includes y (u 0)) is (h 0 d r refl (cc))
+      each rest u h (suc m) t f = rest.inside (λ i. u (suc i)) (λ i c y g k. h (suc i) c y g k) m t f
 
 pub are_ranges : (p : Pair) (n : ℕ) (ds : List VarDecl) (rs : List Range) → ranges_from p n ds ≡ Ok rs → AreRanges p ds rs
-are_ranges p n [] [] e = record { alike = refl; inside = λ v h m t f. absurd (cc) }
-are_ranges p n [] (r ∷ rs) e = absurd (cc)
-are_ranges p n (d ∷ ds) rs e = ranges_first p n d ds rs (λ ts g. are_ranges p (n + 1) ds ts g) (range_at p.w p.k d) refl e
+are_ranges p n ds rs e = of_ranges p ds rs (ranges_are p n ds rs e)
 
 -- ---- types
 
@@ -120,7 +145,7 @@ pub sides_hold : (kind : Kind) (r : RuleParts) (p : Pair) (ranges : List Range) 
     → f ≡ form_at (at_pair r p) r.lhs
     → g ≡ form_at (at_pair r p) r.rhs
     → ((v : ℕ → ℤ) → AreIn ranges v → FVal v f ≡ FVal v g)
-    → HoldsAt r p
+    → (v : ℕ → ℤ) → AreInside (at_pair r p) v → PVal (at_pair r p) v r.lhs ≡ PVal (at_pair r p) v r.rhs
 sides_hold kind r p ranges f g typed is left right meet v inside =
     let at = at_pair r p in
     let l = sided_of at r.lhs (record { kind = kind; ty = typed.ty; sorted = typed.left }) in

@@ -1,5 +1,5 @@
 -- Steps keep the value, and the first fault of several.
-use Rattle.std.proofs.Common.{◌≡◌, refl, sym, ap, subst, ℕ, ℤ, ◌<◌, Some, None, List, [], ◌∷◌, length, IfSome, IfOk, OnOk, arith}
+use Rattle.std.proofs.Common.{◌≡◌, refl, sym, ap, subst, ℕ, ℤ, ◌<◌, Some, None, List, [], ◌∷◌, length, IfSome, IfOk, arith}
 use Rattle.std.specs.Prelude.{Option, Result, Ok, Err}
 use Rattle.pf_ints.specs.Meaning.Ranges.{Range}
 use Rattle.pf_forms.specs.declared.form.Form.{Form}
@@ -24,30 +24,17 @@ keeps_put ranges f g part new path is keeps formed form same = record {
   form = form (length ranges) formed keeps.form;
 }
 
-pub tells_first : (e : RuleFault) (o p : Option Fault) → Tells e o → Tells e (this_or o p)
-tells_first (told.Types left path) o p h = ap (λ x. this_or x p) h
-tells_first (told.Range var w k) o p h = ap (λ x. this_or x p) h
-tells_first (told.Heavier left right) o p h = ap (λ x. this_or x p) h
-tells_first (told.Repeats var) o p h = ap (λ x. this_or x p) h
-tells_first (told.Immediate left path amount) o p h = ap (λ x. this_or x p) h
-tells_first (told.Cites n) o p h = ap (λ x. this_or x p) h
-tells_first (told.TooLarge n w k count) o p h = ap (λ x. this_or x p) h
-tells_first (told.Step n w k fault) o p h = ap (λ x. this_or x p) h
-tells_first (told.Apart w k left right) o p h = ap (λ x. this_or x p) h
-tells_first told.Memory o p h = tt
-
 -- a fault other than want of memory is told of a fault alone
+pub told_none : (e : RuleFault) → Tells e None → e ≡ told.Memory
+told_none told.Memory h = refl
+told_none _ h = absurd (cc)
+
 pub tells_none : (e : RuleFault) (o : Option Fault) → Tells e None → Tells e o
-tells_none (told.Types left path) o h = absurd (cc)
-tells_none (told.Range var w k) o h = absurd (cc)
-tells_none (told.Heavier left right) o h = absurd (cc)
-tells_none (told.Repeats var) o h = absurd (cc)
-tells_none (told.Immediate left path amount) o h = absurd (cc)
-tells_none (told.Cites n) o h = absurd (cc)
-tells_none (told.TooLarge n w k count) o h = absurd (cc)
-tells_none (told.Step n w k fault) o h = absurd (cc)
-tells_none (told.Apart w k left right) o h = absurd (cc)
-tells_none told.Memory o h = tt
+tells_none e o h = subst (λ x. Tells x o) (sym (told_none e h)) tt
+
+pub tells_first : (e : RuleFault) (o p : Option Fault) → Tells e o → Tells e (this_or o p)
+tells_first e (Some x) p h = h
+tells_first e None p h = tells_none e p h
 
 told_by : (s : Setting) (n : ℕ) (f : Shape) (path : List ℕ) (r : Result Shape Fault) (e : RuleFault) → Tells e (fault_in r) → Tells e (fault_in (put_in s n f path r))
 told_by s n f path (Ok x) e h = tells_none e _ h
@@ -64,7 +51,3 @@ emptied (x ∷ xs) h = absurd (omega (arith, h))
 pub kept_sized : (ranges : List Range) (f h : Shape) (r : Result Form RuleFault) → IfOk r (λ g. shape g ≡ h) → KeepsValue ranges f h → IfOk r (λ g. KeepsValue ranges f (shape g))
 kept_sized ranges f h (Ok g) e k = subst (KeepsValue ranges f) (sym e) k
 kept_sized ranges f h (Err d) e k = tt
-
-pub if_ok : (P Q : Type 0) (r : Result (Unit {0}) RuleFault) → OnOk r P → (P → Q) → OnOk r Q
-if_ok P Q (Ok u) h f = f h
-if_ok P Q (Err e) h f = tt

@@ -1,4 +1,4 @@
-ghost use Rattle.std.specs.Prelude.{◌≡◌, ◌+◌, ◌<◌, ◌^◌, length, map, IfOk, OnOk, Ok, true};
+ghost use Rattle.std.specs.Prelude.{◌≡◌, ◌+◌, ◌<◌, ◌^◌, length, map, IfOk, Ok, true};
 ghost use Rattle.pf_forms.specs.Meaning.Shapes.{shape};
 ghost use Rattle.pf_forms.specs.Meaning.Values.{IsFormOver};
 ghost use Rattle.pf_rules.specs.Meaning.Sorts.{place};
@@ -10,7 +10,7 @@ ghost use Rattle.pf_check.specs.Meaning.Checks.{at_pair, ranges_from, ranges_fau
 ghost use Rattle.pf_check.specs.Meaning.Replays.{sized, replay_of};
 ghost use Rattle.pf_check.specs.Meaning.Accepts.{cites_fault, is_citable, replay_fault};
 ghost use Rattle.pf_check.specs.Steps.Answers.{here, Makes};
-ghost use Rattle.pf_check.specs.Steps.Pairs.{MakesRanges, onto, AllTyped, AllHold, HoldsAt, Lasts};
+ghost use Rattle.pf_check.specs.Steps.Pairs.{MakesRanges, onto, AllTyped, Lasts};
 
 use crate::checked::EarlierList;
 use crate::citing::Setting;
@@ -109,8 +109,7 @@ pub(crate) fn are_certified(
 ) -> Result<(), RuleFault>
     requires typed { AllTyped kind parts.now pairs.now }
     requires lasts { Lasts parts.now }
-    ensures value { Says result (first_some (map (replay_fault parts.now earlier.now) pairs.now)) }
-    ensures hold { OnOk result (AllHold parts.now pairs.now) }
+    ensures { Says result (first_some (map (replay_fault parts.now earlier.now) pairs.now)) }
 {
     match pairs {
         [] => Ok(()),
@@ -130,8 +129,7 @@ fn is_certified(
 ) -> Result<(), RuleFault>
     requires typed { HasOneType true kind parts.now pair }
     requires lasts { Lasts parts.now }
-    ensures value { Says result (replay_fault parts.now earlier.now pair) }
-    ensures holds { OnOk result (HoldsAt parts.now pair) }
+    ensures { Says result (replay_fault parts.now earlier.now pair) }
 {
     match ranges_at(alloc, pair, parts.vars.as_slice()) {
         Ok(ranges) => {
@@ -153,8 +151,7 @@ impl<'a> Setting<'a> {
         requires typed { HasOneType true kind parts.now (pair self.now.w self.now.k) }
         requires lasts { Lasts parts.now }
         requires ranges { ranges_from (pair self.now.w self.now.k) 0 parts.now.vars ≡ Ok self.now.ranges.now }
-        ensures value { Says result (replay_of (here self.now) parts.now.steps (form_at (at_pair parts.now (pair self.now.w self.now.k)) parts.now.lhs) (form_at (at_pair parts.now (pair self.now.w self.now.k)) parts.now.rhs)) }
-        ensures holds { OnOk result (HoldsAt parts.now (pair self.now.w self.now.k)) }
+        ensures { Says result (replay_of (here self.now) parts.now.steps (form_at (at_pair parts.now (pair self.now.w self.now.k)) parts.now.lhs) (form_at (at_pair parts.now (pair self.now.w self.now.k)) parts.now.rhs)) }
     {
         match self.side(alloc, &parts.lhs, &parts.vars) {
             Ok(left) => match self.side(alloc, &parts.rhs, &parts.vars) {

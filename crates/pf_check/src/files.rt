@@ -1,17 +1,21 @@
-ghost use Rattle.std.specs.Prelude.{◌≡◌, ◌++◌, None, Some, ℕ, map, length, slice_get, IfOk, IfErr, OnOk, [], true};
+ghost use Rattle.std.specs.Prelude.{◌≡◌, ◌++◌, None, Some, ℕ, map, length, slice_get, IfOk, IfErr, MatchResult, OnOk, [], true};
 ghost use Rattle.std.specs.Option.{option_copied};
 ghost use Rattle.pf_rules.specs.Meaning.Rules.{suits};
-ghost use Rattle.pf_check.specs.Meaning.Faults.{Tells};
+ghost use Rattle.pf_check.specs.Meaning.Faults.{Says};
 ghost use Rattle.pf_check.specs.Meaning.Accepts.{first_fault};
-ghost use Rattle.pf_check.specs.Meaning.Files.{AllSuit, known, rule_of, entry, first_refused, TellsRefused, AreOfKind};
+ghost use Rattle.pf_check.specs.Steps.Pairs.{Continues};
+ghost use Rattle.pf_check.specs.Meaning.Files.{AllAccepted, AllSuit, AreOutcomes, IsOutcome, known, rule_of, entry, first_refused, TellsRefused, AreOfKind};
 
 use crate::checked::{Checked, EarlierList};
 use crate::fault::RuleFault;
 use crate::judging::check_rule;
-use pf_ints::{Duplicate, Name};
+use pf_ints::{Duplicate, Name, Sequence};
 use pf_rules::{Kind, Rule, RuleFile};
-use std::alloc::Global;
+use std::alloc::{AllocError, Global};
 use std::marker::Model;
+
+/// What is said of the rules of a file, in order: None of an accepted one, or why it is refused.
+pub type OutcomeList = Sequence<Option<RuleFault>>;
 
 /// Checked rules, in order.
 #[derive(Drop)]
@@ -92,7 +96,8 @@ impl CheckedFile {
 pub fn check_file(alloc: Global, file: RuleFile) -> Result<CheckedFile, (Name, RuleFault)>
     ensures kind { IfOk result (λ f. f.kind ≡ file.kind) }
     ensures rules { IfOk result (λ f. f.rules ≡ map (rule_of file.kind) file.rules) }
-    ensures accepted { OnOk result (first_refused file.kind [] file.rules ≡ None) }
+    ensures accepted { OnOk result (AllAccepted file.kind [] file.rules) }
+    ensures only { AllAccepted file.kind [] file.rules → IfErr result (λ e. e.1 ≡ RuleFault.Memory) }
     ensures fault { IfErr result (λ e. TellsRefused e.0 e.1 (first_refused file.kind [] file.rules)) }
 {
     let parts = file.parts();
@@ -115,7 +120,8 @@ fn check_rules(
 ) -> Result<EarlierList, (Name, RuleFault)>
     requires { AllSuit kind rules.now }
     ensures ok { IfOk result (λ all. all ≡ earlier ++ map (entry kind) rules.now) }
-    ensures accepted { OnOk result (first_refused kind earlier rules.now ≡ None) }
+    ensures accepted { OnOk result (AllAccepted kind earlier rules.now) }
+    ensures only { AllAccepted kind earlier rules.now → IfErr result (λ e. e.1 ≡ RuleFault.Memory) }
     ensures fault { IfErr result (λ e. TellsRefused e.0 e.1 (first_refused kind earlier rules.now)) }
 {
     let mut earlier = earlier;
@@ -139,14 +145,64 @@ fn check_next(
 ) -> Result<Checked, RuleFault>
     requires { suits kind rule.now ≡ true }
     ensures ok { IfOk result (λ c. c ≡ rule_of kind rule.now) }
-    ensures accepted { OnOk result (first_fault rule.now kind earlier.now ≡ None) }
-    ensures fault { IfErr result (λ e. Tells e (first_fault rule.now kind earlier.now)) }
+    ensures outcome { MatchResult result (λ c. IsOutcome kind earlier.now rule.now None) (λ e. (e ≡ RuleFault.Memory → ⊥) → IsOutcome kind earlier.now rule.now (Some e)) }
+    ensures fault { Says result (first_fault rule.now kind earlier.now) }
 {
     match rule.copy(alloc) {
         Ok(copied) => match check_rule(alloc, copied, kind, earlier) {
-            Ok(checked) => Ok(checked),
+            Ok(checked) => {
+                let _rule = checked.rule();
+                Ok(checked)
+            }
             Err((_, fault)) => Err(fault),
         },
         Err(_) => Err(RuleFault::Memory),
+    }
+}
+
+/// What is said of each rule of a file, in order: None of one that is accepted with the checked rules
+/// before it, and of another why it is refused.
+pub fn judge_file(alloc: Global, file: &RuleFile) -> Result<OutcomeList, AllocError>
+    ensures { IfOk result (λ os. AreOutcomes file.now.kind [] file.now.rules os) }
+{
+    let parts = file.parts();
+    let rules = parts.rules.as_slice();
+    judge_rules(
+        alloc,
+        parts.kind,
+        rules,
+        EarlierList::new(alloc),
+        Sequence::new(alloc),
+    )
+}
+
+/// What was said of the earlier rules, and after it what is said of these.
+fn judge_rules(
+    alloc: Global,
+    kind: Kind,
+    rules: &[Rule],
+    earlier: EarlierList,
+    outcomes: OutcomeList,
+) -> Result<OutcomeList, AllocError>
+    requires { AllSuit kind rules.now }
+    ensures { IfOk result (Continues kind earlier rules.now outcomes) }
+{
+    let mut earlier = earlier;
+    let mut outcomes = outcomes;
+    match rules {
+        [] => Ok(outcomes),
+        [rule, rest @ ..] => match check_next(alloc, kind, rule, &earlier) {
+            Ok(checked) => {
+                earlier.push(Some(checked))?;
+                outcomes.push(None)?;
+                judge_rules(alloc, kind, rest, earlier, outcomes)
+            }
+            Err(RuleFault::Memory) => Err(AllocError),
+            Err(fault) => {
+                earlier.push(None)?;
+                outcomes.push(Some(fault))?;
+                judge_rules(alloc, kind, rest, earlier, outcomes)
+            }
+        },
     }
 }

@@ -1,8 +1,8 @@
-ghost use Rattle.std.specs.Prelude.{◌≡◌, None, OnOk, true, IfOk, IfErr};
-ghost use Rattle.pf_rules.specs.Meaning.Rules.{suits, Holds};
-ghost use Rattle.pf_check.specs.Meaning.Faults.{Says, Tells};
-ghost use Rattle.pf_check.specs.Meaning.Accepts.{first_fault};
-ghost use Rattle.pf_check.specs.Steps.Pairs.{from_types, from_ranges, from_weights, from_amounts, from_cites, AllHold, AllTyped, Lasts};
+ghost use Rattle.std.specs.Prelude.{◌≡◌, length, None, OnOk, true, IfOk, IfErr, MatchResult};
+ghost use Rattle.pf_rules.specs.Meaning.Rules.{suits};
+ghost use Rattle.pf_check.specs.Meaning.Faults.{IsFaultOver, Says, Tells};
+ghost use Rattle.pf_check.specs.Meaning.Accepts.{Accepted, first_fault};
+ghost use Rattle.pf_check.specs.Steps.Pairs.{from_types, from_ranges, from_weights, from_amounts, from_cites, AllChecked, AllTyped, Lasts};
 
 use crate::certifying::{are_certified, are_citable, have_ranges};
 use crate::checked::{Checked, EarlierList};
@@ -25,19 +25,36 @@ pub fn check_rule(
     requires { suits kind rule ≡ true }
     ensures rule { IfOk result (λ c. c.rule ≡ rule) }
     ensures kind { IfOk result (λ c. c.kind ≡ kind) }
-    ensures accepted { OnOk result (first_fault rule kind earlier.now ≡ None) }
+    ensures accepted { OnOk result (Accepted rule kind earlier.now) }
+    ensures only { Accepted rule kind earlier.now → IfErr result (λ e. e.1 ≡ RuleFault.Memory) }
     ensures back { IfErr result (λ e. e.0 ≡ rule) }
-    ensures fault { IfErr result (λ e. Tells e.1 (first_fault rule kind earlier.now)) }
+    ensures fault { MatchResult result (λ _. first_fault rule kind earlier.now ≡ None) (λ e. Tells e.1 (first_fault rule kind earlier.now)) }
+    ensures over { IfErr result (λ e. IsFaultOver (length rule.vars) e.1) }
 {
+    are_checked(earlier.as_slice());
     match judge(alloc, &rule, kind, earlier) {
         Ok(()) => Ok(Checked::new(rule, kind)),
         Err(fault) => Err((rule, fault)),
     }
 }
 
+/// The earlier rules are checked ones.
+fn are_checked(earlier: &[Option<Checked>])
+    ensures { AllChecked earlier.now }
+{
+    match earlier {
+        [] => {}
+        [entry, rest @ ..] => {
+            if let Some(checked) = entry {
+                let _rule = checked.rule();
+            }
+            are_checked(rest);
+        }
+    }
+}
+
 fn judge(alloc: Global, rule: &Rule, kind: Kind, earlier: &EarlierList) -> Result<(), RuleFault>
-    ensures value { Says result (first_fault rule.now kind earlier.now) }
-    ensures holds { OnOk result (Holds rule.now) }
+    ensures { Says result (first_fault rule.now kind earlier.now) }
 {
     match pairs(alloc, rule) {
         Ok(all) => judge_types(alloc, rule.parts(), kind, earlier, all.as_slice()),
@@ -55,8 +72,7 @@ fn judge_types(
     pairs: &[Pair],
 ) -> Result<(), RuleFault>
     requires { Lasts parts.now }
-    ensures value { Says result (from_types parts.now kind earlier.now pairs.now) }
-    ensures hold { OnOk result (AllHold parts.now pairs.now) }
+    ensures { Says result (from_types parts.now kind earlier.now pairs.now) }
 {
     have_types(alloc, false, kind, parts, pairs)?;
     judge_ranges(alloc, parts, kind, earlier, pairs)
@@ -70,8 +86,7 @@ fn judge_ranges(
     pairs: &[Pair],
 ) -> Result<(), RuleFault>
     requires { Lasts parts.now }
-    ensures value { Says result (from_ranges parts.now kind earlier.now pairs.now) }
-    ensures hold { OnOk result (AllHold parts.now pairs.now) }
+    ensures { Says result (from_ranges parts.now kind earlier.now pairs.now) }
 {
     have_ranges(alloc, parts, pairs)?;
     judge_weights(alloc, parts, kind, earlier, pairs)
@@ -85,8 +100,7 @@ fn judge_weights(
     pairs: &[Pair],
 ) -> Result<(), RuleFault>
     requires { Lasts parts.now }
-    ensures value { Says result (from_weights parts.now kind earlier.now pairs.now) }
-    ensures hold { OnOk result (AllHold parts.now pairs.now) }
+    ensures { Says result (from_weights parts.now kind earlier.now pairs.now) }
 {
     lifts_lighter(kind, parts)?;
     judge_amounts(alloc, parts, kind, earlier, pairs)
@@ -100,8 +114,7 @@ fn judge_amounts(
     pairs: &[Pair],
 ) -> Result<(), RuleFault>
     requires { Lasts parts.now }
-    ensures value { Says result (from_amounts parts.now kind earlier.now pairs.now) }
-    ensures hold { OnOk result (AllHold parts.now pairs.now) }
+    ensures { Says result (from_amounts parts.now kind earlier.now pairs.now) }
 {
     have_types(alloc, true, kind, parts, pairs)?;
     judge_steps(alloc, parts, kind, earlier, pairs)
@@ -116,8 +129,7 @@ fn judge_steps(
 ) -> Result<(), RuleFault>
     requires lasts { Lasts parts.now }
     requires typed { AllTyped kind parts.now pairs.now }
-    ensures value { Says result (from_cites parts.now earlier.now pairs.now) }
-    ensures hold { OnOk result (AllHold parts.now pairs.now) }
+    ensures { Says result (from_cites parts.now earlier.now pairs.now) }
 {
     are_citable(earlier, 1, parts.steps.as_slice())?;
     are_certified(alloc, kind, parts, earlier, pairs)

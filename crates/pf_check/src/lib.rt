@@ -14,5 +14,5 @@ mod sides;
 
 pub use checked::{Checked, CheckedParts, EarlierList};
 pub use fault::RuleFault;
-pub use files::{CheckedFile, CheckedList, check_file};
+pub use files::{CheckedFile, CheckedList, OutcomeList, check_file, judge_file};
 pub use judging::check_rule;

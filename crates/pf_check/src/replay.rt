@@ -1,6 +1,6 @@
-ghost use Rattle.std.specs.Prelude.{◌≡◌, ◌+◌, ◌<◌, ◌^◌, ℕ, ℤ, [], length, IfOk, OnOk};
+ghost use Rattle.std.specs.Prelude.{◌≡◌, ◌+◌, ◌<◌, ◌^◌, ℕ, [], length, IfOk};
 ghost use Rattle.pf_forms.specs.Meaning.Shapes.{shape};
-ghost use Rattle.pf_forms.specs.Meaning.Values.{FVal, AreIn, IsFormOver};
+ghost use Rattle.pf_forms.specs.Meaning.Values.{IsFormOver};
 ghost use Rattle.pf_axioms.specs.Meaning.AxiomSteps.{KeepsValue};
 ghost use Rattle.pf_check.specs.Meaning.Faults.{Says};
 ghost use Rattle.pf_check.specs.Meaning.Replays.{told, stepped, taken, sized, replayed};
@@ -30,8 +30,7 @@ impl<'a> Setting<'a> {
         requires count { n + length steps.now < 2 ^ 32 }
         requires left { IsFormOver (length self.now.ranges.now) (shape left) }
         requires right { IsFormOver (length self.now.ranges.now) (shape right) }
-        ensures value { Says result (replayed (here self.now) n steps.now (shape left) (shape right)) }
-        ensures meet { OnOk result ((v : ℕ → ℤ) → AreIn self.now.ranges.now v → FVal v (shape left) ≡ FVal v (shape right)) }
+        ensures { Says result (replayed (here self.now) n steps.now (shape left) (shape right)) }
     {
         match steps {
             [] => self.compare(left, right),
@@ -48,8 +47,7 @@ impl<'a> Setting<'a> {
     }
 
     fn compare(&self, left: Form, right: Form) -> Result<(), RuleFault>
-        ensures value { (n : ℕ) → Says result (replayed (here self.now) n [] (shape left) (shape right)) }
-        ensures same { OnOk result (shape left ≡ shape right) }
+        ensures { (n : ℕ) → Says result (replayed (here self.now) n [] (shape left) (shape right)) }
     {
         if equal(&left, &right) {
             Ok(())

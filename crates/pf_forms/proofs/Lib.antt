@@ -1,4 +1,4 @@
 mod AxiomPlaces
 pub mod BoundLaws
 pub mod EqualityLaws
-mod PartLaws
+pub mod PartLaws

@@ -75,7 +75,7 @@ module _ (count : ℕ) where
   with_form (Wrap t x) w z i e h k = k
   with_form (Sat t x) w z i e h k = k
 
-  part_is_form : (f p : Shape) (path : List ℕ) → part_at f path ≡ Some p → IsFormOver count f → IsFormOver count p
+  pub part_is_form : (f p : Shape) (path : List ℕ) → part_at f path ≡ Some p → IsFormOver count f → IsFormOver count p
   part_is_form f p [] e h = let same : f ≡ p = cc in subst (IsFormOver count) same h
   part_is_form f p (i ∷ path) e h = by_child (child f i) (λ x. part_is_form x p path) refl e
     where

@@ -1,6 +1,7 @@
 -- Why a rule is refused, with its forms as trees.
 use Rattle.std.specs.Prelude.{◌≡◌, ℕ, ℤ, Bool, List, Option, Some, None, Result, Ok, Err}
 use Rattle.pf_forms.specs.Meaning.Shapes.{Shape, shape}
+use Rattle.pf_forms.specs.Meaning.Values.{IsFormOver}
 use Rattle.pf_axioms.specs.declared.fault.StepFault.{StepFault}
 use Rattle.pf_check.specs.declared.fault.RuleFault.{RuleFault}
 use Rattle.pf_check.specs.declared.fault.RuleFault.TheVariants as told
@@ -33,3 +34,8 @@ Tells told.Memory o = Unit {0}
 abbrev pub Says : {A : Type 0} → Result A RuleFault → Option Fault → Type 0
 Says (Ok x) o = o ≡ None
 Says (Err e) o = Tells e o
+
+-- the forms that are told are forms over so many variables
+abbrev pub IsFaultOver : ℕ → RuleFault → Type 0
+IsFaultOver count (told.Apart w k left right) = IsFormOver count (shape left) × IsFormOver count (shape right)
+IsFaultOver count _ = Unit {0}

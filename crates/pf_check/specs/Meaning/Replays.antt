@@ -42,10 +42,10 @@ pub record Takes (s : Setting) (t : Step) (f g : Shape) : Type 0 where
   pub is_put : g ≡ put_at f t.path new
   pub small : form_node_count g ≤ most_nodes
 
-abbrev Then : (Shape → Type 0) → (Shape → Type 0) → Type 0
+abbrev pub Then : (Shape → Type 0) → (Shape → Type 0) → Type 0
 Then P Q = (h : Shape) × P h × Q h
 
-abbrev OnSide : Bool → (Shape → Shape → Type 0) → (Shape → Shape → Type 0) → Shape → Shape → Type 0
+abbrev pub OnSide : Bool → (Shape → Shape → Type 0) → (Shape → Shape → Type 0) → Shape → Shape → Type 0
 OnSide true takes rest f g = Then (takes f) (λ h. rest h g)
 OnSide false takes rest f g = Then (takes g) (λ h. rest f h)
 

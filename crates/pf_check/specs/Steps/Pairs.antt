@@ -1,17 +1,18 @@
 -- What is kept over widths and shifts.
-use Rattle.std.specs.Prelude.{◌≡◌, ℕ, ℤ, ◌<◌, ◌++◌, true, false, List, [], ◌∷◌, length, Result, Ok, Err, Option, map}
+use Rattle.std.specs.Prelude.{◌≡◌, ℕ, ◌<◌, ◌++◌, true, false, List, [], ◌∷◌, length, Result, Ok, Err, Option, Some, None, IfSome, map}
 use Rattle.pf_ints.specs.Meaning.Ranges.{Range}
+use Rattle.pf_forms.specs.Meaning.Values.{IsFormOver}
 use Rattle.pf_rules.specs.declared.rule.Kind.{Kind}
 use Rattle.pf_rules.specs.declared.rule.RuleParts.{RuleParts}
 use Rattle.pf_rules.specs.declared.shifts.Pair.{Pair}
-use Rattle.pf_rules.specs.Meaning.Sides.{PVal}
-use Rattle.pf_rules.specs.Meaning.Rules.{AreInside}
 use Rattle.pf_check.specs.declared.fault.RuleFault.{RuleFault}
 use Rattle.pf_check.specs.declared.checked.CheckedParts.{CheckedParts}
 use Rattle.pf_check.specs.Meaning.Orders.{this_or, first_some, fault_in}
 use Rattle.pf_check.specs.Meaning.Faults.{Fault, Tells}
-use Rattle.pf_check.specs.Meaning.Checks.{at_pair, HasOneType, types_fault, ranges_fault, lifting_fault}
+use Rattle.pf_check.specs.Meaning.Faults as fault
+use Rattle.pf_check.specs.Meaning.Checks.{HasOneType, IsChecked, types_fault, ranges_fault, lifting_fault}
 use Rattle.pf_check.specs.Meaning.Accepts.{cites_fault, replay_fault}
+use Rattle.pf_check.specs.Meaning.Files.{AreOutcomes}
 
 -- the call makes these ranges, or tells the fault
 abbrev pub MakesRanges : Result (List Range) RuleFault → Result (List Range) Fault → Type 0
@@ -23,16 +24,15 @@ abbrev pub onto : List Range → Result (List Range) Fault → Result (List Rang
 onto xs (Ok rs) = Ok (xs ++ rs)
 onto xs (Err e) = Err e
 
-abbrev pub HoldsAt : RuleParts → Pair → Type 0
-HoldsAt r p = (v : ℕ → ℤ) → AreInside (at_pair r p) v → PVal (at_pair r p) v r.lhs ≡ PVal (at_pair r p) v r.rhs
-
 abbrev pub AllTyped : Kind → RuleParts → List Pair → Type 0
 AllTyped kind r [] = Unit {0}
 AllTyped kind r (p ∷ ps) = HasOneType true kind r p × AllTyped kind r ps
 
-abbrev pub AllHold : RuleParts → List Pair → Type 0
-AllHold r [] = Unit {0}
-AllHold r (p ∷ ps) = HoldsAt r p × AllHold r ps
+-- each earlier rule that is there keeps what a checked one keeps
+abbrev pub AllChecked : List (Option CheckedParts) → Type 0
+AllChecked [] = Unit {0}
+AllChecked (None ∷ es) = AllChecked es
+AllChecked (Some c ∷ es) = IsChecked c × AllChecked es
 
 -- variables and steps can be counted
 pub record Lasts (r : RuleParts) : Type 0 where
@@ -57,3 +57,15 @@ from_ranges r kind earlier ps = this_or (first_some (map (ranges_fault r) ps)) (
 
 abbrev pub from_types : RuleParts → Kind → List (Option CheckedParts) → List Pair → Option Fault
 from_types r kind earlier ps = this_or (first_some (map (types_fault false kind r) ps)) (from_ranges r kind earlier ps)
+
+-- a fault whose forms are forms over so many variables, if there is one
+abbrev pub IsOver : ℕ → Fault → Type 0
+IsOver count (fault.Apart w k left right) = IsFormOver count left × IsFormOver count right
+IsOver count _ = Unit {0}
+
+abbrev pub IfOver : ℕ → Option Fault → Type 0
+IfOver count o = IfSome o (IsOver count)
+
+-- what was said of the earlier rules, and behind it what is said of these
+abbrev pub Continues : Kind → List (Option CheckedParts) → List RuleParts → List (Option RuleFault) → List (Option RuleFault) → Type 0
+Continues kind earlier rs before all = (os : List (Option RuleFault)) × (all ≡ before ++ os) × AreOutcomes kind earlier rs os
