@@ -3,4 +3,13 @@ pub mod SumLaws
 pub mod ChainLaws
 pub mod NameLaws
 pub mod Comments
+pub mod Fronts
+pub mod Numbers
+pub mod SidesSound
+pub mod SidesComplete
+pub mod Fields
+pub mod PartLaws
+pub mod LineLaws
+pub mod LineSays
 pub mod WriteLaws
+pub mod FileLaws

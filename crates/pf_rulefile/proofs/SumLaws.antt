@@ -1,5 +1,5 @@
 -- Sums that are read part by part.
-use Rattle.std.proofs.Common.{◌≡◌, refl, sym, ap, ◌∙◌, ℕ, zero, suc, ◌-◌, ◌<◌, ◌≤◌, List, [], ◌∷◌, ◌++◌, Bool, arith, append_assoc}
+use Rattle.std.proofs.Common.{◌≡◌, refl, sym, ap, ◌∙◌, ℕ, zero, suc, ◌-◌, ◌<◌, List, [], ◌∷◌, ◌++◌, Bool, arith, append_assoc}
 use Rattle.std.specs.Prelude.{Option, Some, None, option_map}
 use Rattle.pf_rulefile.specs.Steps.NumberReads.{sum_read}
 
@@ -16,14 +16,6 @@ one_more xs a None = refl
 one_more xs a (Some p) = ap (λ us. Some (us, p.1)) (sym (append_assoc xs (a ∷ []) p.0))
 
 module _ (A : Type 0) (sign : List (List ℕ) → Option (Bool × List (List ℕ))) (part : Bool → List (List ℕ) → Option (A × List (List ℕ))) (xs : List A) (minus : Bool) (ts : List (List ℕ)) where
-  pub sum_none : (most : ℕ) → part minus ts ≡ None → behind_parts xs (sum_read sign part most minus ts) ≡ None
-  sum_none zero e = refl
-  sum_none (suc most) e = rw e refl
-
-  pub sum_out : (most : ℕ) → most ≤ 0 → behind_parts xs (sum_read sign part most minus ts) ≡ None
-  sum_out zero h = refl
-  sum_out (suc most) h = absurd (omega arith)
-
   module _ (a : A) (us : List (List ℕ)) (e : part minus ts ≡ Some (a, us)) where
     pub sum_end : (most : ℕ) → 0 < most → sign us ≡ None → behind_parts xs (sum_read sign part most minus ts) ≡ Some (xs ++ a ∷ [], us)
     sum_end zero h f = absurd (omega arith)

@@ -1,3 +1,7 @@
 pub mod Tokens
 pub mod Words
+pub mod Grammar
+pub mod Lines
+pub mod Says
 pub mod RuleTexts
+pub mod RuleFiles

@@ -1,9 +1,11 @@
 ghost use Rattle.std.specs.Prelude.{◌≡◌, ◌≤◌, length, IfOk, MatchOption, None, Some, false};
 ghost use Rattle.pf_rulefile.specs.Meaning.Tokens.{tokens};
 ghost use Rattle.pf_rulefile.specs.Meaning.Words.{is_word};
-ghost use Rattle.pf_rulefile.specs.Steps.Fronts.{after};
+ghost use Rattle.pf_rulefile.specs.Steps.Fronts.{after, sign_by};
+ghost use Rattle.pf_rulefile.specs.Meaning.Lines.{slash_sign, side_word, kind_of, format_of};
+ghost use Rattle.pf_rulefile.specs.Meaning.Says.{axiom_in, axioms, rule_place};
 ghost use Rattle.pf_rulefile.specs.Steps.NumberReads.{Gives};
-ghost use Rattle.pf_rulefile.specs.Steps.FieldReads.{GivesOnly, name_of, no_more, lone_name, optional, widths_of, widths_read, range_read, shift_read, var_head, var_read, child_read, children_read, path_read, axiom_in, axioms, axiom_by, rule_place, used_by, by_read, side_word, kind_of, format_of, header_of, slash, step_side};
+ghost use Rattle.pf_rulefile.specs.Steps.FieldReads.{GivesOnly, name_of, no_more, lone_name, optional, widths_of, widths_read, range_read, shift_read, var_head, var_read, child_read, children_read, path_read, axiom_by, used_by, by_read, header_of, step_side};
 
 use crate::number::number;
 use crate::side::behind;
@@ -91,9 +93,9 @@ fn range(alloc: Global, most: usize, text: &[u8]) -> Result<((Number, Number), &
     ensures { Gives result (range_read most (tokens text.now)) }
 {
     let rest = behind(b"from", text)?;
-    let (lo, rest) = number(alloc, most, rest)?;
+    let (lo, rest) = number(alloc, most, 1, rest)?;
     let rest = behind(b"to", rest)?;
-    let (hi, rest) = number(alloc, most, rest)?;
+    let (hi, rest) = number(alloc, most, 1, rest)?;
     Ok(((lo, hi), rest))
 }
 
@@ -160,7 +162,7 @@ fn child(text: &[u8]) -> Option<(u8, &[u8])>
 
 /// What follows `/`.
 fn slash(text: &[u8]) -> Option<&[u8]>
-    ensures { MatchOption result (slash (tokens text.now) ≡ None) (λ rest. slash (tokens text.now) ≡ Some (false, tokens rest.now)) }
+    ensures { MatchOption result (sign_by slash_sign (tokens text.now) ≡ None) (λ rest. sign_by slash_sign (tokens text.now) ≡ Some (false, tokens rest.now)) }
 {
     after(b"/", text)
 }

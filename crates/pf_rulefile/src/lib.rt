@@ -3,7 +3,6 @@
 
 mod fault;
 mod field;
-mod lane;
 mod line;
 mod number;
 mod part;

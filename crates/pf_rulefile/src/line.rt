@@ -3,16 +3,16 @@ ghost use Rattle.pf_rules.specs.Meaning.Rules.{is_free_shift};
 ghost use Rattle.pf_rulefile.specs.Meaning.Tokens.{tokens};
 ghost use Rattle.pf_rulefile.specs.Steps.NumberReads.{Gives};
 ghost use Rattle.pf_rulefile.specs.Steps.FieldReads.{GivesOnly};
-ghost use Rattle.pf_rulefile.specs.Steps.LineReads.{GivesLine, shallow_from, depth_limit, left_read, lane_side, right_read, all_used, kept, may_shift, may_var, widths_line, shift_line, added_var, var_line, added_left, left_line, added_right, right_line, step_place, added_step, step_line};
+ghost use Rattle.pf_rulefile.specs.Steps.LineReads.{GivesLine, depth_limit, whole_side, all_used, kept, widths_line, shift_line, var_line, left_part, left_line, right_part, right_line, step_place, step_line};
+ghost use Rattle.pf_rulefile.specs.Meaning.Says.{may_shift, may_var, added_var, added_step};
 ghost use Rattle.pf_rulefile.specs.declared.fault.LineStop.TheVariants.{Told};
 
 use crate::fault::{LineStop, RuleTextKind};
 use crate::field::{by, no_more, path, shift, step_side, var, widths};
-use crate::lane::lane;
 use crate::part::{Part, place_in};
 use crate::side::side;
 use crate::stop::Stop;
-use crate::token::next_token;
+use crate::word::{Language, language_of};
 use pf_ints::{Name, NumberList, Path};
 use pf_rules::{Kind, Number, Pattern, Patterns, Rule, Step, StepList, VarDecl, VarList, is_free};
 use std::alloc::Global;
@@ -41,26 +41,6 @@ pub fn told(kind: RuleTextKind) -> LineStop
     LineStop::Told(kind)
 }
 
-/// Whether round brackets are nested at most as deep as they may be.
-fn is_shallow(text: &[u8]) -> bool
-    ensures { result ≡ shallow_from 0 (tokens text.now) }
-{
-    let mut rest = text;
-    let mut depth: u32 = 0;
-    'tokens: while let Some((word, onward)) = next_token(rest) {
-        if word == b"(".as_slice() {
-            if MOST_BRACKETS <= depth {
-                return false;
-            }
-            depth += 1;
-        } else if word == b")".as_slice() {
-            depth = depth.saturating_sub(1);
-        }
-        rest = onward;
-    }
-    true
-}
-
 /// Less deep than this round brackets of sides are nested.
 #[tactic(auto, unfolding(crate::specs::Steps::LineReads::depth_limit))]
 fn depth_limit() -> u32
@@ -69,49 +49,21 @@ fn depth_limit() -> u32
     MOST_BRACKETS + 1
 }
 
-fn left_side(alloc: Global, vars: &[VarDecl], most: usize, text: &[u8]) -> Result<Part, Stop>
-    requires { length vars.now ≤ 8 }
-    ensures { GivesOnly result (left_read most vars.now (tokens text.now)) }
-{
-    if !is_shallow(text) {
-        return Err(Stop::Syntax);
-    }
-    let (part, rest) = side(alloc, vars, most, depth_limit(), text)?;
-    if no_more(rest) {
-        Ok(part)
-    } else {
-        Err(Stop::Syntax)
-    }
-}
-
-fn lane_side(alloc: Global, vars: &[VarDecl], most: usize, text: &[u8]) -> Result<Part, Stop>
-    requires { length vars.now ≤ 8 }
-    ensures { GivesOnly result (lane_side most vars.now (tokens text.now)) }
-{
-    if !is_shallow(text) {
-        return Err(Stop::Syntax);
-    }
-    let (part, rest) = lane(alloc, vars, most, depth_limit(), text)?;
-    if no_more(rest) {
-        Ok(part)
-    } else {
-        Err(Stop::Syntax)
-    }
-}
-
-fn right_side(
+fn whole_side(
     alloc: Global,
-    kind: Kind,
     vars: &[VarDecl],
+    language: Language,
     most: usize,
     text: &[u8],
 ) -> Result<Part, Stop>
     requires { length vars.now ≤ 8 }
-    ensures { GivesOnly result (right_read kind most vars.now (tokens text.now)) }
+    ensures { GivesOnly result (whole_side language most vars.now (tokens text.now)) }
 {
-    match kind {
-        Kind::Lift => left_side(alloc, vars, most, text),
-        Kind::Lower(_) => lane_side(alloc, vars, most, text),
+    let (part, rest) = side(alloc, vars, most, language, depth_limit(), text)?;
+    if no_more(rest) {
+        Ok(part)
+    } else {
+        Err(Stop::Syntax)
     }
 }
 
@@ -223,7 +175,7 @@ pub fn var_line(alloc: Global, most: usize, rule: Open, text: &[u8]) -> Result<O
 
 fn add_left(rule: Open, part: Part) -> Result<Open, LineStop>
     requires { length rule.vars ≤ 8 }
-    ensures value { GivesLine result (added_left rule part) }
+    ensures value { GivesLine result (left_part rule part) }
     ensures few { IfOk result (λ o. length o.vars ≤ 8) }
 {
     if part.bare || part.has_k != rule.shift.is_some() {
@@ -254,13 +206,13 @@ pub fn left_line(alloc: Global, most: usize, rule: Open, text: &[u8]) -> Result<
     if !may_var(&rule) {
         return Err(told(RuleTextKind::Syntax));
     }
-    let part = left_side(alloc, rule.vars.as_slice(), most, text)?;
+    let part = whole_side(alloc, rule.vars.as_slice(), Language::Operators, most, text)?;
     add_left(rule, part)
 }
 
 fn add_right(rule: Open, part: Part) -> Result<Open, LineStop>
     requires { length rule.vars ≤ 8 }
-    ensures value { GivesLine result (added_right rule part) }
+    ensures value { GivesLine result (right_part rule part) }
     ensures few { IfOk result (λ o. length o.vars ≤ 8) }
 {
     if part.has_k && rule.shift.is_none() {
@@ -294,7 +246,7 @@ pub fn right_line(
     if rule.lhs.is_none() || rule.rhs.is_some() {
         return Err(told(RuleTextKind::Syntax));
     }
-    let part = right_side(alloc, kind, rule.vars.as_slice(), most, text)?;
+    let part = whole_side(alloc, rule.vars.as_slice(), language_of(kind), most, text)?;
     add_right(rule, part)
 }
 

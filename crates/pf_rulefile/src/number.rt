@@ -1,7 +1,8 @@
 ghost use Rattle.std.specs.Prelude.{◌≡◌, MatchOption, None, Some, true, false, codes};
 ghost use Rattle.pf_rulefile.specs.Meaning.Tokens.{tokens};
-ghost use Rattle.pf_rulefile.specs.Steps.Fronts.{after, signed_by};
-ghost use Rattle.pf_rulefile.specs.Steps.NumberReads.{Gives, unit_of, lin_read, unit_read, first_sign, signed_read, plain_amount, linear_read, exponent_read, power_read, item_read, number_read, plain_item, behind_base, behind_times, plain_part};
+ghost use Rattle.pf_rulefile.specs.Steps.Fronts.{after, sign_by};
+ghost use Rattle.pf_rulefile.specs.Meaning.Grammar.{sum_sign, unit_of, plain_amount, plain_item};
+ghost use Rattle.pf_rulefile.specs.Steps.NumberReads.{Gives, lin_read, unit_read, first_sign, signed_read, linear_read, linear_at, exponent_read, power_read, item_read, number_read, behind_base, behind_times, plain_part};
 
 use crate::stop::Stop;
 use crate::token::{after, int_of, next_token};
@@ -11,7 +12,7 @@ use std::alloc::Global;
 
 /// The sign between two parts of a sum, whether it takes the next one away, and what follows it.
 fn sign(text: &[u8]) -> Option<(bool, &[u8])>
-    ensures { MatchOption result (signed_by (tokens text.now) ≡ None) (λ p. signed_by (tokens text.now) ≡ Some (p.0, tokens p.1.now)) }
+    ensures { MatchOption result (sign_by sum_sign (tokens text.now) ≡ None) (λ p. sign_by sum_sign (tokens text.now) ≡ Some (p.0, tokens p.1.now)) }
 {
     let (word, rest) = next_token(text)?;
     if word == b"+".as_slice() {
@@ -119,12 +120,27 @@ fn plain_amount(word: &[u8]) -> Option<Amount>
     Some(Amount::Int(n))
 }
 
-/// An amount or an exponent, and what follows it.
-pub fn exponent(alloc: Global, most: usize, text: &[u8]) -> Result<(Amount, &[u8]), Stop>
-    ensures { Gives result (exponent_read most (tokens text.now)) }
+fn linear_at(alloc: Global, most: usize, depth: u32, text: &[u8]) -> Result<(Amount, &[u8]), Stop>
+    ensures { Gives result (linear_at most depth (tokens text.now)) }
+{
+    if depth == 0 {
+        Err(Stop::Syntax)
+    } else {
+        linear(alloc, most, text)
+    }
+}
+
+/// An amount or an exponent with round brackets at most so deep, and what follows it.
+pub fn exponent(
+    alloc: Global,
+    most: usize,
+    depth: u32,
+    text: &[u8],
+) -> Result<(Amount, &[u8]), Stop>
+    ensures { Gives result (exponent_read most depth (tokens text.now)) }
 {
     match next_token(text) {
-        Some((word, rest)) if word == b"(".as_slice() => linear(alloc, most, rest),
+        Some((word, rest)) if word == b"(".as_slice() => linear_at(alloc, most, depth, rest),
         Some((word, rest)) => match plain_amount(word) {
             Some(amount) => Ok((amount, rest)),
             None => Err(Stop::Syntax),
@@ -136,13 +152,14 @@ pub fn exponent(alloc: Global, most: usize, text: &[u8]) -> Result<(Amount, &[u8
 fn power(
     alloc: Global,
     most: usize,
+    depth: u32,
     minus: bool,
     times: i64,
     text: &[u8],
 ) -> Result<(NumberPart, &[u8]), Stop>
-    ensures { Gives result (power_read most minus times (tokens text.now)) }
+    ensures { Gives result (power_read most depth minus times (tokens text.now)) }
 {
-    let (exponent, rest) = exponent(alloc, most, text)?;
+    let (exponent, rest) = exponent(alloc, most, depth, text)?;
     let item = NumberItem::Power { times, exponent };
     Ok((NumberPart { minus, item }, rest))
 }
@@ -178,15 +195,21 @@ fn behind_times(text: &[u8]) -> Option<(i64, &[u8])>
     Some((times, behind))
 }
 
-fn item(alloc: Global, most: usize, minus: bool, text: &[u8]) -> Result<(NumberPart, &[u8]), Stop>
-    ensures { Gives result (item_read most minus (tokens text.now)) }
+fn item(
+    alloc: Global,
+    most: usize,
+    depth: u32,
+    minus: bool,
+    text: &[u8],
+) -> Result<(NumberPart, &[u8]), Stop>
+    ensures { Gives result (item_read most depth minus (tokens text.now)) }
 {
     if let Some(rest) = behind_base(text) {
-        return power(alloc, most, minus, 1, rest);
+        return power(alloc, most, depth, minus, 1, rest);
     }
     if let Some((times, rest)) = behind_times(text) {
         return match behind_base(rest) {
-            Some(behind) => power(alloc, most, minus, times, behind),
+            Some(behind) => power(alloc, most, depth, minus, times, behind),
             None => Err(Stop::Syntax),
         };
     }
@@ -205,14 +228,19 @@ fn plain_part(minus: bool, text: &[u8]) -> Result<(NumberPart, &[u8]), Stop>
     }
 }
 
-fn number_parts(alloc: Global, most: usize, text: &[u8]) -> Result<(NumberParts, &[u8]), Stop>
-    ensures { Gives result (signed_read (item_read most) most (tokens text.now)) }
+fn number_parts(
+    alloc: Global,
+    most: usize,
+    depth: u32,
+    text: &[u8],
+) -> Result<(NumberParts, &[u8]), Stop>
+    ensures { Gives result (signed_read (item_read most depth) most (tokens text.now)) }
 {
     let (mut minus, mut rest) = first_sign(text);
     let mut parts = Sequence::new(alloc);
     let mut left = most;
     'parts: while 0 < left {
-        let (part, behind) = item(alloc, most, minus, rest)?;
+        let (part, behind) = item(alloc, most, depth, minus, rest)?;
         parts.push(part)?;
         match sign(behind) {
             Some((next, onward)) => {
@@ -226,10 +254,11 @@ fn number_parts(alloc: Global, most: usize, text: &[u8]) -> Result<(NumberParts,
     Err(Stop::Syntax)
 }
 
-/// A number, and what follows it. No sum in it is read that has more parts than `most`.
-pub fn number(alloc: Global, most: usize, text: &[u8]) -> Result<(Number, &[u8]), Stop>
-    ensures { Gives result (number_read most (tokens text.now)) }
+/// A number with round brackets at most so deep, and what follows it. No sum in it is read that
+/// has more parts than `most`.
+pub fn number(alloc: Global, most: usize, depth: u32, text: &[u8]) -> Result<(Number, &[u8]), Stop>
+    ensures { Gives result (number_read most depth (tokens text.now)) }
 {
-    let (parts, rest) = number_parts(alloc, most, text)?;
+    let (parts, rest) = number_parts(alloc, most, depth, text)?;
     Ok((Number { parts }, rest))
 }

@@ -1,5 +1,6 @@
 ghost use Rattle.std.specs.Prelude.{◌≡◌, ◌≤◌, length, IfOk};
-ghost use Rattle.pf_rulefile.specs.Steps.Parts.{place_in, only, none_used, both_used, name_part, typed_part, joined_part, node_part, lane_part, one, both_patterns, node_items, lane_items};
+ghost use Rattle.pf_rulefile.specs.Meaning.Says.{place_in};
+ghost use Rattle.pf_rulefile.specs.Steps.Parts.{only, none_used, both_used, name_part, typed_part, joined_part, node_part, lane_part, one, both_patterns, node_items, lane_items};
 
 use pf_laneops::LaneName;
 use pf_rules::{Amount, Number, PatType, Pattern, Patterns, VarDecl, is_free, is_free_amount};

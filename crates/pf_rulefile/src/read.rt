@@ -1,7 +1,10 @@
 ghost use Rattle.std.specs.Prelude.{◌≡◌, ◌+◌, ◌≤◌, ◌<◌, length, take, IfOk};
 ghost use Rattle.std.specs.Str.Lines.{lines};
-ghost use Rattle.pf_rulefile.specs.declared.fault.RuleTextFault.TheVariants.{At};
-ghost use Rattle.pf_rulefile.specs.Steps.FileReads.{nothing, IsReading, TellsLine, TellsLines, TellsFile, byte_limit, next_read, lines_from, finished, text_read, rules_read};
+ghost use Rattle.pf_text.specs.Meaning.Answers.{Decides};
+ghost use Rattle.pf_rulefile.specs.declared.fault.RuleTextFault.TheVariants.{At, Memory};
+ghost use Rattle.pf_rulefile.specs.Meaning.RuleFiles.{IsRules, IsFaultOf, byte_limit};
+ghost use Rattle.pf_rulefile.specs.Meaning.Says.{nothing};
+ghost use Rattle.pf_rulefile.specs.Steps.FileReads.{IsReading, TellsLine, TellsLines, TellsFile, next_read, lines_from, finished, text_read, rules_read};
 
 use crate::fault::{LineStop, RuleTextFault, RuleTextKind};
 use crate::field::header_of;
@@ -20,8 +23,16 @@ const MOST_BYTES: usize = 2_097_152;
 /// bytes and 1,024 rules, a side 64 nodes, a rule 512 steps.
 ///
 /// The first line with a fault is told, and on it the first in the order of `RuleTextKind`.
-#[tactic(auto, unfolding(crate::specs::Steps::FileReads::rules_read))]
+#[tactic(auto, using(crate::proofs::FileLaws::decided))]
 pub fn read_rules(alloc: Global, text: &[u8]) -> Result<RuleFile, RuleTextFault>
+    // The file of the text is read, or its first fault is told, unless memory runs out.
+    ensures { Decides Memory (IsRules text.now) (IsFaultOf text.now) result }
+{
+    read_whole(alloc, text)
+}
+
+#[tactic(auto, unfolding(crate::specs::Steps::FileReads::rules_read))]
+fn read_whole(alloc: Global, text: &[u8]) -> Result<RuleFile, RuleTextFault>
     ensures { TellsFile result (rules_read text.now) }
 {
     let most = byte_limit();
@@ -32,7 +43,7 @@ pub fn read_rules(alloc: Global, text: &[u8]) -> Result<RuleFile, RuleTextFault>
     }
 }
 
-#[tactic(auto, unfolding(crate::specs::Steps::FileReads::byte_limit))]
+#[tactic(auto, unfolding(crate::specs::Meaning::RuleFiles::byte_limit))]
 fn byte_limit() -> usize
     ensures value { result ≡ byte_limit }
     ensures few { result ≤ 2097152 }

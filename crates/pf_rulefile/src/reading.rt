@@ -2,7 +2,9 @@ ghost use Rattle.std.specs.Prelude.{◌≡◌, ◌≤◌, ◌==◌, length, IfOk
 ghost use Rattle.std.specs.List.{position};
 ghost use Rattle.pf_rulefile.specs.Meaning.Tokens.{tokens};
 ghost use Rattle.pf_rulefile.specs.Steps.LineReads.{GivesLine};
-ghost use Rattle.pf_rulefile.specs.Steps.FileReads.{IsReading, nothing, begun, uncommented, rule_line, rule_of, added_rule, end_line, inside, words_read, line_read};
+ghost use Rattle.pf_rulefile.specs.Meaning.Says.{nothing, begun, rule_of, added_rule};
+ghost use Rattle.pf_rulefile.specs.Meaning.RuleFiles.{uncommented};
+ghost use Rattle.pf_rulefile.specs.Steps.FileReads.{IsReading, rule_line, end_line, inside, words_read, line_read};
 
 use crate::fault::{LineStop, RuleTextKind};
 use crate::field::{lone_name, no_more, rule_place};
@@ -99,9 +101,9 @@ fn rule_of(rule: Open) -> Option<RuleParts>
     })
 }
 
-fn added_rule(rules: RuleList, parts: RuleParts) -> Result<RuleList, LineStop>
+fn added_rule(rules: RuleList, parts: RuleParts) -> Result<Reading, LineStop>
     ensures value { GivesLine result (added_rule rules parts) }
-    ensures few { IfOk result (λ rs. length rs ≤ 1024) }
+    ensures kept { IfOk result IsReading }
 {
     if MOST_RULES <= rules.len() {
         return Err(told(RuleTextKind::Limit));
@@ -111,7 +113,8 @@ fn added_rule(rules: RuleList, parts: RuleParts) -> Result<RuleList, LineStop>
     }
     let mut rules = rules;
     rules.push(Rule::new(parts))?;
-    Ok(rules)
+    let current = None;
+    Ok(Reading { rules, current })
 }
 
 fn end_line(reading: Reading, text: &[u8]) -> Result<Reading, LineStop>
@@ -127,11 +130,7 @@ fn end_line(reading: Reading, text: &[u8]) -> Result<Reading, LineStop>
         None => return Err(told(RuleTextKind::Syntax)),
     };
     match rule_of(rule) {
-        Some(parts) => {
-            let rules = added_rule(rules, parts)?;
-            let current = None;
-            Ok(Reading { rules, current })
-        }
+        Some(parts) => added_rule(rules, parts),
         None => Err(told(RuleTextKind::Syntax)),
     }
 }

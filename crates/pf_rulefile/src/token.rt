@@ -2,7 +2,7 @@ ghost use Rattle.std.specs.Prelude.{◌≡◌, ◌∷◌, ◌<◌, ◌≤◌, []
 ghost use Rattle.std.specs.List.{list_all};
 ghost use Rattle.pf_text.specs.Meaning.Words.{is_digit};
 ghost use Rattle.pf_rulefile.specs.Meaning.Tokens.{sticks, tokens, is_int, int_of};
-ghost use Rattle.pf_rulefile.specs.Steps.Fronts.{stuck, behind_stuck, from_solid, IsSolid, after, signed_by};
+ghost use Rattle.pf_rulefile.specs.Steps.Fronts.{stuck, behind_stuck, from_solid, IsSolid, after};
 
 use pf_text::{is_blank, is_digit, is_name_byte, value_of_digits};
 

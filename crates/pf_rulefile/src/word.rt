@@ -1,10 +1,17 @@
 ghost use Rattle.std.specs.Prelude.{◌≡◌, MatchOption, None, Some};
-ghost use Rattle.pf_rulefile.specs.Meaning.Words.{lane_word, ptype_of, closing_type, op_in, call_ops, lane_in, lane_ops, is_variable, shaped, shape_of, lane_shape, operands_behind, is_stated, has_amount, comparison, is_rule_name, is_word};
+ghost use Rattle.pf_rulefile.specs.Meaning.Words.{lane_word, ptype_of, closing_type, op_in, call_ops, lane_in, lane_ops, is_variable, shaped, shape_of, lane_shape, operands_behind, is_stated, has_amount, comparison, is_rule_name, is_word, language_of};
 
 use pf_laneops::{LaneAmounts, LaneGives, LaneName, LaneOperands};
-use pf_rules::PatType;
+use pf_rules::{Kind, PatType};
 use pf_text::is_name;
 use pf_values::Op;
+
+/// What a side is made of besides variables and typed numbers.
+#[derive(Clone, Copy)]
+pub enum Language {
+    Operators,
+    Lanes,
+}
 
 /// The type of this word, as `u1`.
 pub fn ptype_of(word: &[u8]) -> Option<PatType>
@@ -293,5 +300,15 @@ pub fn is_word(word: &[u8]) -> bool
     match word {
         [first, ..] => b'a' <= *first && *first <= b'z' && word.len() <= 32,
         [] => false,
+    }
+}
+
+/// What the right sides of such a file are made of.
+pub fn language_of(kind: Kind) -> Language
+    ensures { result ≡ language_of kind }
+{
+    match kind {
+        Kind::Lift => Language::Operators,
+        Kind::Lower(_) => Language::Lanes,
     }
 }

@@ -15,7 +15,11 @@ use Rattle.pf_laneops.specs.declared.lane_row.LaneAmounts.{LaneAmounts}
 use Rattle.pf_laneops.specs.declared.lane_row.LaneAmounts.TheVariants.{Without}
 use Rattle.pf_laneops.specs.Meaning.LaneRows.{lane_row}
 use Rattle.pf_rules.specs.declared.pattern.PatType.{PatType}
+use Rattle.pf_rules.specs.declared.rule.Kind.{Kind}
+use Rattle.pf_rules.specs.declared.rule.Kind.TheVariants.{Lift, Lower}
 use Rattle.pf_rulefile.specs.declared.word.Shape.{Shape}
+use Rattle.pf_rulefile.specs.declared.word.Language.{Language}
+use Rattle.pf_rulefile.specs.declared.word.Language.TheVariants.{Operators, Lanes}
 
 abbrev pub ptype : Bool → ℕ → PatType
 ptype signed times = record { signed = signed; times = times }
@@ -144,3 +148,8 @@ lane_shape o = shaped (is_stated (lane_row o).gives) (operands_behind (lane_row 
 abbrev pub is_word : List ℕ → Bool
 is_word [] = false
 is_word (c ∷ w) = is_letter c && nat_le (length (c ∷ w)) 32
+
+-- what the right sides of such a file are made of
+abbrev pub language_of : Kind → Language
+language_of Lift = Operators
+language_of (Lower target) = Lanes

@@ -1,10 +1,6 @@
 -- How the parts of lines are read.
-use Rattle.std.specs.Prelude.{◌≡◌, ℕ, ◌+◌, ℤ, pos, int_le, unsigned_abs, ◌==◌, List, [], ◌∷◌, ◌++◌, Bool, true, false, ◌&&◌, ◌||◌, if◌then◌else◌, Option, Some, None, option_map, option_and_then, Result, Ok, Err, codes}
+use Rattle.std.specs.Prelude.{◌≡◌, ℕ, ℤ, pos, int_le, unsigned_abs, ◌==◌, List, [], ◌∷◌, Bool, true, false, ◌&&◌, ◌||◌, if◌then◌else◌, Option, Some, None, option_map, option_and_then, Result, Ok, Err, codes}
 use Rattle.std.specs.Str.{bytes_eq}
-use Rattle.pf_ints.specs.declared.target.Target.TheVariants.{Neon, Avx2, Hvx}
-use Rattle.pf_forms.specs.declared.axioms.Axiom.{Axiom}
-use Rattle.pf_forms.specs.declared.axioms.Axiom.TheVariants as law
-use Rattle.pf_forms.specs.Meaning.Axioms.{axiom_name}
 use Rattle.pf_rules.specs.declared.number.Number.{Number}
 use Rattle.pf_rules.specs.declared.pattern.PatType.{PatType}
 use Rattle.pf_rules.specs.declared.rule.VarDecl.{VarDecl}
@@ -12,13 +8,14 @@ use Rattle.pf_rules.specs.declared.rule.RuleParts.{RuleParts}
 use Rattle.pf_rules.specs.declared.rule.By.{By}
 use Rattle.pf_rules.specs.declared.rule.By.TheVariants as by
 use Rattle.pf_rules.specs.declared.rule.Kind.{Kind}
-use Rattle.pf_rules.specs.declared.rule.Kind.TheVariants.{Lift, Lower}
 use Rattle.pf_rules.specs.Meaning.Rules.{is_free}
 use Rattle.pf_rulefile.specs.declared.stop.Stop.{Stop}
 use Rattle.pf_rulefile.specs.declared.stop.Stop.TheVariants.{Syntax, Memory}
 use Rattle.pf_rulefile.specs.Meaning.Tokens.{int_of}
 use Rattle.pf_rulefile.specs.Meaning.Words.{is_some, is_word, is_rule_name, is_variable, ptype_of}
-use Rattle.pf_rulefile.specs.Steps.Fronts.{after}
+use Rattle.pf_rulefile.specs.Steps.Fronts.{after, sign_by}
+use Rattle.pf_rulefile.specs.Meaning.Lines.{slash_sign, side_word, kind_of, format_of, chosen, var, Cause, Axiom as AxiomWord, Use}
+use Rattle.pf_rulefile.specs.Meaning.Says.{axiom_in, axioms, rule_place}
 use Rattle.pf_rulefile.specs.Steps.NumberReads.{then_read, number_read, sum_read}
 use Rattle.pf_rulefile.specs.Steps.SideReads.{on_behind}
 
@@ -47,12 +44,8 @@ optional_by ts None = (false, ts)
 abbrev pub optional : List ℕ → List (List ℕ) → Bool × List (List ℕ)
 optional w ts = optional_by ts (after w ts)
 
-abbrev pub when : Bool → ℤ → List ℤ
-when true n = n ∷ []
-when false n = []
-
 abbrev pub widths_of : Bool → Bool → Bool → List ℤ
-widths_of a b c = when a (pos 8) ++ (when b (pos 16) ++ when c (pos 32))
+widths_of a b c = chosen (pos 8) (pos 16) (pos 32) a b c
 
 abbrev pub widths_by : Bool → Bool → Bool × List (List ℕ) → Option (List ℤ)
 widths_by a b c = if no_more c.1 && (a || b || c.0) then Some (widths_of a b c.0) else None
@@ -69,7 +62,7 @@ widths_read ts = behind_eight (optional (codes "8") ts)
 -- ---- ranges
 abbrev pub range_read : ℕ → List (List ℕ) → Option ((Number × Number) × List (List ℕ))
 range_read most ts =
-    on_behind (after (codes "from") ts) (λ us. then_read (number_read most us) (λ lo vs. on_behind (after (codes "to") vs) (λ ws. option_map (λ q. ((lo, q.0), q.1)) (number_read most ws))))
+    on_behind (after (codes "from") ts) (λ us. then_read (number_read most 1 us) (λ lo vs. on_behind (after (codes "to") vs) (λ ws. option_map (λ q. ((lo, q.0), q.1)) (number_read most 1 ws))))
 
 abbrev pub free_range : Number × Number → Bool
 free_range r = is_free r.0 && is_free r.1
@@ -86,12 +79,9 @@ abbrev pub var_head : List (List ℕ) → Option ((List ℕ × PatType) × List 
 var_head [] = None
 var_head (t ∷ ts) = if is_variable t then option_and_then (λ n. typed_name n ts) (name_of t) else None
 
-abbrev pub var : List ℕ × PatType → Option (Number × Number) → VarDecl
-var h range = record { name = h.0; ty = h.1; range = range }
-
 abbrev pub var_read : ℕ → List (List ℕ) → Option VarDecl
 var_read most ts =
-    then_read (var_head ts) (λ h us. if no_more us then Some (var h None) else then_read (range_read most us) (λ r vs. if no_more vs then Some (var h (Some r)) else None))
+    then_read (var_head ts) (λ h us. if no_more us then Some (var h.0 h.1 None) else then_read (range_read most us) (λ r vs. if no_more vs then Some (var h.0 h.1 (Some r)) else None))
 
 -- ---- paths
 abbrev pub child_by : List (List ℕ) → ℤ → Option (ℕ × List (List ℕ))
@@ -104,11 +94,8 @@ child_read (t ∷ ts) = option_and_then (child_by ts) (int_of t)
 abbrev pub child_part : Bool → List (List ℕ) → Option (ℕ × List (List ℕ))
 child_part minus ts = child_read ts
 
-abbrev pub slash : List (List ℕ) → Option (Bool × List (List ℕ))
-slash ts = option_map (λ us. (false, us)) (after (codes "/") ts)
-
 abbrev pub children_read : ℕ → List (List ℕ) → Option (List ℕ × List (List ℕ))
-children_read most ts = sum_read slash child_part most false ts
+children_read most ts = sum_read (sign_by slash_sign) child_part most false ts
 
 abbrev pub begins_int : List (List ℕ) → Bool
 begins_int [] = false
@@ -120,21 +107,8 @@ path_at most ts = if begins_int ts then children_read most ts else Some ([], ts)
 abbrev pub path_read : ℕ → List (List ℕ) → Option (List ℕ × List (List ℕ))
 path_read most ts = on_behind (after (codes "/") ts) (path_at most)
 
--- ---- what justifies a step
-abbrev pub axiom_in : List Axiom → List ℕ → Option Axiom
-axiom_in [] w = None
-axiom_in (a ∷ rest) w = if bytes_eq (axiom_name a) w then Some a else axiom_in rest w
-
-abbrev pub axioms : List Axiom
-axioms = law.AddComm ∷ law.AddAssoc ∷ law.AddBack ∷ law.AddZero ∷ law.SubAdd ∷ law.Cancel ∷ law.MulComm ∷ law.MulAssoc ∷ law.MulBack ∷ law.MulOne ∷ law.Distribute ∷ law.Fold ∷ law.DropWrap ∷ law.WrapWrap ∷ law.WrapAdd ∷ law.WrapMul ∷ law.MulZero ∷ law.Factor ∷ law.PowNum ∷ law.NumPow ∷ law.PowAdd ∷ law.DivOne ∷ law.DivDiv ∷ law.DivScale ∷ law.DivOut ∷ law.DivIn ∷ law.DivInner ∷ law.NegDiv ∷ law.DivZero ∷ law.DivNeg ∷ law.DropSat ∷ law.SatClamp ∷ law.SatSat ∷ law.SatHigh ∷ law.SatLow ∷ law.MinComm ∷ law.MaxComm ∷ law.MinLeft ∷ law.MaxLeft ∷ law.MinAdd ∷ law.MaxAdd ∷ law.MinDiv ∷ law.MaxDiv ∷ law.SelMax ∷ law.SelMin ∷ law.SelSame ∷ law.MaxMinAbs ∷ law.AbsPos ∷ law.AbsNeg ∷ []
-
 abbrev pub axiom_by : List ℕ → Option (Option By)
 axiom_by w = if is_word w then Some (option_map by.Axiom (axiom_in axioms w)) else None
-
--- the number of the first rule of this name, the first of them being n
-abbrev pub rule_place : ℕ → List RuleParts → List ℕ → Option ℕ
-rule_place n [] w = None
-rule_place n (r ∷ rs) w = if bytes_eq r.name w then Some n else rule_place (n + 1) rs w
 
 abbrev pub used_by : List RuleParts → Option (List ℕ) → Option (Option By)
 used_by rules None = None
@@ -144,21 +118,14 @@ abbrev pub by_read : ℕ → List RuleParts → List (List ℕ) → Option (Opti
 by_read format rules [] = None
 by_read format rules (t ∷ ts) = if no_more ts then axiom_by t else (if format == 2 && bytes_eq t (codes "use") then used_by rules (lone_name ts) else None)
 
-abbrev pub side_word : List ℕ → Option Bool
-side_word w = if bytes_eq w (codes "l") then Some true else (if bytes_eq w (codes "r") then Some false else None)
+-- an axiom's word or a rule's name
+abbrev pub cause_read : ℕ → List (List ℕ) → Option Cause
+cause_read format [] = None
+cause_read format (t ∷ ts) = if no_more ts then (if is_word t then Some (AxiomWord t) else None) else (if format == 2 && bytes_eq t (codes "use") then option_map Use (lone_name ts) else None)
 
 abbrev pub step_side : List (List ℕ) → Option (Bool × List (List ℕ))
 step_side [] = None
 step_side (t ∷ ts) = option_map (λ left. (left, ts)) (side_word t)
-
--- ---- headers
-abbrev pub kind_of : List ℕ → Option Kind
-kind_of w =
-    if bytes_eq w (codes "lift") then Some Lift else (if bytes_eq w (codes "neon") then Some (Lower Neon) else (if bytes_eq w (codes "avx2") then Some (Lower Avx2)
-    else (if bytes_eq w (codes "hvx") then Some (Lower Hvx) else None)))
-
-abbrev pub format_of : List ℕ → Option ℕ
-format_of w = if bytes_eq w (codes "1") then Some 1 else (if bytes_eq w (codes "2") then Some 2 else None)
 
 abbrev pub kind_read : ℕ → List (List ℕ) → Option (ℕ × Kind)
 kind_read format [] = None

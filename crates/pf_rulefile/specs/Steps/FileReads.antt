@@ -1,62 +1,38 @@
 -- What the lines of a file say, one after another, and the first fault.
-use Rattle.std.specs.Prelude.{◌≡◌, ℕ, ◌+◌, ◌-◌, ◌==◌, ◌≤◌, nat_le, nat_lt, List, [], ◌∷◌, ◌++◌, length, take, Bool, true, false, if◌then◌else◌, Option, Some, None, MatchOption, Result, Ok, Err, codes}
-use Rattle.std.specs.List.{before_first}
+use Rattle.std.specs.Prelude.{◌≡◌, ℕ, ◌+◌, ◌-◌, ◌≤◌, nat_lt, List, [], ◌∷◌, length, take, Bool, true, false, if◌then◌else◌, Option, Some, None, MatchOption, Result, Ok, Err, codes}
 use Rattle.std.specs.Str.{bytes_eq}
 use Rattle.std.specs.Str.Lines.{lines}
 use Rattle.pf_rules.specs.declared.rule.RuleParts.{RuleParts}
 use Rattle.pf_rules.specs.declared.rule.Kind.{Kind}
 use Rattle.pf_rules.specs.declared.rule_file.FileParts.{FileParts}
-use Rattle.pf_rules.specs.Meaning.Rules.{is_rule}
-use Rattle.pf_rules.specs.Meaning.Files.{is_file}
 use Rattle.pf_rulefile.specs.declared.fault.RuleTextKind.{RuleTextKind}
-use Rattle.pf_rulefile.specs.declared.fault.RuleTextKind.TheVariants.{Header, Syntax, Name, Limit}
+use Rattle.pf_rulefile.specs.declared.fault.RuleTextKind.TheVariants.{Header, Syntax, Limit}
 use Rattle.pf_rulefile.specs.declared.fault.RuleTextFault.{RuleTextFault}
 use Rattle.pf_rulefile.specs.declared.fault.RuleTextFault.TheVariants.{At, Memory}
 use Rattle.pf_rulefile.specs.declared.line.Open.{Open}
 use Rattle.pf_rulefile.specs.declared.reading.Reading.{Reading}
 use Rattle.pf_rulefile.specs.Meaning.Tokens.{tokens}
 use Rattle.pf_rulefile.specs.Meaning.Words.{is_some}
-use Rattle.pf_rulefile.specs.Steps.FieldReads.{no_more, lone_name, rule_place, header_of}
-use Rattle.pf_rulefile.specs.Steps.LineReads.{or_syntax, widths_line, shift_line, var_line, left_line, right_line, step_line}
+use Rattle.pf_rulefile.specs.Meaning.Says.{or_syntax, nothing, opened, rule_of, added_rule}
+use Rattle.pf_rulefile.specs.Meaning.RuleFiles.{uncommented, byte_limit, file, is_inside}
+use Rattle.pf_rulefile.specs.Steps.FieldReads.{no_more, lone_name, header_of}
+use Rattle.pf_rulefile.specs.Steps.LineReads.{widths_line, shift_line, var_line, left_line, right_line, step_line}
 
 -- what is kept while a file is read
 pub record IsReading (r : Reading) : Type 0 where
   pub few : length r.rules ≤ 1024
   pub vars : MatchOption r.current (Unit {0}) (λ o. length o.vars ≤ 8)
 
-abbrev pub nothing : Reading
-nothing = record { rules = []; current = None }
-
-abbrev pub begun : List ℕ → Open
-begun n = record { name = n; widths = None; shift = None; vars = []; lhs = None; rhs = None; steps = [] }
-
 -- reading goes on with what was read
 abbrev pub then_line : {A B : Type 0} → Result A RuleTextKind → (A → Result B RuleTextKind) → Result B RuleTextKind
 then_line (Ok x) f = f x
 then_line (Err k) f = Err k
 
--- ---- lines
-abbrev pub opened : Reading → List ℕ → Result Reading RuleTextKind
-opened r n = if is_some (rule_place 0 r.rules n) then Err Name else (if nat_le 1024 (length r.rules) then Err Limit else Ok (record { rules = r.rules; current = Some (begun n) }))
-
 abbrev pub rule_line : Reading → List (List ℕ) → Result Reading RuleTextKind
 rule_line r ts = if is_some r.current then Err Syntax else or_syntax (lone_name ts) (opened r)
 
-abbrev pub on_some : {A B : Type 0} → Option A → (A → Option B) → Option B
-on_some None f = None
-on_some (Some x) f = f x
-
-abbrev pub rule_of : Open → Option RuleParts
-rule_of o = on_some o.widths (λ ws. on_some o.lhs (λ l. on_some o.rhs (λ r. Some (record { name = o.name; widths = ws; shift = o.shift; vars = o.vars; lhs = l; rhs = r; steps = o.steps }))))
-
-abbrev pub added_rule : List RuleParts → RuleParts → Result (List RuleParts) RuleTextKind
-added_rule rs r = if nat_le 1024 (length rs) then Err Limit else (if is_rule r then Ok (rs ++ r ∷ []) else Err Syntax)
-
-abbrev pub closed_rules : List RuleParts → Reading
-closed_rules rs = record { rules = rs; current = None }
-
 abbrev pub end_line : Reading → List (List ℕ) → Result Reading RuleTextKind
-end_line r ts = if no_more ts then or_syntax r.current (λ o. or_syntax (rule_of o) (λ p. then_line (added_rule r.rules p) (λ rs. Ok (closed_rules rs)))) else Err Syntax
+end_line r ts = if no_more ts then or_syntax r.current (λ o. or_syntax (rule_of o) (added_rule r.rules)) else Err Syntax
 
 abbrev pub inside : ℕ → Kind → ℕ → List RuleParts → Open → List ℕ → List (List ℕ) → Result Open RuleTextKind
 inside format kind most rules o word ts =
@@ -71,10 +47,6 @@ abbrev pub words_read : ℕ → Kind → ℕ → Reading → List (List ℕ) →
 words_read format kind most r [] = Ok r
 words_read format kind most r (t ∷ ts) =
     if bytes_eq t (codes "rule") then rule_line r ts else (if bytes_eq t (codes "end") then end_line r ts else inside_reading format kind most r t ts)
-
--- the line up to its comment
-abbrev pub uncommented : List ℕ → List ℕ
-uncommented line = before_first (λ c. c == 35) line
 
 unfoldable pub line_read : ℕ → Kind → Reading → List ℕ → Result Reading RuleTextKind
 line_read format kind r line = words_read format kind (length (uncommented line)) r (tokens (uncommented line))
@@ -96,13 +68,10 @@ abbrev pub lines_from : ℕ → Kind → ℕ → Reading → List (List ℕ) →
 lines_from format kind n r [] = Ok (r, n)
 lines_from format kind n r (l ∷ ls) = then_next (next_read format kind n r l) (λ s. lines_from format kind (n + 1) s ls)
 
-abbrev pub file : ℕ → Kind → Reading → FileParts
-file format kind r = record { format = format; kind = kind; rules = r.rules }
-
 -- a text that goes on passes the limit of bytes in its last line
 abbrev pub finished : Bool → ℕ → Kind → Reading → ℕ → Result FileParts (ℕ × RuleTextKind)
 finished true format kind r n = Err (n - 1, Limit)
-finished false format kind r n = if is_some r.current then Err (n, Syntax) else (if is_file (file format kind r) then Ok (file format kind r) else Err (n, Syntax))
+finished false format kind r n = if is_inside format kind r then Err (n, Syntax) else Ok (file format kind r)
 
 abbrev pub header_by : Option (ℕ × Kind) → (ℕ → Kind → Result FileParts (ℕ × RuleTextKind)) → Result FileParts (ℕ × RuleTextKind)
 header_by None f = Err (1, Header)
@@ -112,10 +81,6 @@ abbrev pub text_read : Bool → List (List ℕ) → Result FileParts (ℕ × Rul
 text_read is_long [] = Err (1, Header)
 text_read is_long (l ∷ ls) =
     header_by (header_of (tokens (uncommented l))) (λ format kind. then_next (lines_from format kind 2 nothing ls) (λ p. finished is_long format kind p.0 p.1))
-
--- how many bytes a text may have
-unfoldable pub byte_limit : ℕ
-byte_limit = 2097152
 
 -- the file of a text, or the line of its first fault and this; a text with too many bytes is judged on one byte more than it may have
 unfoldable pub rules_read : List ℕ → Result FileParts (ℕ × RuleTextKind)

@@ -1,5 +1,5 @@
 -- The front of a text, and of its tokens.
-use Rattle.std.specs.Prelude.{ℕ, List, [], ◌∷◌, Bool, true, false, if◌then◌else◌, Option, Some, None, ◌≡◌, codes}
+use Rattle.std.specs.Prelude.{ℕ, List, [], ◌∷◌, false, if◌then◌else◌, Option, Some, None, option_map, ◌≡◌}
 use Rattle.std.specs.Str.{bytes_eq}
 use Rattle.pf_text.specs.Meaning.Lines.{is_blank}
 use Rattle.pf_rulefile.specs.Meaning.Tokens.{sticks}
@@ -27,7 +27,7 @@ abbrev pub after : List ℕ → List (List ℕ) → Option (List (List ℕ))
 after w [] = None
 after w (t ∷ ts) = if bytes_eq t w then Some ts else None
 
--- the sign between parts of a sum, whether it takes the next one away, and what follows it
-abbrev pub signed_by : List (List ℕ) → Option (Bool × List (List ℕ))
-signed_by [] = None
-signed_by (t ∷ ts) = if bytes_eq t (codes "+") then Some (false, ts) else (if bytes_eq t (codes "-") then Some (true, ts) else None)
+-- what a word at the front stands for, and what follows it
+abbrev pub sign_by : {A : Type 0} → (List ℕ → Option A) → List (List ℕ) → Option (A × List (List ℕ))
+sign_by of [] = None
+sign_by of (t ∷ ts) = option_map (λ x. (x, ts)) (of t)

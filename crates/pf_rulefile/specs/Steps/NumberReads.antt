@@ -7,14 +7,14 @@ use Rattle.pf_rules.specs.declared.number.LinOf.TheVariants as of
 use Rattle.pf_rules.specs.declared.number.LinPart.{LinPart}
 use Rattle.pf_rules.specs.declared.number.Amount.{Amount}
 use Rattle.pf_rules.specs.declared.number.Amount.TheVariants as amount
-use Rattle.pf_rules.specs.declared.number.NumberItem.{NumberItem}
 use Rattle.pf_rules.specs.declared.number.NumberItem.TheVariants as item
 use Rattle.pf_rules.specs.declared.number.NumberPart.{NumberPart}
 use Rattle.pf_rules.specs.declared.number.Number.{Number}
 use Rattle.pf_rulefile.specs.declared.stop.Stop.{Stop}
 use Rattle.pf_rulefile.specs.declared.stop.Stop.TheVariants.{Syntax, Memory}
 use Rattle.pf_rulefile.specs.Meaning.Tokens.{tokens, int_of}
-use Rattle.pf_rulefile.specs.Steps.Fronts.{after, signed_by}
+use Rattle.pf_rulefile.specs.Steps.Fronts.{after, sign_by}
+use Rattle.pf_rulefile.specs.Meaning.Grammar.{sum_sign, unit_of, lin, plain_amount, part, plain_item}
 
 -- the answer is what is read and what follows it
 abbrev pub Gives : {A : Type 0} → Result (A × Bor (List ℕ)) Stop → Option (A × List (List ℕ)) → Type 0
@@ -45,18 +45,11 @@ sum_read sign part zero minus ts = None
 sum_read sign part (suc most) minus ts = then_read (part minus ts) (λ a us. sum_on (sum_read sign part most) a us (sign us))
 
 abbrev pub signed_read : {A : Type 0} → (Bool → List (List ℕ) → Option (A × List (List ℕ))) → ℕ → List (List ℕ) → Option (List A × List (List ℕ))
-signed_read part most ts = sum_read signed_by part most (first_sign ts).0 (first_sign ts).1
+signed_read part most ts = sum_read (sign_by sum_sign) part most (first_sign ts).0 (first_sign ts).1
 
 -- ---- linear amounts
-abbrev pub unit_of : List ℕ → Option LinOf
-unit_of w = if bytes_eq w (codes "w") then Some of.W else (if bytes_eq w (codes "k") then Some of.K else None)
-
-abbrev pub lin : Bool → ℤ → LinOf → LinPart
-lin minus times unit = record { minus = minus; times = times; of = unit }
-
 abbrev pub unit_read : Bool → ℤ → List (List ℕ) → Option (LinPart × List (List ℕ))
-unit_read minus times [] = None
-unit_read minus times (t ∷ ts) = option_map (λ u. (lin minus times u, ts)) (unit_of t)
+unit_read minus times ts = option_map (λ u. (lin minus times u.0, u.1)) (sign_by unit_of ts)
 
 abbrev pub times_by : Bool → ℤ → List (List ℕ) → Option (List (List ℕ)) → Option (LinPart × List (List ℕ))
 times_by minus times ts None = Some (lin minus times of.One, ts)
@@ -74,26 +67,21 @@ lin_read minus (t ∷ ts) = lin_by minus (unit_of t) (int_of t) ts
 abbrev pub linear_read : ℕ → List (List ℕ) → Option (Amount × List (List ℕ))
 linear_read most ts = then_read (signed_read lin_read most ts) (λ ps us. option_map (λ vs. (amount.Linear ps, vs)) (after (codes ")") us))
 
-abbrev pub plain_amount : List ℕ → Option Amount
-plain_amount w = if bytes_eq w (codes "w") then Some amount.W else (if bytes_eq w (codes "k") then Some amount.K else option_map amount.Int (int_of w))
+-- with round brackets at most so deep
+abbrev pub linear_at : ℕ → ℕ → List (List ℕ) → Option (Amount × List (List ℕ))
+linear_at most zero ts = None
+linear_at most (suc depth) ts = linear_read most ts
 
-abbrev pub exponent_read : ℕ → List (List ℕ) → Option (Amount × List (List ℕ))
-exponent_read most [] = None
-exponent_read most (t ∷ ts) = if bytes_eq t (codes "(") then linear_read most ts else option_map (λ a. (a, ts)) (plain_amount t)
+abbrev pub exponent_read : ℕ → ℕ → List (List ℕ) → Option (Amount × List (List ℕ))
+exponent_read most depth [] = None
+exponent_read most depth (t ∷ ts) = if bytes_eq t (codes "(") then linear_at most depth ts else option_map (λ a. (a, ts)) (plain_amount t)
 
 -- ---- numbers
-abbrev pub part : Bool → NumberItem → NumberPart
-part minus i = record { minus = minus; item = i }
-
-abbrev pub power_read : ℕ → Bool → ℤ → List (List ℕ) → Option (NumberPart × List (List ℕ))
-power_read most minus times ts = then_read (exponent_read most ts) (λ e us. Some (part minus (item.Power times e), us))
-
-abbrev pub plain_item : List ℕ → Option NumberItem
-plain_item w = if bytes_eq w (codes "w") then Some item.W else (if bytes_eq w (codes "k") then Some item.K else option_map item.Int (int_of w))
+abbrev pub power_read : ℕ → ℕ → Bool → ℤ → List (List ℕ) → Option (NumberPart × List (List ℕ))
+power_read most depth minus times ts = then_read (exponent_read most depth ts) (λ e us. Some (part minus (item.Power times e), us))
 
 abbrev pub plain_part : Bool → List (List ℕ) → Option (NumberPart × List (List ℕ))
-plain_part minus [] = None
-plain_part minus (t ∷ ts) = option_map (λ i. (part minus i, ts)) (plain_item t)
+plain_part minus ts = option_map (λ i. (part minus i.0, i.1)) (sign_by plain_item ts)
 
 abbrev pub behind_base : List (List ℕ) → Option (List (List ℕ))
 behind_base ts = option_and_then (after (codes "^")) (after (codes "2") ts)
@@ -106,20 +94,20 @@ abbrev pub behind_times : List (List ℕ) → Option (ℤ × List (List ℕ))
 behind_times [] = None
 behind_times (t ∷ ts) = times_at (int_of t) ts
 
-abbrev pub multiple_by : ℕ → Bool → ℤ → Option (List (List ℕ)) → Option (NumberPart × List (List ℕ))
-multiple_by most minus n None = None
-multiple_by most minus n (Some us) = power_read most minus n us
+abbrev pub multiple_by : ℕ → ℕ → Bool → ℤ → Option (List (List ℕ)) → Option (NumberPart × List (List ℕ))
+multiple_by most depth minus n None = None
+multiple_by most depth minus n (Some us) = power_read most depth minus n us
 
-abbrev pub item_by : ℕ → Bool → List (List ℕ) → Option (List (List ℕ)) → Option (ℤ × List (List ℕ)) → Option (NumberPart × List (List ℕ))
-item_by most minus ts (Some us) n = power_read most minus (pos 1) us
-item_by most minus ts None (Some p) = multiple_by most minus p.0 (behind_base p.1)
-item_by most minus ts None None = plain_part minus ts
+abbrev pub item_by : ℕ → ℕ → Bool → List (List ℕ) → Option (List (List ℕ)) → Option (ℤ × List (List ℕ)) → Option (NumberPart × List (List ℕ))
+item_by most depth minus ts (Some us) n = power_read most depth minus (pos 1) us
+item_by most depth minus ts None (Some p) = multiple_by most depth minus p.0 (behind_base p.1)
+item_by most depth minus ts None None = plain_part minus ts
 
-abbrev pub item_read : ℕ → Bool → List (List ℕ) → Option (NumberPart × List (List ℕ))
-item_read most minus ts = item_by most minus ts (behind_base ts) (behind_times ts)
+abbrev pub item_read : ℕ → ℕ → Bool → List (List ℕ) → Option (NumberPart × List (List ℕ))
+item_read most depth minus ts = item_by most depth minus ts (behind_base ts) (behind_times ts)
 
 abbrev pub number_of : List NumberPart → Number
 number_of ps = record { parts = ps }
 
-abbrev pub number_read : ℕ → List (List ℕ) → Option (Number × List (List ℕ))
-number_read most ts = then_read (signed_read (item_read most) most ts) (λ ps us. Some (number_of ps, us))
+abbrev pub number_read : ℕ → ℕ → List (List ℕ) → Option (Number × List (List ℕ))
+number_read most depth ts = then_read (signed_read (item_read most depth) most ts) (λ ps us. Some (number_of ps, us))

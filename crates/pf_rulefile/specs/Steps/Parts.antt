@@ -1,6 +1,5 @@
 -- What is kept of a part of a side, or of several operands, while it is read.
 use Rattle.std.specs.Prelude.{ℕ, ◌+◌, ◌^◌, ◌-◌, min, nat_le, ◌==◌, List, [], ◌∷◌, ◌++◌, Bool, true, false, not, ◌||◌, if◌then◌else◌, Option, Some, None, slice_index_or}
-use Rattle.std.specs.Str.{bytes_eq}
 use Rattle.pf_values.specs.declared.op.Op.{Op}
 use Rattle.pf_laneops.specs.declared.lane_name.LaneName.{LaneName}
 use Rattle.pf_rules.specs.declared.number.Amount.{Amount}
@@ -12,12 +11,8 @@ use Rattle.pf_rules.specs.declared.rule.VarDecl.{VarDecl}
 use Rattle.pf_rules.specs.Meaning.Rules.{is_free_amount, is_free}
 use Rattle.pf_rulefile.specs.declared.part.Part.{Part}
 use Rattle.pf_rulefile.specs.Meaning.Words.{is_some}
+use Rattle.pf_rulefile.specs.Meaning.Says.{place_in}
 use Rattle.pf_rulefile.specs.Steps.SideReads.{Algebra}
-
--- the number of the first variable of this name, the first of them being n
-abbrev pub place_in : ℕ → List VarDecl → List ℕ → Option ℕ
-place_in n [] w = None
-place_in n (d ∷ ds) w = if bytes_eq d.name w then Some n else place_in (n + 1) ds w
 
 abbrev pub only : ℕ → List Bool
 only n = (n == 0) ∷ (n == 1) ∷ (n == 2) ∷ (n == 3) ∷ (n == 4) ∷ (n == 5) ∷ (n == 6) ∷ (n == 7) ∷ []

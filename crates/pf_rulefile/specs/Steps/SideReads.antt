@@ -1,21 +1,23 @@
 -- How the sides of rules are read from the front of tokens: what is made of their parts is given, as an algebra. No chain or sum is read
 -- that has more links than a number that is given, `most`.
-use Rattle.std.specs.Prelude.{◌≡◌, ℕ, zero, suc, pos, List, [], ◌∷◌, Bool, true, false, if◌then◌else◌, Option, Some, None, option_map, option_and_then, Result, Ok, Err, codes}
+use Rattle.std.specs.Prelude.{◌≡◌, ℕ, zero, suc, ◌-◌, List, [], ◌∷◌, Bool, true, false, if◌then◌else◌, Option, Some, None, option_map, option_and_then, Result, Ok, Err, codes}
 use Rattle.std.specs.Borrow.{Bor}
 use Rattle.std.specs.Str.{bytes_eq}
 use Rattle.pf_values.specs.declared.op.Op.{Op}
-use Rattle.pf_values.specs.declared.op.Op.TheVariants.{Cast, Add, Sub, Mul, ShiftLeft, ShiftRight}
+use Rattle.pf_values.specs.declared.op.Op.TheVariants.{Cast}
 use Rattle.pf_laneops.specs.declared.lane_name.LaneName.{LaneName}
 use Rattle.pf_rules.specs.declared.number.Amount.{Amount}
-use Rattle.pf_rules.specs.declared.number.Amount.TheVariants.{Int}
 use Rattle.pf_rules.specs.declared.number.Number.{Number}
 use Rattle.pf_rules.specs.declared.pattern.PatType.{PatType}
 use Rattle.pf_rulefile.specs.declared.word.Shape.{Shape}
 use Rattle.pf_rulefile.specs.declared.stop.Stop.{Stop}
 use Rattle.pf_rulefile.specs.declared.stop.Stop.TheVariants.{Syntax, Memory}
 use Rattle.pf_rulefile.specs.Meaning.Tokens.{tokens}
-use Rattle.pf_rulefile.specs.Meaning.Words.{ptype_of, closing_type, comparison, is_variable, op_in, call_ops, shape_of}
-use Rattle.pf_rulefile.specs.Steps.Fronts.{after}
+use Rattle.pf_rulefile.specs.declared.word.Language.{Language}
+use Rattle.pf_rulefile.specs.declared.word.Language.TheVariants.{Operators, Lanes}
+use Rattle.pf_rulefile.specs.Meaning.Words.{ptype_of, closing_type, comparison, is_variable, op_in, call_ops, shape_of, is_word, lane_in, lane_ops, lane_shape}
+use Rattle.pf_rulefile.specs.Meaning.Grammar.{times_of, sum_op_of, shift_of, no_amount, Written, Name, Typed, Pair, Node, Lane}
+use Rattle.pf_rulefile.specs.Steps.Fronts.{after, sign_by}
 use Rattle.pf_rulefile.specs.Steps.NumberReads.{then_read, exponent_read, number_read}
 
 -- what is made of names, typed numbers, several operands, operators and lane operations
@@ -50,22 +52,6 @@ abbrev pub chain : {P : Type 0} → (List (List ℕ) → Option (Op × List (Lis
 chain sign link zero p ts = None
 chain sign link (suc most) p ts = chain_on link (chain sign link most) p ts (sign ts)
 
-abbrev pub times_of : List ℕ → Option Op
-times_of w = if bytes_eq w (codes "*") then Some Mul else None
-
-abbrev pub sum_op_of : List ℕ → Option Op
-sum_op_of w = if bytes_eq w (codes "+") then Some Add else (if bytes_eq w (codes "-") then Some Sub else None)
-
-abbrev pub shift_of : List ℕ → Option Op
-shift_of w = if bytes_eq w (codes "<<") then Some ShiftLeft else (if bytes_eq w (codes ">>") then Some ShiftRight else None)
-
-abbrev pub sign_by : (List ℕ → Option Op) → List (List ℕ) → Option (Op × List (List ℕ))
-sign_by op_of [] = None
-sign_by op_of (t ∷ ts) = option_map (λ o. (o, ts)) (op_of t)
-
-abbrev pub no_amount : Amount
-no_amount = Int (pos 0)
-
 -- ---- the parts of calls
 abbrev pub stated_by : Option PatType → Option (List (List ℕ)) → Option (Option PatType × List (List ℕ))
 stated_by None us = None
@@ -80,21 +66,22 @@ stated_read true (t ∷ ts) = stated_by (ptype_of t) (after (codes ",") ts)
 abbrev pub begun_read : Bool → List (List ℕ) → Option (Option PatType × List (List ℕ))
 begun_read states ts = option_and_then (stated_read states) (after (codes "(") ts)
 
-abbrev pub compared_by : List (List ℕ) → Option ((Op × Bool) × List (List ℕ))
-compared_by [] = None
-compared_by (t ∷ ts) = option_map (λ c. (c, ts)) (comparison t)
+-- a type, where one stands first
+abbrev pub loose_stated_by : Option PatType → List (List ℕ) → List (List ℕ) → Option (Option PatType × List (List ℕ))
+loose_stated_by None ts us = Some (None, ts)
+loose_stated_by (Some ty) ts us = stated_by (Some ty) (after (codes ",") us)
 
-abbrev pub amount_read : ℕ → Bool → List (List ℕ) → Option (Amount × List (List ℕ))
-amount_read most false ts = Some (no_amount, ts)
-amount_read most true ts = on_behind (after (codes ",") ts) (exponent_read most)
+abbrev pub loose_stated : List (List ℕ) → Option (Option PatType × List (List ℕ))
+loose_stated [] = None
+loose_stated (t ∷ ts) = loose_stated_by (ptype_of t) (t ∷ ts) ts
+
+abbrev pub amount_read : ℕ → ℕ → Bool → List (List ℕ) → Option (Amount × List (List ℕ))
+amount_read most depth false ts = Some (no_amount, ts)
+amount_read most depth true ts = on_behind (after (codes ",") ts) (exponent_read most depth)
 
 -- the amount, behind the operands
-abbrev pub ended_read : ℕ → Bool → List (List ℕ) → Option (Amount × List (List ℕ))
-ended_read most amount ts = then_read (amount_read most amount ts) (λ k us. option_map (λ vs. (k, vs)) (after (codes ")") us))
-
-abbrev pub closing_read : List (List ℕ) → Option (PatType × List (List ℕ))
-closing_read [] = None
-closing_read (t ∷ ts) = option_map (λ ty. (ty, ts)) (closing_type t)
+abbrev pub ended_read : ℕ → ℕ → Bool → List (List ℕ) → Option (Amount × List (List ℕ))
+ended_read most depth amount ts = then_read (amount_read most depth amount ts) (λ k us. option_map (λ vs. (k, vs)) (after (codes ")") us))
 
 -- ---- what is in brackets, read by `inner`
 module _ {P : Type 0} (alg : Algebra P) where
@@ -118,7 +105,7 @@ module _ {P : Type 0} (alg : Algebra P) where
 
   abbrev pub choice_read : (List (List ℕ) → Read P) → List (List ℕ) → Read P
   choice_read inner ts =
-      on_behind (after (codes "(") ts) (λ us. then_read (inner us) (λ a vs. then_read (compared_by vs) (λ c ws. then_read (inner ws) (λ b xs.
+      on_behind (after (codes "(") ts) (λ us. then_read (inner us) (λ a vs. then_read (sign_by comparison vs) (λ c ws. then_read (inner ws) (λ b xs.
       then_read (operands_more inner 2 (in_order c.1 a b) xs) (λ p ys. option_map (λ zs. (alg.node c.0 None no_amount p, zs)) (after (codes ")") ys))))))
 
   abbrev pub cast_read : (List (List ℕ) → Read P) → PatType → List (List ℕ) → Read P
@@ -127,42 +114,102 @@ module _ {P : Type 0} (alg : Algebra P) where
   abbrev pub name_read : List ℕ → List (List ℕ) → Read P
   name_read t ts = if is_variable t then Some (alg.name t, ts) else None
 
-module _ {P : Type 0} (alg : Algebra P) (most : ℕ) where
+module _ {P : Type 0} (alg : Algebra P) (most depth : ℕ) where
   abbrev pub shift_link : P → Op → List (List ℕ) → Read P
-  shift_link p o ts = option_map (λ q. (alg.node o None q.0 p, q.1)) (exponent_read most ts)
+  shift_link p o ts = option_map (λ q. (alg.node o None q.0 p, q.1)) (exponent_read most depth ts)
 
   abbrev pub typed_read : List (List ℕ) → Read P
-  typed_read ts = then_read (number_read most ts) (λ n us. option_map (λ q. (alg.typed n q.0, q.1)) (closing_read us))
+  typed_read ts = then_read (number_read most depth ts) (λ n us. option_map (λ q. (alg.typed n q.0, q.1)) (sign_by closing_type us))
 
-  -- the stated type, the operands and the amount of a call of this shape
-  abbrev pub call_read : (List (List ℕ) → Read P) → Shape → (Option PatType → Amount → P → P) → List (List ℕ) → Read P
-  call_read inner shape make ts =
-      then_read (begun_read shape.states ts) (λ to us. then_read (operands_read alg inner shape.more us) (λ p vs. option_map (λ q. (make to q.0 p, q.1)) (ended_read most shape.amount vs)))
+  -- the stated type, the amount and the operands of a call of this shape
+  abbrev pub arguments_read : (List (List ℕ) → Read P) → Shape → List (List ℕ) → Read ((Option PatType × Amount) × P)
+  arguments_read inner shape ts =
+      then_read (begun_read shape.states ts) (λ to us. then_read (operands_read alg inner shape.more us) (λ p vs. option_map (λ q. (((to, q.0), p), q.1)) (ended_read most depth shape.amount vs)))
 
-  abbrev pub word_by : (List (List ℕ) → Read P) → Option Op → Option PatType → List ℕ → List (List ℕ) → Read P
-  word_by inner (Some o) ty t ts = call_read inner (shape_of o) (alg.node o) ts
-  word_by inner None (Some ty) t ts = cast_read alg inner ty ts
-  word_by inner None None t ts = name_read alg t ts
+  -- ---- lane operations that there aren't
+  -- the next operand and those behind it, where what stands there is no amount
+  abbrev pub loose_next : (List (List ℕ) → Read P) → (P → List (List ℕ) → Read (Amount × P)) → P → List (List ℕ) → Read Amount → Read (Amount × P)
+  loose_next inner more p us (Some q) = Some ((q.0, p), q.1)
+  loose_next inner more p us None = then_read (inner us) (λ q vs. more (alg.join p q) vs)
 
-  abbrev pub atom_by : (List (List ℕ) → Read P) → List ℕ → List (List ℕ) → Read P
-  atom_by inner t ts =
-      if bytes_eq t (codes "(") then closed alg inner ts else (if bytes_eq t (codes "{") then typed_read ts else (if bytes_eq t (codes "select") then choice_read alg inner ts
-      else word_by inner (op_in call_ops t) (ptype_of t) t ts))
+  abbrev pub loose_on : (List (List ℕ) → Read P) → (P → List (List ℕ) → Read (Amount × P)) → P → List (List ℕ) → Option (List (List ℕ)) → Read (Amount × P)
+  loose_on inner more p ts None = Some ((no_amount, p), ts)
+  loose_on inner more p ts (Some us) = loose_next inner more p us (exponent_read most depth us)
 
-  abbrev pub atom_read : (List (List ℕ) → Read P) → List (List ℕ) → Read P
-  atom_read inner [] = None
-  atom_read inner (t ∷ ts) = atom_by inner t ts
+  -- any number of operands, and an amount or none
+  abbrev pub loose_more : (List (List ℕ) → Read P) → ℕ → P → List (List ℕ) → Read (Amount × P)
+  loose_more inner zero p ts = None
+  loose_more inner (suc left) p ts = loose_on inner (loose_more inner left) p ts (after (codes ",") ts)
 
-  abbrev pub product_read : (List (List ℕ) → Read P) → List (List ℕ) → Read P
-  product_read inner ts = then_read (atom_read inner ts) (chain (sign_by times_of) (pair_link alg (atom_read inner)) most)
+  abbrev pub loose_operands : (List (List ℕ) → Read P) → Option PatType → List (List ℕ) → Read P
+  loose_operands inner to ts =
+      then_read (inner ts) (λ first us. then_read (loose_more inner most first us) (λ q vs. option_map (λ ws. (alg.lane None to q.0 q.1, ws)) (after (codes ")") vs)))
 
-  abbrev pub summed_read : (List (List ℕ) → Read P) → List (List ℕ) → Read P
-  summed_read inner ts = then_read (product_read inner ts) (chain (sign_by sum_op_of) (pair_link alg (product_read inner)) most)
+  -- what stands behind the word of a lane operation that there isn't
+  abbrev pub loose_read : (List (List ℕ) → Read P) → List (List ℕ) → Read P
+  loose_read inner ts = on_behind (after (codes "(") ts) (λ us. then_read (loose_stated us) (loose_operands inner))
 
-  abbrev pub whole_read : (List (List ℕ) → Read P) → List (List ℕ) → Read P
-  whole_read inner ts = then_read (summed_read inner ts) (chain (sign_by shift_of) shift_link most)
+-- ---- sides, `depth` being how deep brackets may still be nested
+module _ {P : Type 0} (alg : Algebra P) (most : ℕ) where
+  abbrev pub call_read : (List (List ℕ) → Read P) → ℕ → Op → List (List ℕ) → Read P
+  call_read inner depth o ts = option_map (λ q. (alg.node o q.0.0.0 q.0.0.1 q.0.1, q.1)) (arguments_read alg most (depth - 1) inner (shape_of o) ts)
 
-  -- an expression with round brackets nested at most so deep, less one; none with 0
-  abbrev pub side_read : ℕ → List (List ℕ) → Read P
-  side_read zero ts = None
-  side_read (suc depth) ts = whole_read (side_read depth) ts
+  abbrev pub lane_read : (List (List ℕ) → Read P) → ℕ → LaneName → List (List ℕ) → Read P
+  lane_read inner depth o ts = option_map (λ q. (alg.lane (Some o) q.0.0.0 q.0.0.1 q.0.1, q.1)) (arguments_read alg most (depth - 1) inner (lane_shape o) ts)
+
+  abbrev pub word_by : (List (List ℕ) → Read P) → ℕ → Option Op → Option PatType → List ℕ → List (List ℕ) → Read P
+  word_by inner depth (Some o) ty t ts = call_read inner depth o ts
+  word_by inner depth None (Some ty) t ts = cast_read alg inner ty ts
+  word_by inner depth None None t ts = name_read alg t ts
+
+  abbrev pub operators_by : (List (List ℕ) → Read P) → ℕ → List ℕ → List (List ℕ) → Read P
+  operators_by inner depth t ts = if bytes_eq t (codes "select") then choice_read alg inner ts else word_by inner depth (op_in call_ops t) (ptype_of t) t ts
+
+  abbrev pub lane_by : (List (List ℕ) → Read P) → ℕ → Option LaneName → List ℕ → List (List ℕ) → Read P
+  lane_by inner depth (Some op) t ts = lane_read inner depth op ts
+  lane_by inner depth None t ts = if is_word t then loose_read alg most (depth - 1) inner ts else None
+
+  abbrev pub lane_call : (List (List ℕ) → Read P) → ℕ → List (List ℕ) → Read P
+  lane_call inner depth [] = None
+  lane_call inner depth (t ∷ ts) = lane_by inner depth (lane_in lane_ops t) t ts
+
+  abbrev pub lanes_by : (List (List ℕ) → Read P) → ℕ → List ℕ → List (List ℕ) → Read P
+  lanes_by inner depth t ts = if bytes_eq t (codes "@") then lane_call inner depth ts else name_read alg t ts
+
+  abbrev pub atom_of : Language → (List (List ℕ) → Read P) → ℕ → List ℕ → List (List ℕ) → Read P
+  atom_of Operators = operators_by
+  atom_of Lanes = lanes_by
+
+  abbrev pub atom_by : Language → (List (List ℕ) → Read P) → ℕ → List ℕ → List (List ℕ) → Read P
+  atom_by l inner depth t ts =
+      if bytes_eq t (codes "(") then closed alg inner ts else (if bytes_eq t (codes "{") then typed_read alg most depth ts else atom_of l inner depth t ts)
+
+  abbrev pub atom_read : Language → (List (List ℕ) → Read P) → ℕ → List (List ℕ) → Read P
+  atom_read l inner depth [] = None
+  atom_read l inner depth (t ∷ ts) = atom_by l inner depth t ts
+
+  abbrev pub product_read : (List (List ℕ) → Read P) → ℕ → List (List ℕ) → Read P
+  product_read inner depth ts = then_read (atom_read Operators inner depth ts) (chain (sign_by times_of) (pair_link alg (atom_read Operators inner depth)) most)
+
+  abbrev pub summed_read : (List (List ℕ) → Read P) → ℕ → List (List ℕ) → Read P
+  summed_read inner depth ts = then_read (product_read inner depth ts) (chain (sign_by sum_op_of) (pair_link alg (product_read inner depth)) most)
+
+  abbrev pub whole_read : (List (List ℕ) → Read P) → ℕ → List (List ℕ) → Read P
+  whole_read inner depth ts = then_read (summed_read inner depth ts) (chain (sign_by shift_of) (shift_link alg most depth) most)
+
+  abbrev pub language_read : Language → (List (List ℕ) → Read P) → ℕ → List (List ℕ) → Read P
+  language_read Operators inner depth ts = whole_read inner depth ts
+  language_read Lanes inner depth ts = atom_read Lanes inner depth ts
+
+  -- a side with round brackets nested less deep than this; none with 0
+  abbrev pub side_read : Language → ℕ → List (List ℕ) → Read P
+  side_read l zero ts = None
+  side_read l (suc depth) ts = language_read l (side_read l depth) depth ts
+
+-- what an algebra makes of an expression
+abbrev pub made : {P : Type 0} → Algebra P → Written → P
+made alg (Name w) = alg.name w
+made alg (Typed n ty) = alg.typed n ty
+made alg (Pair a b) = alg.join (made alg a) (made alg b)
+made alg (Node op to k args) = alg.node op to k (made alg args)
+made alg (Lane op to k args) = alg.lane op to k (made alg args)

@@ -1,5 +1,5 @@
 use Rattle.std.proofs.Common.{◌≡◌, drop}
-use Rattle.pf_rulefile.specs.Steps.FieldReads.{axiom_in}
+use Rattle.pf_rulefile.specs.Meaning.Says.{axiom_in}
 use Rattle.pf_rulefile.proofs.field.axiom_in.Given as goal
 
 abbrev pub invariant-loop-axiom : goal.invariant-loop-axiom

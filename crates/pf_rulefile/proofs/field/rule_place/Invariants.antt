@@ -1,5 +1,5 @@
 use Rattle.std.proofs.Common.{◌≡◌, drop}
-use Rattle.pf_rulefile.specs.Steps.FieldReads.{rule_place}
+use Rattle.pf_rulefile.specs.Meaning.Says.{rule_place}
 use Rattle.pf_rulefile.proofs.field.rule_place.Given as goal
 
 abbrev pub invariant-loop-n : goal.invariant-loop-n

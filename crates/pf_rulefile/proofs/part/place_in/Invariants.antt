@@ -1,5 +1,5 @@
 use Rattle.std.proofs.Common.{◌≡◌, drop}
-use Rattle.pf_rulefile.specs.Steps.Parts.{place_in}
+use Rattle.pf_rulefile.specs.Meaning.Says.{place_in}
 use Rattle.pf_rulefile.proofs.part.place_in.Given as goal
 
 abbrev pub invariant-loop-n : goal.invariant-loop-n

@@ -1,6 +1,7 @@
 use Rattle.std.proofs.Common.{◌≡◌, ◌+◌, ◌≤◌, ◌<◌, length}
 use Rattle.std.specs.Str.Lines.{lines}
-use Rattle.pf_rulefile.specs.Steps.FileReads.{IsReading, nothing, lines_from}
+use Rattle.pf_rulefile.specs.Steps.FileReads.{IsReading, lines_from}
+use Rattle.pf_rulefile.specs.Meaning.Says.{nothing}
 use Rattle.pf_rulefile.proofs.read.read_lines.Given as goal
 
 abbrev pub invariant-lines : goal.invariant-lines
