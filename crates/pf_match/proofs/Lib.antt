@@ -1,2 +1,5 @@
 pub mod TrialLaws
 pub mod MatchLaws
+pub mod KeyLaws
+pub mod CandidateLaws
+pub mod ListLaws

@@ -5,7 +5,7 @@ use Rattle.std.proofs.lemmas.Bool.{and_parts, cases_eq, cases_lt, leb-true, ltb-
 use Rattle.std.proofs.lemmas.Int.{ints}
 use Rattle.std.specs.List.{range_with_len}
 use Rattle.pf_values.specs.declared.term.Term.{Term}
-use Rattle.pf_values.specs.Meaning.Terms.{all_true, stated_type}
+use Rattle.pf_values.specs.Meaning.Terms.{all_true}
 use Rattle.pf_bounds.specs.declared.ranges.Ranges.{Ranges}
 use Rattle.pf_rules.specs.declared.instances.Binding.{Binding}
 use Rattle.pf_rules.specs.declared.pattern.Pattern.{Pattern}
@@ -13,14 +13,14 @@ use Rattle.pf_rules.specs.declared.rule.RuleParts.{RuleParts}
 use Rattle.pf_rules.specs.declared.rule.VarDecl.{VarDecl}
 use Rattle.pf_rules.specs.declared.shifts.Pair.{Pair}
 use Rattle.pf_rules.specs.Meaning.Counts.{occurrences, occurrences_step, is_formed, formed_step, all_stand}
-use Rattle.pf_rules.specs.Meaning.Instances.{instance_by, instance_of, HaveTypes}
+use Rattle.pf_rules.specs.Meaning.Instances.{instance_by, HaveTypes}
 use Rattle.pf_rules.specs.Meaning.Rules.{is_rule, is_widths, is_width, rises, is_free_shift, is_within_limits, has_sides, pair, pairs, pairs_at, shifts_at, shifts_from, first_bad}
 use Rattle.pf_rules.specs.Meaning.Numbers.{number_at}
 use Rattle.pf_rules.specs.declared.number.Number.{Number}
 use Rattle.pf_rules.proofs.InstanceLaws.{fold_var, fold_const, fold_node, AllBoth, instance_goes, instance_agrees, occurs_var, sum_first}
-use Rattle.pf_match.specs.Meaning.Matches.{LiesInside, LieInside, at_binding, IsMatch, IsBefore, Match}
+use Rattle.pf_match.specs.Meaning.Matches.{LieInside, at_binding, IsMatch, IsBefore, Match}
 use Rattle.pf_match.specs.Steps.Trials.{standing, IsBound, AreBoundFrom, AreTermsOf, Fits, FitsAt}
-use Rattle.pf_match.proofs.TrialLaws.{Stands, instance_stands}
+use Rattle.pf_match.proofs.TrialLaws.{instance_stands}
 
 -- ---- which variables stand in a formed pattern
 

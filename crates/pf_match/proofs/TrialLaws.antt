@@ -1,9 +1,8 @@
 -- What stands for the variables of a pattern, and when a node is a pattern's.
-use Rattle.std.proofs.Common.{◌≡◌, refl, sym, ap, ◌∙◌, subst, ℕ, zero, suc, ◌+◌, ◌<◌, ◌≤◌, ◌==◌, ◌↔◌, ℤ, pos, Bool, true, false, List, [], ◌∷◌, length, map, get_or, take, drop, ◌++◌, ◌-◌, Option, Some, None, arith, ◌⊎◌, inl, inr}
-use Rattle.std.specs.Prelude.{All, IsSome, IsTrue, option_and_then, option_map, slice_get, sum, if◌then◌else◌}
+use Rattle.std.proofs.Common.{◌≡◌, refl, sym, ap, ◌∙◌, subst, ℕ, zero, suc, ◌+◌, ◌<◌, ◌≤◌, ◌==◌, ◌↔◌, pos, Bool, true, false, List, [], ◌∷◌, length, map, get_or, take, drop, ◌++◌, ◌-◌, Option, Some, None, arith, ◌⊎◌, inl, inr}
+use Rattle.std.specs.Prelude.{All, IsSome, IsTrue, slice_get, sum, if◌then◌else◌}
 use Rattle.std.proofs.lemmas.Bool.{eq-eqb, cases_eq}
 use Rattle.std.proofs.lemmas.List.{drop_more, drop_all, take_all, length-map, length_push}
-use Rattle.std.proofs.lemmas.List.Sums.{sum_by-cons}
 use Rattle.pf_ints.specs.declared.lane.LaneType.{LaneType}
 use Rattle.pf_values.specs.declared.op.Op.{Op}
 use Rattle.pf_values.specs.declared.op.Op.TheVariants.{SelectGreater, SelectEqual}
@@ -12,7 +11,7 @@ use Rattle.pf_values.specs.declared.row.Gives.TheVariants.{Stated, First, Unsign
 use Rattle.pf_values.specs.declared.term.Term.{Term}
 use Rattle.pf_values.specs.declared.term.Term.TheVariants as term
 use Rattle.pf_values.specs.Meaning.Operators.{row_of}
-use Rattle.pf_values.specs.Meaning.Terms.{stated_type, same_type, result_type, operand_count, IsWellTyped}
+use Rattle.pf_values.specs.Meaning.Terms.{stated_type, result_type, operand_count, IsWellTyped}
 use Rattle.pf_values.proofs.Typing.{same_self}
 use Rattle.pf_values.proofs.NodeRanges.{judged, same_type_is}
 use Rattle.pf_values.proofs.TermRanges.{AreTyped, IsTypedNode, typed_node}
@@ -24,18 +23,17 @@ use Rattle.pf_bounds.specs.Meaning.TermBounds.{operands}
 use Rattle.pf_bounds.proofs.PlaceLaws.{operands_node, marks_interval}
 use Rattle.pf_bounds.proofs.TermLaws.{counted}
 use Rattle.pf_rules.specs.declared.number.Amount.{Amount as AmountOf}
-use Rattle.pf_rules.specs.declared.number.Number.{Number as NumberOf}
 use Rattle.pf_rules.specs.declared.pattern.PatType.{PatType}
 use Rattle.pf_rules.specs.declared.pattern.Pattern.{Pattern}
-use Rattle.pf_rules.specs.declared.pattern.Pattern.TheVariants.{Var, Const, Node}
+use Rattle.pf_rules.specs.declared.pattern.Pattern.TheVariants.{Var, Node}
 use Rattle.pf_rules.specs.declared.rule.VarDecl.{VarDecl}
 use Rattle.pf_rules.specs.declared.shifts.Pair.{Pair}
 use Rattle.pf_rules.specs.Meaning.Rules.{pair, range_at}
 use Rattle.pf_rules.specs.Meaning.Counts.{occurrences, occurrences_step}
-use Rattle.pf_rules.specs.Meaning.Numbers.{number_at, amount_at}
+use Rattle.pf_rules.specs.Meaning.Numbers.{amount_at}
 use Rattle.pf_rules.specs.Meaning.Sorts.{lane_at, stated_at, type_or, op_gives}
 use Rattle.pf_rules.specs.Meaning.Instances.{all_of, node_over, instance_step, instance_by}
-use Rattle.pf_rules.proofs.InstanceLaws.{fold_var, fold_const, fold_node, from_head, IsNodeOver, node_parts, node_made, node_same, AllBoth, instance_goes, occurs_var, occurs_self, sum_first}
+use Rattle.pf_rules.proofs.InstanceLaws.{fold_var, fold_const, fold_node, from_head, node_parts, node_made, node_same, AllBoth, instance_goes, occurs_var, sum_first}
 use Rattle.pf_match.specs.Steps.Trials.{this_or, first_in, standing_step, standing, is_type, IsHead, IsBound, AreBoundFrom, AreTermsOf}
 
 -- ---- what stands for a variable

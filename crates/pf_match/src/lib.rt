@@ -2,7 +2,13 @@
 #![tactic(auto)]
 
 mod equality;
+mod index;
+mod key;
+mod lists;
 mod matching;
+mod roots;
 mod trials;
 
+pub use index::Index;
+pub use key::{RuleKey, TypeList};
 pub use matching::{match_at, match_kept};

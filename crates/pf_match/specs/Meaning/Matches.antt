@@ -1,5 +1,5 @@
 -- Which terms a rule's left side is, and with which terms for its variables.
-use Rattle.std.specs.Prelude.{◌≡◌, ℕ, ◌<◌, ◌⊎◌, true, List, [], ◌∷◌, Option, Some, None, Contains}
+use Rattle.std.specs.Prelude.{◌≡◌, ◌<◌, ◌⊎◌, true, List, [], ◌∷◌, Option, Some, None, Contains}
 use Rattle.pf_ints.specs.Meaning.Ranges.{Range, lies_in}
 use Rattle.pf_values.specs.declared.term.Term.{Term}
 use Rattle.pf_bounds.specs.declared.ranges.Ranges.{Ranges}

@@ -1,4 +1,4 @@
-use Rattle.std.proofs.Common.{rules, ◌≡◌, sym, ◌∙◌, length}
+use Rattle.std.proofs.Common.{rules, ◌≡◌}
 use Rattle.pf_match.proofs.TrialLaws.{equal_start}
 use Rattle.pf_match.proofs.equality.+equal.Goals as goal
 

@@ -1,6 +1,4 @@
-use Rattle.std.proofs.Common.{rules, ◌≡◌, refl, sym, ◌∙◌, subst, ℕ, ◌<◌, true, false}
-use Rattle.std.specs.Prelude.{Option}
-use Rattle.pf_values.specs.declared.term.Term.{Term}
+use Rattle.std.proofs.Common.{rules, ◌≡◌, refl, sym, subst, ◌<◌, true, false}
 use Rattle.pf_rules.specs.declared.rule.VarDecl.{VarDecl}
 use Rattle.std.specs.Prelude.{List}
 use Rattle.pf_match.specs.Steps.Trials.{standing, AreBoundFrom, AreTermsOf}

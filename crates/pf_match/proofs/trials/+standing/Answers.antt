@@ -1,4 +1,4 @@
-use Rattle.std.proofs.Common.{sym, ◌∙◌}
+use Rattle.std.proofs.Common.{sym}
 use Rattle.pf_bounds.specs.Meaning.TermBounds.{operands}
 use Rattle.pf_match.specs.Steps.Trials.{standing}
 use Rattle.pf_match.proofs.TrialLaws.{first_more, first_is, first_over}

@@ -1,4 +1,4 @@
-use Rattle.std.proofs.Common.{rules, ◌≡◌, sym, ap, ◌∙◌, true, Some}
+use Rattle.std.proofs.Common.{rules, ◌≡◌, ap, ◌∙◌, true, Some}
 use Rattle.pf_values.specs.Meaning.Terms.{stated_type}
 use Rattle.pf_rules.specs.Meaning.Sorts.{lane_at}
 use Rattle.pf_match.proofs.TrialLaws.{inside_told}

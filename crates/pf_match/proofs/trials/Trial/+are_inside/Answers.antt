@@ -1,4 +1,4 @@
-use Rattle.std.proofs.Common.{rules, ◌≡◌, sym, ◌∙◌, true, false}
+use Rattle.std.proofs.Common.{rules, ◌≡◌, sym, true, false}
 use Rattle.pf_rules.specs.Meaning.Rules.{pair}
 use Rattle.pf_match.specs.Steps.Trials.{bound}
 use Rattle.pf_match.proofs.TrialLaws.{inside_more, inside_not, clash, fails}

@@ -1,4 +1,4 @@
-use Rattle.std.proofs.Common.{rules, ◌≡◌, sym, ap, ◌∙◌, true, false, length}
+use Rattle.std.proofs.Common.{rules, ◌≡◌, sym, ◌∙◌, true, false, length}
 use Rattle.pf_rules.specs.Meaning.Instances.{instance_by}
 use Rattle.pf_match.specs.Steps.Trials.{bound}
 use Rattle.pf_match.proofs.TrialLaws.{head_found, head_given, operands_typed, rest_more, rest_not, clash, fails, over_args, many_found}

@@ -1,4 +1,4 @@
-use Rattle.std.proofs.Common.{◌≡◌, sym, ap, ◌∙◌, subst, None, Some}
+use Rattle.std.proofs.Common.{sym, ap, ◌∙◌, Some}
 use Rattle.pf_match.specs.Steps.Trials.{bound}
 use Rattle.pf_match.proofs.TrialLaws.{terms_more, none_there}
 use Rattle.pf_match.proofs.trials.Trial.terms.Goals as goal
