@@ -2,7 +2,11 @@
 #![tactic(auto)]
 
 #[cfg(test)]
+mod candidates;
+#[cfg(test)]
 mod checks;
+#[cfg(test)]
+mod lifting;
 #[cfg(test)]
 mod rulefile;
 #[cfg(test)]
