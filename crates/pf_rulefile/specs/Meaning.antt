@@ -5,3 +5,4 @@ pub mod Lines
 pub mod Says
 pub mod RuleTexts
 pub mod RuleFiles
+pub mod FaultWords

@@ -1,5 +1,6 @@
 ghost use Rattle.std.specs.Prelude.{◌≡◌};
 ghost use Rattle.pf_rulefile.specs.declared.fault.LineStop.TheVariants.{Memory};
+ghost use Rattle.pf_rulefile.specs.Meaning.FaultWords.{fault_word};
 ghost use Rattle.pf_rulefile.specs.Steps.LineReads.{line_stop};
 
 use crate::stop::Stop;
@@ -18,6 +19,21 @@ pub enum RuleTextKind {
     Unbound,
     /// A limit is passed.
     Limit,
+}
+
+impl RuleTextKind {
+    /// The kind in one word of small letters.
+    pub fn word(self) -> &'static [u8]
+        ensures { result.now ≡ fault_word self }
+    {
+        match self {
+            RuleTextKind::Header => b"header",
+            RuleTextKind::Syntax => b"syntax",
+            RuleTextKind::Name => b"name",
+            RuleTextKind::Unbound => b"unbound",
+            RuleTextKind::Limit => b"limit",
+        }
+    }
 }
 
 /// Why a text is no rule file.

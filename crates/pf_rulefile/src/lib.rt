@@ -18,4 +18,4 @@ mod write_side;
 
 pub use fault::{RuleTextFault, RuleTextKind};
 pub use read::read_rules;
-pub use write::write_rules;
+pub use write::{kind_word, write_migrated, write_path, write_rules};

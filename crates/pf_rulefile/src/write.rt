@@ -1,6 +1,6 @@
 ghost use Rattle.std.specs.Prelude.{◌≡◌, ◌++◌, IfOk, OnOk, slice_get};
 ghost use Rattle.std.specs.List.{flat_map};
-ghost use Rattle.pf_rulefile.specs.Meaning.RuleTexts.{kind_word, width_text, range_or_none, ended, shift_text, var_text, child_text, path_text, by_text, step_side_text, step_text, rule_name, head_text, sides_text, rule_text, rules_text, pattern_text};
+ghost use Rattle.pf_rulefile.specs.Meaning.RuleTexts.{kind_word, width_text, range_or_none, ended, shift_text, var_text, child_text, path_text, by_text, step_side_text, step_text, rule_name, head_text, sides_text, rule_text, rules_text, in_format, pattern_text};
 
 use crate::write_number::{write_ptype, write_range};
 use crate::write_side::write_pattern;
@@ -14,22 +14,33 @@ pub fn write_rules(alloc: Global, file: &RuleFile) -> Result<Vec<u8>, AllocError
     ensures { IfOk result (λ text. text.items ≡ rules_text file.now) }
 {
     let mut text = Vec::new(alloc);
-    write_file(&mut text, file.parts())?;
+    let parts = file.parts();
+    write_file(&mut text, parts.format, parts)?;
     Ok(text)
 }
 
-fn write_file(text: &mut Vec<u8>, file: &FileParts) -> Result<(), AllocError>
-    ensures { OnOk result (text.new.items ≡ text.old.items ++ rules_text file.now) }
+/// The text of the file's rules in format 2, in which a step may cite an earlier rule.
+pub fn write_migrated(alloc: Global, file: &RuleFile) -> Result<Vec<u8>, AllocError>
+    ensures { IfOk result (λ text. text.items ≡ rules_text (in_format 2 file.now)) }
+{
+    let mut text = Vec::new(alloc);
+    write_file(&mut text, 2, file.parts())?;
+    Ok(text)
+}
+
+fn write_file(text: &mut Vec<u8>, format: u8, file: &FileParts) -> Result<(), AllocError>
+    ensures { OnOk result (text.new.items ≡ text.old.items ++ rules_text (in_format format file.now)) }
 {
     text.extend_from_slice(b"rules ")?;
-    push_number(text, u64::from(file.format))?;
+    push_number(text, u64::from(format))?;
     text.extend_from_slice(b" ")?;
     text.extend_from_slice(kind_word(file.kind))?;
     text.extend_from_slice(b"\n")?;
     write_all(text, file.rules.as_slice())
 }
 
-fn kind_word(kind: Kind) -> &'static [u8]
+/// What the rules of a file are for, in one word: `lift`, or the target's.
+pub fn kind_word(kind: Kind) -> &'static [u8]
     ensures { result.now ≡ kind_word kind }
 {
     match kind {
@@ -162,7 +173,8 @@ fn write_step_side(text: &mut Vec<u8>, left: bool) -> Result<(), AllocError>
     text.extend_from_slice(if left { b"step l " } else { b"step r " })
 }
 
-fn write_path(text: &mut Vec<u8>, path: &[u8]) -> Result<(), AllocError>
+/// Writes the path of a node: `/` for the root, else as `/0/1`.
+pub fn write_path(text: &mut Vec<u8>, path: &[u8]) -> Result<(), AllocError>
     ensures { OnOk result (text.new.items ≡ text.old.items ++ path_text path.now) }
 {
     match path {

@@ -1,8 +1,15 @@
 -- Each command does its work wherever it can.
 use Rattle.std.proofs.Common.{◌≡◌, ℕ, zero, suc, ◌+◌, ◌<◌, take, zip, length, List, [], ◌∷◌, Option, Some, None, Err, ◌∙◌, refl, sym, ap, subst, get_or, arith}
-use Rattle.std.specs.Prelude.{IsSomeAnd, slice_get}
+use Rattle.std.specs.Prelude.{IsSomeAnd, slice_get, true, false, All, ◌++◌}
+use Rattle.pf_check.specs.declared.checked.CheckedParts.{CheckedParts}
+use Rattle.pf_check.specs.declared.fault.RuleFault.{RuleFault}
+use Rattle.pf_check.specs.Meaning.Files.{AllAccepted, AreOutcomes, entry}
+use Rattle.pf_rules.specs.declared.rule.Kind.{Kind}
+use Rattle.pf_rules.specs.declared.rule.RuleParts.{RuleParts}
+use Rattle.pf_rules.specs.declared.rule_file.FileParts.{FileParts}
 use Rattle.std.specs.List.{AllZip}
 use Rattle.std.proofs.lemmas.List.{take_all}
+use Rattle.std.proofs.lemmas.List.Elements.{All-nil, All-cons}
 use Rattle.std.proofs.lemmas.Option.{slice_get_within}
 use Rattle.std.proofs.lemmas.Slice.Zip.{length-zip}
 use Rattle.pf_ints.specs.Meaning.Images.{Picture}
@@ -26,11 +33,14 @@ use Rattle.pf_outside.specs.Meaning.StoreCalls.{FileStartsWith}
 use Rattle.pf_outside.specs.Meaning.Tasks.{file_name}
 use Rattle.pf_outside.proofs.Tasks.{IsFit}
 use Rattle.pf_top.specs.declared.fault.Failure.{Failure}
-use Rattle.pf_top.specs.declared.fault.Failure.TheVariants.{Target as NoTarget, NoText, Count, Run as RunFailure}
+use Rattle.pf_top.specs.declared.fault.Failure.TheVariants.{Target as NoTarget, NoText, Count, Run as RunFailure, RulesRefused}
 use Rattle.pf_top.specs.declared.fault.FileFault.{FileFault}
-use Rattle.pf_top.specs.Meaning.Commands.{Command, Selecting, Running, Evaluating, task_of}
+use Rattle.pf_top.specs.Meaning.Checking.{Check, FailsCheck, HasAccepted, checking}
+use Rattle.pf_top.specs.Meaning.Migrating.{Migrate, IsMigratable, migrating}
+use Rattle.pf_top.specs.Meaning.Commands.{Command, Selecting, Checking, Migrating, Running, Evaluating, task_of}
 use Rattle.pf_top.specs.Meaning.Files.{image_file, image_limit, kernel_file, rule_file, IsImageFile}
 use Rattle.pf_top.specs.Meaning.Running.{Language, Run, FilesHold, HoldsImage, IsImageThere, IsRunnable, RefusesRun, FailsRun, RunsTo, Evaluates, kernels, programs, running}
+use Rattle.pf_top.specs.Meaning.RuleFiles.{rules_for}
 use Rattle.pf_top.specs.Meaning.Selections.{Select, IsSelectable, RefusesSelect, FailsSelect, lift_text, lower_text, selecting}
 use Rattle.pf_select.specs.Meaning.Targets.{IsBuilt}
 
@@ -78,9 +88,49 @@ module _ (s : Select) where
       fails.2 (subst (λ (k : Meaning). IsBuilt s.target k.source) (sym same) can.built)
   goes_on (Count want got) m can fails = fails
   goes_on (RunFailure e) m can fails = fails
+  goes_on (RulesRefused lines) m can fails = fails
 
   pub select_fits : IsFit (selecting s)
   select_fits = record { there = λ n m can _ low none. there n m can low none; accepted = λ n e m can _ none. accepted n e m can none; goes_on = goes_on }
+
+-- ---- `check`
+
+none_refused : (kind : Kind) (earlier : List (Option CheckedParts)) (rs : List RuleParts) (os : List (Option RuleFault)) → AllAccepted kind earlier rs → AreOutcomes kind earlier rs os → All (λ o. o ≡ None) os
+none_refused kind earlier [] [] good are = All-nil (λ o. o ≡ None)
+none_refused kind earlier [] (o ∷ os) good are = absurd are
+none_refused kind earlier (r ∷ rs) [] good are = absurd are
+none_refused kind earlier (r ∷ rs) (None ∷ os) good are = All-cons (λ o. o ≡ None) None os refl (none_refused kind (earlier ++ entry kind r ∷ []) rs os good.1 are.1)
+none_refused kind earlier (r ∷ rs) (Some e ∷ os) good are = absurd (are.0.0 good.0)
+
+module _ (c : Check) where
+  rules_go_on : (f : Failure) (m : Contents) → HasAccepted c m → FailsCheck c f m → ⊥
+  rules_go_on (RulesRefused lines) m can fails =
+      let same : fails.0 ≡ can.0 = same_held (rules_for (Some c.target)) c.file fails.0 can.0 m fails.1 can.1 in
+      let good : AllAccepted fails.0.kind [] fails.0.rules = subst (λ (f : FileParts). AllAccepted f.kind [] f.rules) (sym same) can.2 in
+      let all : All (λ o. o ≡ None) fails.2.0 = none_refused fails.0.kind [] fails.0.rules fails.2.0 good fails.2.1 in
+      let yes : false ≡ true = fails.2.3.1 all in
+      absurd (cc)
+  rules_go_on (NoTarget t) m can fails = fails
+  rules_go_on NoText m can fails = fails
+  rules_go_on (Count want got) m can fails = fails
+  rules_go_on (RunFailure e) m can fails = fails
+
+  file_there : (n : ℕ) (m : Contents) → HasAccepted c m → n < 1 → m (file_name (checking c) n) ≡ None → ⊥
+  file_there zero m can low none = not_missing (m c.file) _ none can.1
+  file_there (suc n) m can low none = absurd (omega (arith, low))
+
+  check_fits : IsFit (checking c)
+  check_fits = record { there = λ n m can _ low none. file_there n m can low none; accepted = λ n e m can _ none. not_refused (rules_for (Some c.target)) c.file can.0 e m none can.1; goes_on = rules_go_on }
+
+-- ---- `migrate`
+
+module _ (g : Migrate) where
+  rules_there : (n : ℕ) (m : Contents) → IsMigratable g m → n < 1 → m (file_name (migrating g) n) ≡ None → ⊥
+  rules_there zero m can low none = not_missing (m g.file) _ none can.1
+  rules_there (suc n) m can low none = absurd (omega (arith, low))
+
+  migrate_fits : IsFit (migrating g)
+  migrate_fits = record { there = λ n m can _ low none. rules_there n m can low none; accepted = λ n e m can _ none. not_refused (rules_for None) g.file can.0 e m none can.1; goes_on = λ f m can fails. fails }
 
 -- ---- `run` and `eval`
 
@@ -140,6 +190,7 @@ module _ {P : Type 0} (l : Language P) (r : Run) (m : Contents) (can : IsRunnabl
   run_goes_on : ((e : RunFault) (p : P) (pictures : List Picture) → l.Works p pictures → l.Ends p pictures (Err e) → ⊥) → (f : Failure) → FailsRun l r f m → ⊥
   run_goes_on ends (NoTarget t) fails = fails
   run_goes_on ends NoText fails = fails
+  run_goes_on ends (RulesRefused lines) fails = fails
   run_goes_on ends (Count want got) fails =
       let same : fails.0 ≡ can.meaning = same_meaning fails.0 fails.1 in
       let heads : length (l.decls fails.0) ≡ length (l.decls can.meaning) = ap (λ (p : P). length (l.decls p)) same in
@@ -184,5 +235,7 @@ evaluates RunMemory k pictures keeps ends = ends
 -- each command's task
 pub fits : (c : Command) → IsFit (task_of c)
 fits (Selecting s) = select_fits s
+fits (Checking c) = check_fits c
+fits (Migrating m) = migrate_fits m
 fits (Running r) = run_fits programs r returns
 fits (Evaluating e) = run_fits kernels e evaluates

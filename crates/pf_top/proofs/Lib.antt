@@ -1,4 +1,5 @@
 pub mod SixWords
+pub mod ThreeWords
 pub mod RunLists
 pub mod SameWords
 pub mod OneCommand
@@ -8,6 +9,9 @@ pub mod ImageLists
 pub mod Running
 pub mod Allowing
 pub mod Selecting
+pub mod RuleFiles
+pub mod Checking
+pub mod Migrating
 pub mod Completing
 pub mod Agreement
 pub mod Telling

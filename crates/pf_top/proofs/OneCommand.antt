@@ -4,7 +4,9 @@ use Rattle.std.specs.Prelude.{codes}
 use Rattle.pf_ints.specs.declared.target.Target.{Target}
 use Rattle.pf_ints.specs.declared.target.Target.TheVariants.{Neon, Avx2, Hvx}
 use Rattle.pf_ints.specs.Meaning.Targets.{target_word}
-use Rattle.pf_top.specs.Meaning.Commands.{Command, Selecting, Running, Evaluating, IsCommand}
+use Rattle.pf_top.specs.Meaning.Checking.{Check, IsCheck}
+use Rattle.pf_top.specs.Meaning.Migrating.{Migrate, IsMigrate}
+use Rattle.pf_top.specs.Meaning.Commands.{Command, Selecting, Checking, Migrating, Running, Evaluating, IsCommand}
 use Rattle.pf_top.specs.Meaning.Running.{Run, IsRunCommand}
 use Rattle.pf_top.specs.Meaning.Selections.{Select, IsSelect}
 use Rattle.pf_top.proofs.SameWords.{same_run}
@@ -40,6 +42,27 @@ same_select words s t is also =
         → ◌≡◌ {A = Select} (record { target = target; kernel = kernel; lift = lift; lower = lower; out = out }) t
     made target kernel lift lower out t a b c d e = rw (a, b, c, d, e) refl
 
+same_check : (words : List (List ℕ)) (c d : Check) → IsCheck words c → IsCheck words d → c ≡ d
+same_check words c d is also =
+    let words_are : codes "check" ∷ target_word c.target ∷ c.file ∷ [] ≡ codes "check" ∷ target_word d.target ∷ d.file ∷ [] = sym is ∙ also in
+    let word : target_word c.target ≡ target_word d.target = cc in
+    let target : c.target ≡ d.target = same_target c.target d.target word in
+    let file : c.file ≡ d.file = cc in
+    made c.target c.file d target file
+  where
+    made : (target : Target) (file : List ℕ) (d : Check) → target ≡ d.target → file ≡ d.file → ◌≡◌ {A = Check} (record { target = target; file = file }) d
+    made target file d a b = rw (a, b) refl
+
+same_migration : (words : List (List ℕ)) (m n : Migrate) → IsMigrate words m → IsMigrate words n → m ≡ n
+same_migration words m n is also =
+    let words_are : codes "migrate" ∷ m.file ∷ m.out ∷ [] ≡ codes "migrate" ∷ n.file ∷ n.out ∷ [] = sym is ∙ also in
+    let file : m.file ≡ n.file = cc in
+    let out : m.out ≡ n.out = cc in
+    made m.file m.out n file out
+  where
+    made : (file out : List ℕ) (n : Migrate) → file ≡ n.file → out ≡ n.out → ◌≡◌ {A = Migrate} (record { file = file; out = out }) n
+    made file out n a b = rw (a, b) refl
+
 -- words of other commands are others
 abbrev first_letter : List (List ℕ) → ℕ
 first_letter [] = 0
@@ -50,8 +73,24 @@ other_words words v w first next other = other (ap first_letter (sym first ∙ n
 
 pub one_command : (words : List (List ℕ)) (c d : Command) → IsCommand words c → IsCommand words d → c ≡ d
 one_command words (Selecting s) (Selecting t) is also = ap Selecting (same_select words s t is also)
+one_command words (Checking c) (Checking d) is also = ap Checking (same_check words c d is also)
+one_command words (Migrating m) (Migrating n) is also = ap Migrating (same_migration words m n is also)
 one_command words (Running r) (Running t) is also = ap Running (same_run (codes "run") words r t is also)
 one_command words (Evaluating r) (Evaluating t) is also = ap Evaluating (same_run (codes "eval") words r t is also)
+one_command words (Selecting s) (Checking c) is also = absurd (other_words words _ _ is also (omega arith))
+one_command words (Checking c) (Selecting s) is also = absurd (other_words words _ _ is also (omega arith))
+one_command words (Checking c) (Running r) is also = absurd (other_words words _ _ is also.0 (omega arith))
+one_command words (Checking c) (Evaluating r) is also = absurd (other_words words _ _ is also.0 (omega arith))
+one_command words (Running r) (Checking c) is also = absurd (other_words words _ _ is.0 also (omega arith))
+one_command words (Evaluating r) (Checking c) is also = absurd (other_words words _ _ is.0 also (omega arith))
+one_command words (Selecting s) (Migrating m) is also = absurd (other_words words _ _ is also (omega arith))
+one_command words (Migrating m) (Selecting s) is also = absurd (other_words words _ _ is also (omega arith))
+one_command words (Checking c) (Migrating m) is also = absurd (other_words words _ _ is also (omega arith))
+one_command words (Migrating m) (Checking c) is also = absurd (other_words words _ _ is also (omega arith))
+one_command words (Migrating m) (Running r) is also = absurd (other_words words _ _ is also.0 (omega arith))
+one_command words (Migrating m) (Evaluating r) is also = absurd (other_words words _ _ is also.0 (omega arith))
+one_command words (Running r) (Migrating m) is also = absurd (other_words words _ _ is.0 also (omega arith))
+one_command words (Evaluating r) (Migrating m) is also = absurd (other_words words _ _ is.0 also (omega arith))
 one_command words (Selecting s) (Running r) is also = absurd (other_words words _ _ is also.0 (omega arith))
 one_command words (Selecting s) (Evaluating r) is also = absurd (other_words words _ _ is also.0 (omega arith))
 one_command words (Running r) (Selecting s) is also = absurd (other_words words _ _ is.0 also (omega arith))
@@ -59,7 +98,9 @@ one_command words (Running r) (Evaluating t) is also = absurd (other_words words
 one_command words (Evaluating r) (Selecting s) is also = absurd (other_words words _ _ is.0 also (omega arith))
 one_command words (Evaluating r) (Running t) is also = absurd (other_words words _ _ is.0 also.0 (omega arith))
 
-pub no_command : (words : List (List ℕ)) → ((s : Select) → IsSelect words s → ⊥) → ((r : Run) → IsRunCommand (codes "run") words r → ⊥) → ((r : Run) → IsRunCommand (codes "eval") words r → ⊥) → (c : Command) → IsCommand words c → ⊥
-no_command words none_select none_run none_eval (Selecting s) is = none_select s is
-no_command words none_select none_run none_eval (Running r) is = none_run r is
-no_command words none_select none_run none_eval (Evaluating r) is = none_eval r is
+pub no_command : (words : List (List ℕ)) → ((s : Select) → IsSelect words s → ⊥) → ((c : Check) → IsCheck words c → ⊥) → ((m : Migrate) → IsMigrate words m → ⊥) → ((r : Run) → IsRunCommand (codes "run") words r → ⊥) → ((r : Run) → IsRunCommand (codes "eval") words r → ⊥) → (c : Command) → IsCommand words c → ⊥
+no_command words none_select none_check none_migrate none_run none_eval (Selecting s) is = none_select s is
+no_command words none_select none_check none_migrate none_run none_eval (Checking c) is = none_check c is
+no_command words none_select none_check none_migrate none_run none_eval (Migrating m) is = none_migrate m is
+no_command words none_select none_check none_migrate none_run none_eval (Running r) is = none_run r is
+no_command words none_select none_check none_migrate none_run none_eval (Evaluating r) is = none_eval r is

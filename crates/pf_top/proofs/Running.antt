@@ -16,7 +16,7 @@ use Rattle.pf_outside.proofs.StoreCalls.{After, after_none, begins_before, went_
 use Rattle.pf_outside.proofs.Tasks.{after_judged, stopped, failed, wanted, written}
 use Rattle.pf_run.specs.declared.fault.RunFault.{RunFault}
 use Rattle.pf_top.specs.declared.fault.Failure.{Failure}
-use Rattle.pf_top.specs.declared.fault.Failure.TheVariants.{Target, NoText, Count, Run as RunFailure}
+use Rattle.pf_top.specs.declared.fault.Failure.TheVariants.{Target, NoText, Count, Run as RunFailure, RulesRefused}
 use Rattle.pf_top.specs.declared.fault.FileFault.{FileFault}
 use Rattle.pf_top.specs.Meaning.Files.{image_file, image_limit}
 use Rattle.pf_top.specs.Meaning.Running.{Language, Run, FilesHold, HoldsImage, AllowsRun, running}
@@ -91,6 +91,7 @@ module _ {P : Type 0} (l : Language P) (r : Run) (p : P) (b c : Store) (one : Ju
           failed (running l r) never All (length r.images + 1) b d has_all (RunFailure e) (allowed e ends) refl (omega arith) (λ m is. (p, pictures, is, ends))
       output_stopped allowed (Failed (Target t)) ends = absurd ends
       output_stopped allowed (Failed NoText) ends = absurd ends
+      output_stopped allowed (Failed (RulesRefused lines)) ends = absurd ends
       output_stopped allowed (Failed (Count want got)) ends = absurd ends
       output_stopped allowed (Missing n) ends = absurd ends
       output_stopped allowed (Unreadable n) ends = absurd ends

@@ -16,7 +16,7 @@ use Rattle.pf_outside.proofs.StoreCalls.{After, after_none}
 use Rattle.pf_outside.proofs.Tasks.{after_judged, barred, stopped, failed, wanted, written}
 use Rattle.pf_select.specs.Meaning.Targets.{IsBuilt, IsSelectedOn}
 use Rattle.pf_top.specs.declared.fault.Failure.{Failure}
-use Rattle.pf_top.specs.declared.fault.Failure.TheVariants.{Target as NoTarget, NoText, Count, Run}
+use Rattle.pf_top.specs.declared.fault.Failure.TheVariants.{Target as NoTarget, NoText, Count, Run, RulesRefused}
 use Rattle.pf_top.specs.declared.fault.FileFault.{FileFault}
 use Rattle.pf_top.specs.Meaning.Files.{kernel_file, rule_file, rule_limit}
 use Rattle.pf_top.specs.Meaning.Selections.{Select, IsUnbuilt, BarsSelect, Selects, HoldsLift, HoldsLower, lift_text, lower_text, selecting}
@@ -38,6 +38,7 @@ no_target s b none = barred (selecting s) (NoTarget s.target) b tt refl (refl, n
     only NoText bars = absurd bars
     only (Count want got) bars = absurd bars
     only (Run e) bars = absurd bars
+    only (RulesRefused lines) bars = absurd bars
 
 module _ (s : Select) (some : (source : Source) × IsBuilt s.target source) where
   free : (f : Failure) → BarsSelect s f → ⊥
@@ -45,6 +46,7 @@ module _ (s : Select) (some : (source : Source) × IsBuilt s.target source) wher
   free NoText bars = bars
   free (Count want got) bars = bars
   free (Run e) bars = bars
+  free (RulesRefused lines) bars = bars
 
   -- the kernel's file stops the call
   pub kernel_stopped : (b c : Store) (e : Stop FileFault Failure) → JudgedAs kernel_file 0 s.kernel b (Err e) c → EndsWith (selecting s) b (Err e) c
@@ -63,6 +65,7 @@ module _ (s : Select) (some : (source : Source) × IsBuilt s.target source) wher
     unselected (Failed (NoTarget t)) why = absurd why
     unselected (Failed (Count want got)) why = absurd why
     unselected (Failed (Run e)) why = absurd why
+    unselected (Failed (RulesRefused lines)) why = absurd why
     unselected (Missing n) why = absurd why
     unselected (Unreadable n) why = absurd why
     unselected (Refused n e) why = absurd why

@@ -9,11 +9,12 @@ use Rattle.pf_outside.specs.declared.stop.Stop.TheVariants.{Missing, Unreadable,
 use Rattle.pf_outside.specs.Meaning.Reports.{Report, Output, Reports, wanting, write_failed}
 use Rattle.pf_outside.specs.Meaning.Tasks.{Task, Verdict}
 use Rattle.pf_run.specs.declared.fault.RunFault.TheVariants.{Text as RunText, Set, Outside, Spent, Memory as RunMemory}
+use Rattle.pf_rulefile.specs.declared.fault.RuleTextFault.TheVariants.{At as RulesAt, Memory as RulesMemory}
 use Rattle.pf_run.specs.declared.fault.SetFault.TheVariants.{Count as SetCount, Kind, Size, Pixel, NoOutput}
 use Rattle.pf_top.specs.declared.fault.Failure.{Failure}
-use Rattle.pf_top.specs.declared.fault.Failure.TheVariants.{Target, NoText, Count, Run}
+use Rattle.pf_top.specs.declared.fault.Failure.TheVariants.{Target, NoText, Count, Run, RulesRefused}
 use Rattle.pf_top.specs.declared.fault.FileFault.{FileFault}
-use Rattle.pf_top.specs.declared.fault.FileFault.TheVariants.{Kernel, NotBuilt, Text, LongText, Image, LongImage}
+use Rattle.pf_top.specs.declared.fault.FileFault.TheVariants.{Kernel, Rules, RuleKind, NotBuilt, Text, LongText, Image, LongImage}
 use Rattle.pf_top.specs.Meaning.Statuses.{report_of, report_of_file, report_of_failure}
 
 -- neither of its statuses is 0
@@ -27,6 +28,9 @@ file_told name (Kernel (Name at other)) = (omega arith, omega arith)
 file_told name (Kernel (Types at want got)) = (omega arith, omega arith)
 file_told name (Kernel (Limit what count)) = (omega arith, omega arith)
 file_told name (Kernel KernelMemory) = (omega arith, omega arith)
+file_told name (Rules (RulesAt line kind)) = (omega arith, omega arith)
+file_told name (Rules RulesMemory) = (omega arith, omega arith)
+file_told name (RuleKind kind) = (omega arith, omega arith)
 file_told name NotBuilt = (omega arith, omega arith)
 file_told name (Image (ImageAt at kind)) = (omega arith, omega arith)
 file_told name (Image ImageMemory) = (omega arith, omega arith)
@@ -38,6 +42,7 @@ file_told name LongText = (omega arith, omega arith)
 failure_told : (t : Task FileFault Failure) (f : Failure) → IsSome (report_of_failure t f)
 unfolding wanting
 failure_told t (Target target) = (omega arith, omega arith)
+failure_told t (RulesRefused lines) = (omega arith, omega arith)
 failure_told t NoText = (omega arith, omega arith)
 failure_told t (Count want got) = (omega arith, omega arith)
 failure_told t (Run (Set (SetCount want got))) = (omega arith, omega arith)

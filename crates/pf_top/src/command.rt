@@ -1,9 +1,11 @@
 ghost use Rattle.std.specs.Prelude.{◌≡◌, MatchOption, map, string_bytes};
 ghost use Rattle.pf_top.specs.Meaning.Commands.{Command as CommandOf, IsCommand, task_of};
+ghost use Rattle.pf_top.specs.Meaning.Checking.{Check, IsCheck, checking};
+ghost use Rattle.pf_top.specs.Meaning.Migrating.{Migrate, IsMigrate, migrating};
 ghost use Rattle.pf_top.specs.Meaning.Running.{Run, IsRunCommand, programs, running};
 ghost use Rattle.pf_top.specs.Meaning.Selections.{Select, IsSelect, selecting};
 ghost use Rattle.pf_outside.specs.Meaning.Tasks.{file_name, out_name};
-ghost use Rattle.pf_top.specs.Steps.CommandSteps.{the_command, the_words, the_run};
+ghost use Rattle.pf_top.specs.Steps.CommandSteps.{the_command, the_check, the_migration, the_words, the_run};
 
 use crate::targets::target_of;
 use pf_ints::Target;
@@ -15,6 +17,20 @@ pub struct Selection<'a> {
     pub kernel: &'a str,
     pub lift: &'a str,
     pub lower: &'a str,
+    pub out: &'a str,
+}
+
+/// The words of `check T FILE`.
+#[derive(Clone, Copy)]
+pub struct CheckWords<'a> {
+    pub target: Target,
+    pub file: &'a str,
+}
+
+/// The words of `migrate FILE OUT`.
+#[derive(Clone, Copy)]
+pub struct MigrateWords<'a> {
+    pub file: &'a str,
     pub out: &'a str,
 }
 
@@ -32,6 +48,8 @@ pub struct RunWords<'a> {
 #[derive(Clone, Copy)]
 pub enum Command<'a> {
     Select(Selection<'a>),
+    Check(CheckWords<'a>),
+    Migrate(MigrateWords<'a>),
     Run(RunWords<'a>),
     Eval(RunWords<'a>),
 }
@@ -53,6 +71,41 @@ fn selection_of(words: &[String]) -> Option<Selection<'_>>
         kernel: kernel.as_str(),
         lift: lift.as_str(),
         lower: lower.as_str(),
+        out: out.as_str(),
+    })
+}
+
+/// What the words ask of `check`, or None where they are of another form.
+fn check_of(words: &[String]) -> Option<CheckWords<'_>>
+    ensures { MatchOption result ((c : Check) → IsCheck (map string_bytes words.now) c → ⊥)
+        (λ c. IsCheck (map string_bytes words.now) (the_check c)) }
+{
+    let [check, target, file] = words else {
+        return None;
+    };
+    if check.as_str() != "check" {
+        return None;
+    }
+    let target = target_of(target.as_str())?;
+    Some(CheckWords {
+        target,
+        file: file.as_str(),
+    })
+}
+
+/// What the words ask of `migrate`, or None where they are of another form.
+fn migration_of(words: &[String]) -> Option<MigrateWords<'_>>
+    ensures { MatchOption result ((m : Migrate) → IsMigrate (map string_bytes words.now) m → ⊥)
+        (λ m. IsMigrate (map string_bytes words.now) (the_migration m)) }
+{
+    let [migrate, file, out] = words else {
+        return None;
+    };
+    if migrate.as_str() != "migrate" {
+        return None;
+    }
+    Some(MigrateWords {
+        file: file.as_str(),
         out: out.as_str(),
     })
 }
@@ -87,6 +140,12 @@ pub fn command_of(words: &[String]) -> Option<Command<'_>>
     if let Some(words) = selection_of(words) {
         return Some(Command::Select(words));
     }
+    if let Some(words) = check_of(words) {
+        return Some(Command::Check(words));
+    }
+    if let Some(words) = migration_of(words) {
+        return Some(Command::Migrate(words));
+    }
     if let Some(words) = run_of("run", words) {
         return Some(Command::Run(words));
     }
@@ -108,6 +167,26 @@ fn select_name<'a>(words: &Selection<'a>, number: usize) -> &'a [u8]
     }
 }
 
+/// The name of the file of this number, of a check.
+fn check_name<'a>(words: &CheckWords<'a>, number: usize) -> &'a [u8]
+    ensures { result.now ≡ file_name (checking (the_check words.now)) number }
+{
+    if number == 0 {
+        return words.file.as_bytes();
+    }
+    b""
+}
+
+/// The name of the file of this number, of a migration.
+fn migrate_name<'a>(words: &MigrateWords<'a>, number: usize) -> &'a [u8]
+    ensures { result.now ≡ file_name (migrating (the_migration words.now)) number }
+{
+    if number == 0 {
+        return words.file.as_bytes();
+    }
+    b""
+}
+
 /// The name of the file of this number, of a run.
 fn run_name<'a>(words: &RunWords<'a>, number: usize) -> &'a [u8]
     ensures { result.now ≡ file_name (running programs (the_run words.now)) number }
@@ -127,16 +206,20 @@ pub fn file_name<'a>(command: &Command<'a>, number: usize) -> &'a [u8]
 {
     match command {
         Command::Select(words) => select_name(words, number),
+        Command::Check(words) => check_name(words, number),
+        Command::Migrate(words) => migrate_name(words, number),
         Command::Run(words) | Command::Eval(words) => run_name(words, number),
     }
 }
 
-/// The name of the file that is written.
+/// The name of the file that is written, which is empty where none is.
 pub fn out_name<'a>(command: &Command<'a>) -> &'a [u8]
     ensures { result.now ≡ out_name (task_of (the_command command.now)) }
 {
     match command {
         Command::Select(words) => words.out.as_bytes(),
+        Command::Check(_) => b"",
+        Command::Migrate(words) => words.out.as_bytes(),
         Command::Run(words) | Command::Eval(words) => words.out.as_bytes(),
     }
 }

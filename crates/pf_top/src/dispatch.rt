@@ -4,8 +4,10 @@ ghost use Rattle.pf_outside.specs.Meaning.Tasks.{EndsWith};
 ghost use Rattle.pf_top.specs.Meaning.Commands.{Does, task_of};
 ghost use Rattle.pf_top.specs.Steps.CommandSteps.{the_command};
 
+use crate::check::check;
 use crate::command::Command;
 use crate::fault::Stop;
+use crate::migrate::migrate;
 use crate::run::{eval, run};
 use crate::select::select;
 use crate::statuses::tell_verdict;
@@ -20,6 +22,8 @@ fn verdict_of<F: Files>(alloc: Global, command: &Command<'_>, files: &mut F) -> 
 {
     match command {
         Command::Select(words) => select(alloc, words, files),
+        Command::Check(words) => check(alloc, words, files),
+        Command::Migrate(words) => migrate(alloc, words, files),
         Command::Run(words) => run(alloc, words, files),
         Command::Eval(words) => eval(alloc, words, files),
     }

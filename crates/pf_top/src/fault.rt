@@ -4,12 +4,19 @@ use pf_images::ImageFault;
 use pf_ints::Target;
 use pf_isa::TextFault;
 use pf_kernel::KernelFault;
+use pf_outside::Lines;
+use pf_rulefile::RuleTextFault;
+use pf_rules::Kind;
 use pf_run::RunFault;
 
 /// Why a file is refused.
 pub enum FileFault {
     /// The first fault of a text of no kernel.
     Kernel(KernelFault),
+    /// The first fault of a text of no rules.
+    Rules(RuleTextFault),
+    /// The rules are of this kind, and aren't for the target.
+    RuleKind(Kind),
     /// The rules aren't those that are built.
     NotBuilt,
     /// The first fault of a text of no program.
@@ -23,12 +30,15 @@ pub enum FileFault {
 }
 
 /// Why a call stops whose files so far are good.
-#[derive(Clone, Copy)]
+#[derive(Drop)]
 pub enum Failure {
     /// No text is selected for the target, whatever the kernel.
     Target(Target),
     /// No text is selected for the kernel.
     NoText,
+    /// A rule is refused. These are the lines that say so, and of all other rules of the file that
+    /// they are accepted or refused.
+    RulesRefused(Lines),
     /// The text is for another number of images.
     Count { want: u64, got: u64 },
     /// The text makes no image of the images.

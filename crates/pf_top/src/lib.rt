@@ -1,11 +1,14 @@
 //! The commands of `pitchfork` over any store of files and any output.
 #![tactic(auto)]
 
+mod check;
 mod command;
 mod dispatch;
 mod fault;
 mod image_files;
 mod kernel_file;
+mod migrate;
+mod rule_file;
 mod rules;
 mod run;
 mod select;

@@ -15,6 +15,7 @@ use pf_isa::TextFault;
 use pf_kernel::KernelFault;
 use pf_outside::Piece::{Number, Whole, Word};
 use pf_outside::{Lines, tell_line, tell_lines, tell_want, tell_write_failed};
+use pf_rulefile::{RuleTextFault, kind_word};
 use pf_run::{RunFault, SetFault};
 use std::alloc::Global;
 
@@ -73,6 +74,21 @@ fn tell_kernel<S: Sink>(alloc: Global, out: &mut S, name: &[u8], fault: KernelFa
     }
 }
 
+/// Puts why a text is no file of rules, and answers the status.
+fn tell_rules<S: Sink>(alloc: Global, out: &mut S, name: &[u8], fault: RuleTextFault) -> u8
+    ensures { Reports (report_of_file name.now (FileFault.Rules fault))
+        (seen_output S.written S.faults S.calls out.old) result (seen_output S.written S.faults S.calls out.new) }
+{
+    match fault {
+        RuleTextFault::At { line, kind } => {
+            let line = Number(u64::from(line));
+            let pieces = [Word(name), Word(b":"), line, Word(b": "), Word(kind.word())];
+            tell_line(alloc, out, 6, &pieces)
+        }
+        RuleTextFault::Memory => tell_want(alloc, out),
+    }
+}
+
 /// Puts why a file is refused, and answers the status.
 fn tell_file<S: Sink>(alloc: Global, out: &mut S, file: &[u8], fault: FileFault) -> u8
     ensures { Reports (report_of_file file.now fault)
@@ -81,6 +97,11 @@ fn tell_file<S: Sink>(alloc: Global, out: &mut S, file: &[u8], fault: FileFault)
     let name = Word(file);
     match fault {
         FileFault::Kernel(fault) => tell_kernel(alloc, out, file, fault),
+        FileFault::Rules(fault) => tell_rules(alloc, out, file, fault),
+        FileFault::RuleKind(kind) => {
+            let kind = Word(kind_word(kind));
+            tell_line(alloc, out, 6, &[name, Word(b": kind "), kind])
+        }
         FileFault::NotBuilt => tell_line(alloc, out, 8, &[Word(b"not built: "), name]),
         FileFault::Image(ImageFault::At { at, kind }) => {
             let pieces = [
@@ -235,6 +256,7 @@ fn tell_failure<S: Sink>(alloc: Global, out: &mut S, command: &Command<'_>, why:
                 &[Word(b"not built: "), Word(file_name(command, 0))],
             )
         }
+        Failure::RulesRefused(lines) => tell_lines(alloc, out, 6, lines.as_slice()),
         Failure::Count { want, got } => tell_count(alloc, out, want, got),
         Failure::Run(fault) => tell_run(alloc, out, command, fault),
     }
@@ -277,6 +299,6 @@ pub fn tell_usage<S: Sink>(alloc: Global, out: &mut S) -> u8
     ensures { Reports usage
         (seen_output S.written S.faults S.calls out.old) result (seen_output S.written S.faults S.calls out.new) }
 {
-    let line = Word(b"usage: pitchfork select|check|run|eval|explain|demo");
+    let line = Word(b"usage: pitchfork select|check|run|eval|explain|demo|migrate");
     tell_line(alloc, out, 2, &[line])
 }

@@ -105,7 +105,7 @@ fn outputs_are_written(rt: HostRuntime) -> Result<(), Fail> {
     )
 }
 
-const USAGE: &str = "usage: pitchfork select|check|run|eval|explain|demo\n";
+const USAGE: &str = "usage: pitchfork select|check|run|eval|explain|demo|migrate\n";
 
 const TOLD: &[(&str, u8, &str, u64)] = &[
     ("run copy.s o.pgm", 2, USAGE, 0),

@@ -63,7 +63,7 @@ const FILES: &[(&str, &[u8])] = &[
     ),
 ];
 
-const USAGE: &str = "usage: pitchfork select|check|run|eval|explain|demo\n";
+const USAGE: &str = "usage: pitchfork select|check|run|eval|explain|demo|migrate\n";
 
 const TOLD: &[(&str, u8, &str, u64)] = &[
     ("select neon", 2, USAGE, 0),

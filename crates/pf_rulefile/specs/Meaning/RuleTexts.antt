@@ -208,3 +208,7 @@ rule_text rules r = head_text r ++ (flat_map var_text r.vars ++ (sides_text r ++
 -- the text of a file
 abbrev pub rules_text : FileParts → List ℕ
 rules_text f = codes "rules " ++ (decimal f.format ++ (codes " " ++ (ended (kind_word f.kind) ++ flat_map (rule_text f.rules) f.rules)))
+
+-- the file in another format
+abbrev pub in_format : ℕ → FileParts → FileParts
+in_format format f = record f { format = format }

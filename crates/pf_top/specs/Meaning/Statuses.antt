@@ -9,23 +9,29 @@ use Rattle.pf_images.specs.Meaning.Words.{kind_word}
 use Rattle.pf_isa.specs.declared.fault.TextFault.TheVariants.{At as TextAt, Memory as TextMemory}
 use Rattle.pf_isa.specs.Meaning.TextFaults.{text_kind_word}
 use Rattle.pf_kernel.specs.declared.fault.KernelFault.TheVariants.{Syntax, Name, Types, Limit, Memory as KernelMemory}
+use Rattle.pf_rulefile.specs.declared.fault.RuleTextFault.TheVariants.{At as RulesAt, Memory as RulesMemory}
+use Rattle.pf_rulefile.specs.Meaning.FaultWords.{fault_word}
+use Rattle.pf_rulefile.specs.Meaning.RuleTexts.{kind_word as rules_word}
 use Rattle.pf_outside.specs.declared.stop.Stop.TheVariants.{Missing, Unreadable, Refused, Failed, Unwritten, Memory}
 use Rattle.pf_outside.specs.Meaning.Reports.{Report, report, told, wanting, write_failed}
 use Rattle.pf_outside.specs.Meaning.Tasks.{Task, Verdict, file_name, out_name}
 use Rattle.pf_run.specs.declared.fault.RunFault.TheVariants.{Text as RunText, Set, Outside, Spent, Memory as RunMemory}
 use Rattle.pf_run.specs.declared.fault.SetFault.TheVariants.{Count as SetCount, Kind, Size, Pixel, NoOutput}
 use Rattle.pf_top.specs.declared.fault.Failure.{Failure}
-use Rattle.pf_top.specs.declared.fault.Failure.TheVariants.{Target, NoText, Count, Run}
+use Rattle.pf_top.specs.declared.fault.Failure.TheVariants.{Target, NoText, Count, Run, RulesRefused}
 use Rattle.pf_top.specs.declared.fault.FileFault.{FileFault}
-use Rattle.pf_top.specs.declared.fault.FileFault.TheVariants.{Kernel, NotBuilt, Text, LongText, Image, LongImage}
+use Rattle.pf_top.specs.declared.fault.FileFault.TheVariants.{Kernel, Rules, RuleKind, NotBuilt, Text, LongText, Image, LongImage}
 
--- 5: a kernel is refused; 8: a file that isn't built; 9: an image is refused; 10: a text is refused
+-- 5: a kernel is refused; 6: a file of rules is refused, or is for something else; 8: a file that isn't built; 9: an image is refused; 10: a text is refused
 abbrev pub report_of_file : List ℕ → FileFault → Report
 report_of_file name (Kernel (Syntax at column)) = told 5 (name ∷ codes ":" ∷ decimal at ∷ codes ": syntax at column " ∷ decimal column ∷ [])
 report_of_file name (Kernel (Name at other)) = told 5 (name ∷ codes ":" ∷ decimal at ∷ codes ": name " ∷ other ∷ [])
 report_of_file name (Kernel (Types at want got)) = told 5 (name ∷ codes ":" ∷ decimal at ∷ codes ": types: want " ∷ type_word want ∷ codes ", got " ∷ type_word got ∷ [])
 report_of_file name (Kernel (Limit what count)) = told 5 (name ∷ codes ": limit " ∷ limit_word what ∷ codes " is " ∷ signed_decimal count ∷ [])
 report_of_file name (Kernel KernelMemory) = wanting
+report_of_file name (Rules (RulesAt line kind)) = told 6 (name ∷ codes ":" ∷ decimal line ∷ codes ": " ∷ fault_word kind ∷ [])
+report_of_file name (Rules RulesMemory) = wanting
+report_of_file name (RuleKind kind) = told 6 (name ∷ codes ": kind " ∷ rules_word kind ∷ [])
 report_of_file name NotBuilt = told 8 (codes "not built: " ∷ name ∷ [])
 report_of_file name (Image (ImageAt at kind)) = told 9 (name ∷ codes ": byte " ∷ decimal at ∷ codes ": " ∷ kind_word kind ∷ [])
 report_of_file name (Image ImageMemory) = wanting
@@ -34,10 +40,11 @@ report_of_file name (Text (TextAt at kind)) = told 10 (name ∷ codes ":" ∷ de
 report_of_file name (Text TextMemory) = wanting
 report_of_file name LongText = told 10 (name ∷ codes ":0: limit" ∷ [])
 
--- 8: the target or the kernel isn't built; 9: the images don't suit the text, image n being file n + 1; 11: a load or a store that
+-- 6: a rule is refused; 8: the target or the kernel isn't built; 9: the images don't suit the text, image n being file n + 1; 11: a load or a store that
 -- no region allows; 12: a row that took all its steps. No call comes to `RunText`, `SetCount` or `Kind` (`AllowsRun`)
 abbrev pub report_of_failure : Task FileFault Failure → Failure → Report
 report_of_failure t (Target target) = told 8 (codes "not built: " ∷ target_word target ∷ [])
+report_of_failure t (RulesRefused lines) = report 6 lines
 report_of_failure t NoText = told 8 (codes "not built: " ∷ file_name t 0 ∷ [])
 report_of_failure t (Count want got) = told 9 (codes "want " ∷ decimal want ∷ codes " images, got " ∷ decimal got ∷ [])
 report_of_failure t (Run (Set (SetCount want got))) = told 9 (codes "want " ∷ decimal want ∷ codes " images, got " ∷ decimal got ∷ [])
@@ -62,4 +69,4 @@ report_of t (Err (Failed f)) = report_of_failure t f
 
 -- 2: the words are of no form
 unfoldable pub usage : Report
-usage = told 2 (codes "usage: pitchfork select|check|run|eval|explain|demo" ∷ [])
+usage = told 2 (codes "usage: pitchfork select|check|run|eval|explain|demo|migrate" ∷ [])

@@ -1,20 +1,32 @@
 -- The words of the code as the definitions see them.
 use Rattle.std.specs.Prelude.{map, string_bytes}
 use Rattle.pf_top.specs.declared.command.Command.{Command as CommandWords}
-use Rattle.pf_top.specs.declared.command.Command.TheVariants.{Select as SelectWords, Run as RunOf, Eval}
+use Rattle.pf_top.specs.declared.command.Command.TheVariants.{Select as SelectWords, Check as CheckOf, Migrate as MigrateOf, Run as RunOf, Eval}
+use Rattle.pf_top.specs.declared.command.CheckWords.{CheckWords}
+use Rattle.pf_top.specs.declared.command.MigrateWords.{MigrateWords}
 use Rattle.pf_top.specs.declared.command.Selection.{Selection}
 use Rattle.pf_top.specs.declared.command.RunWords.{RunWords}
-use Rattle.pf_top.specs.Meaning.Commands.{Command, Selecting, Running, Evaluating}
+use Rattle.pf_top.specs.Meaning.Checking.{Check}
+use Rattle.pf_top.specs.Meaning.Commands.{Command, Selecting, Checking, Migrating, Running, Evaluating}
+use Rattle.pf_top.specs.Meaning.Migrating.{Migrate}
 use Rattle.pf_top.specs.Meaning.Running.{Run}
 use Rattle.pf_top.specs.Meaning.Selections.{Select}
 
 abbrev pub the_words : Selection → Select
 the_words s = record { target = s.target; kernel = s.kernel.now; lift = s.lift.now; lower = s.lower.now; out = s.out.now }
 
+abbrev pub the_check : CheckWords → Check
+the_check w = record { target = w.target; file = w.file.now }
+
+abbrev pub the_migration : MigrateWords → Migrate
+the_migration w = record { file = w.file.now; out = w.out.now }
+
 abbrev pub the_run : RunWords → Run
 the_run w = record { text = w.text.now; images = map string_bytes w.images.now; out = w.out.now }
 
 abbrev pub the_command : CommandWords → Command
 the_command (SelectWords s) = Selecting (the_words s)
+the_command (CheckOf c) = Checking (the_check c)
+the_command (MigrateOf m) = Migrating (the_migration m)
 the_command (RunOf r) = Running (the_run r)
 the_command (Eval e) = Evaluating (the_run e)

@@ -1,18 +1,25 @@
 -- What the steps of commands come to.
-use Rattle.std.specs.Prelude.{◌≡◌, ◌≢◌, ℕ, suc, ◌+◌, ◌<◌, List, length, take, zip, Some, Result, Ok, Err, slice_get}
+use Rattle.std.specs.Prelude.{◌≡◌, ◌≢◌, ℕ, suc, ◌+◌, ◌<◌, List, length, take, zip, true, false, Option, Some, Result, Ok, Err, slice_get}
 use Rattle.std.specs.List.{AllZip}
 use Rattle.pf_ints.specs.Meaning.Images.{Picture}
 use Rattle.pf_values.specs.declared.kernel.ImageDecl.{ImageDecl}
 use Rattle.pf_images.specs.Meaning.Outside.{SameContents}
 use Rattle.pf_images.specs.Meaning.Pgm.{pgm_text}
 use Rattle.pf_outside.specs.declared.stop.Stop.{Stop}
-use Rattle.pf_outside.specs.declared.stop.Stop.TheVariants.{Failed, Memory}
+use Rattle.pf_outside.specs.declared.stop.Stop.TheVariants.{Refused, Failed, Memory}
 use Rattle.pf_outside.specs.Meaning.Formats.{Format, Means, IsRefused}
 use Rattle.pf_outside.specs.Meaning.StoreCalls.{Store, StoreAfter, Well}
 use Rattle.pf_outside.specs.Steps.FileSteps.{Judged, JudgesBytes}
 use Rattle.pf_top.specs.declared.fault.Failure.{Failure}
-use Rattle.pf_top.specs.declared.fault.Failure.TheVariants.{NoText, Count, Run}
+use Rattle.pf_top.specs.declared.fault.Failure.TheVariants.{NoText, Count, Run, RulesRefused}
 use Rattle.pf_top.specs.declared.fault.FileFault.{FileFault}
+use Rattle.pf_top.specs.declared.fault.FileFault.TheVariants.{Rules, RuleKind}
+use Rattle.pf_rulefile.specs.declared.fault.RuleTextFault.{RuleTextFault}
+use Rattle.pf_rulefile.specs.declared.fault.RuleTextFault.TheVariants.{At, Memory as Wanting}
+use Rattle.pf_verdicts.specs.Meaning.Verdicts.{AreVerdicts}
+use Rattle.pf_top.specs.Meaning.RuleFiles.{is_for}
+use Rattle.pf_ints.specs.declared.target.Target.{Target}
+use Rattle.pf_rules.specs.declared.rule_file.FileParts.{FileParts}
 use Rattle.pf_top.specs.Meaning.Files.{image_file}
 use Rattle.pf_top.specs.Meaning.Running.{Language, HoldsImage}
 
@@ -63,3 +70,20 @@ abbrev pub Unselected : Type 0 → Stop FileFault Failure → Type 0
 Unselected Built (Failed NoText) = Built → ⊥
 Unselected Built Memory = Unit {0}
 Unselected Built _ = ⊥
+
+-- why a file of rules is refused, or that memory was wanting
+abbrev pub refusal : ℕ → RuleTextFault → Stop FileFault Failure
+refusal number (At line kind) = Refused number (Rules (At line kind))
+refusal number Wanting = Memory
+
+-- the lines on a file's rules, of which all are accepted or one is refused; or memory was wanting
+abbrev pub TellsVerdicts : FileParts → Result (List (List ℕ)) (Stop FileFault Failure) → Type 0
+TellsVerdicts f (Ok lines) = AreVerdicts f (record { lines = lines; accepted = true })
+TellsVerdicts f (Err (Failed (RulesRefused lines))) = AreVerdicts f (record { lines = lines; accepted = false })
+TellsVerdicts f (Err Memory) = Unit {0}
+TellsVerdicts f (Err _) = ⊥
+
+-- rules of a kind that is right, or the fault that they aren't
+abbrev pub IsJudged : ℕ → Option Target → FileParts → Result FileParts (Stop FileFault Failure) → Type 0
+IsJudged number t f (Ok g) = (g ≡ f) × (is_for t f.kind ≡ true)
+IsJudged number t f (Err s) = (s ≡ Refused number (RuleKind f.kind)) × (is_for t f.kind ≡ false)
