@@ -1,7 +1,7 @@
 -- Operands that are gathered stay gathered, and are what a row asks for.
 use Rattle.std.proofs.Common.{◌≡◌, ℕ, zero, suc, ℤ, pos, ◌%◌, ◌<◌, Bool, false, List, [], ◌∷◌, ◌++◌, length, map, get_or, Option, Some, refl, sym, ap, arith, subst, ◌∙◌, length-append}
 use Rattle.std.specs.Prelude.{slice_get, slice_index, slice_index_or}
-use Rattle.std.proofs.lemmas.List.{map-append, get_or-map}
+use Rattle.std.proofs.lemmas.List.{map-append, get_or-map, length-map}
 use Rattle.pf_ints.specs.declared.lane.LaneType.{LaneType}
 use Rattle.pf_ints.specs.declared.lane.Bits.TheVariants.{Eight}
 use Rattle.pf_values.specs.Meaning.Terms.{typed_as}
@@ -70,6 +70,7 @@ pub as_operands : {O : Type 0} (t : Table O) (items : List LaneItem) (widths : L
     → HasTaps items widths → AreGathered t items block names order args types values
     → AreOperands t widths block names types values (λ s p. map (λ a. value_at items widths a s p) args)
 as_operands t items widths block names order args types values taps so = record {
+  count = λ s p. length-map args (λ a. value_at items widths a s p) ∙ sym (length-map args (type_at items)) ∙ sym (ap length so.types_are);
   each = λ i ty k type value.
       let inside : i < length args = (let lt = within values i k value in omega (arith, lt, so.count)) in
       let here : ty ≡ type_at items (slice_index args i) =

@@ -109,6 +109,19 @@ module _ {O : Type 0} (t : Table O) (is : Item O → Type 0) where
         cost = omega (arith, sums, one.cost, two.cost);
       }
 
+  -- one more step, which may change what the steps before it made
+  pub continues_more : (old mid : List (Item O)) (item : Item O) (a b r p q : ℕ) → Continues t is old a mid b r p → IsOwn t is a b item → step_cost t item ≤ q → Continues t is old a (mid ++ item ∷ []) b r (p + q)
+  continues_more old mid item a b r p q one own low =
+      let sums = cost-append t one.steps (item ∷ []) in
+      record {
+        steps = one.steps ++ item ∷ [];
+        items = ap (λ xs. xs ++ item ∷ []) one.items ∙ append_assoc old one.steps (item ∷ []);
+        own = All-append (IsOwn t is a b) one.steps (item ∷ []) one.own (All-cons (IsOwn t is a b) item [] own (All-nil (IsOwn t is a b)));
+        later = one.later;
+        few = one.few;
+        cost = omega (arith, sums, one.cost, low);
+      }
+
   pub continues_weaker : (also : Item O → Type 0) → ((item : Item O) → is item → also item) → (old new : List (Item O)) (a b r s p q : ℕ) → r ≤ s → p ≤ q
       → Continues t is old a new b r p → Continues t also old a new b s q
   continues_weaker also to old new a b r s p q room cost one = record {

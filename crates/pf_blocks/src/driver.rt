@@ -6,7 +6,7 @@ ghost use Rattle.pf_laneops.specs.declared.lane_item.LaneItem.TheVariants.{Tap};
 ghost use Rattle.pf_laneops.specs.Meaning.LaneCodes.{IsCode, item_type};
 ghost use Rattle.pf_blocks.specs.Meaning.Values.{Start, Holds, tap_number};
 ghost use Rattle.pf_blocks.specs.Meaning.Growth.{IsOperation, IsOperationOrLoad, Continues};
-ghost use Rattle.pf_blocks.specs.Meaning.Expansions.{HasTaps, HasRows, IsExpansion};
+ghost use Rattle.pf_blocks.specs.Meaning.Expansions.{HasTaps, HasRows, AreBuilt, IsExpansion};
 ghost use Rattle.pf_blocks.specs.Steps.KeptItems.{type_at, AreKept, IsKept};
 ghost use Rattle.pf_blocks.specs.Steps.Marks.{AreClosed};
 ghost use Rattle.pf_blocks.specs.Steps.Gathered.{IsThere, AreGathered};
@@ -25,15 +25,15 @@ use pf_machine::{Block, Isa};
 use std::alloc::Global;
 
 /// Loads a tap's pixels, in the plain order.
-fn loaded<I: Expand>(maker: &mut Maker<I>, tap: u8, ty: LaneType) -> Result<Kept, Memory>
+fn loaded<I: Expand>(maker: &mut Maker<I::Set>, tap: u8, ty: LaneType) -> Result<Kept, Memory>
     requires pixel { is_pixel ty ≡ true }
-    requires begun { I.table.vectors ≤ maker.old.next }
+    requires begun { I.Set.table.vectors ≤ maker.old.next }
     requires room { maker.old.next + 64 < 2 ^ 32 }
     ensures continues { OnOk result ((items : List LaneItem) (n : ℕ) → slice_get items n ≡ Some (Tap tap ty)
-        → Continues I.table (IsOperationOrLoad I.is_op items) maker.old.items maker.old.next maker.new.items maker.new.next 2 0) }
+        → Continues I.Set.table (IsOperationOrLoad I.Set.is_op items) maker.old.items maker.old.next maker.new.items maker.new.next 2 0) }
     ensures order { IfOk result (λ k. (ds : List ℕ) → k.order ≡ Some ds → I.is_ours ds) }
     ensures value { IfOk result (λ k. (widths : List ℕ) → tap < length widths → slice_index widths tap ≡ bytes_of ty
-        → Holds I.table widths maker.new.items maker.new.next ty k (λ s p. tap_number widths s p tap)) }
+        → Holds I.Set.table widths maker.new.items maker.new.next ty k (λ s p. tap_number widths s p tap)) }
 {
     let first = maker.load(tap, 0)?;
     let second = match ty.bits {
@@ -90,21 +90,21 @@ struct RowOperands {
 /// The items in one order.
 fn operands<I: Expand>(
     alloc: Global,
-    maker: &mut Maker<I>,
+    maker: &mut Maker<I::Set>,
     kept: &[Option<Kept>],
     items: &[LaneItem],
     _marks: &[bool],
     args: &[u32],
 ) -> Result<RowOperands, Memory>
     requires few { length args.now ≤ 4 }
-    requires kept { AreKept I.table I.is_ours items.now maker.old.items maker.old.next _marks.now kept.now }
+    requires kept { AreKept I.Set.table I.is_ours items.now maker.old.items maker.old.next _marks.now kept.now }
     requires there { All (IsThere kept.now) args.now }
     requires before { All (λ a. a < length items.now) args.now }
-    requires begun { I.table.vectors ≤ maker.old.next }
+    requires begun { I.Set.table.vectors ≤ maker.old.next }
     requires room { maker.old.next + 128 < 2 ^ 32 }
-    ensures continues { OnOk result (Continues I.table (IsOperation I.is_op) maker.old.items maker.old.next maker.new.items maker.new.next 48 0) }
+    ensures continues { OnOk result (Continues I.Set.table (IsOperation I.Set.is_op) maker.old.items maker.old.next maker.new.items maker.new.next 48 0) }
     ensures order { IfOk result (λ o. I.is_ours o.order) }
-    ensures gathered { IfOk result (λ o. AreGathered I.table items.now maker.new.items maker.new.next o.order args.now o.types.items o.values.items) }
+    ensures gathered { IfOk result (λ o. AreGathered I.Set.table items.now maker.new.items maker.new.next o.order args.now o.types.items o.values.items) }
 {
     let order = order_of::<I>(kept, args);
     let mut types = Vec::new(alloc);
@@ -125,27 +125,28 @@ fn operands<I: Expand>(
 /// Appends what item n is made by, and answers where it is kept.
 fn made<I: Expand>(
     alloc: Global,
-    maker: &mut Maker<I>,
+    maker: &mut Maker<I::Set>,
     kept: &[Option<Kept>],
     items: &[LaneItem],
     marks: &[bool],
     n: usize,
 ) -> Result<Kept, Memory>
     requires code { IsCode items.now }
-    requires rows { HasRows I.table.target items.now }
+    requires rows { HasRows I.Set.table.target items.now }
+    requires built { AreBuilt I.is_built items.now }
     requires inside { n < length items.now }
-    requires state { IsState I.table I.is_op I.is_ours items.now marks.now maker.old.items maker.old.next kept.now n }
+    requires state { IsState I.Set.table I.Set.is_op I.is_ours items.now marks.now maker.old.items maker.old.next kept.now n }
     requires closed { AreClosed items.now 0 marks.now }
     requires marked { slice_index_or marks.now n false ≡ true }
-    requires begun { I.table.vectors ≤ maker.old.next }
+    requires begun { I.Set.table.vectors ≤ maker.old.next }
     requires room { maker.old.next + 128 < 2 ^ 32 }
-    ensures continues { (item : LaneItem) → slice_get items.now n ≡ Some item → OnOk result (Continues I.table (IsOperationOrLoad I.is_op items.now)
-        maker.old.items maker.old.next maker.new.items maker.new.next 64 (price I.table.target items.now item)) }
-    ensures kept { IfOk result (λ k. IsKept I.table I.is_ours items.now maker.new.items maker.new.next n k) }
+    ensures continues { (item : LaneItem) → slice_get items.now n ≡ Some item → OnOk result (Continues I.Set.table (IsOperationOrLoad I.Set.is_op items.now)
+        maker.old.items maker.old.next maker.new.items maker.new.next 64 (price I.Set.table.target items.now item)) }
+    ensures kept { IfOk result (λ k. IsKept I.Set.table I.is_ours items.now maker.new.items maker.new.next n k) }
 {
     match &items[n] {
         LaneItem::Tap { tap, ty } => {
-            let k = loaded(maker, *tap, *ty)?;
+            let k = loaded::<I>(maker, *tap, *ty)?;
             Ok(k)
         }
         LaneItem::Splat { n: number, ty } => {
@@ -168,32 +169,37 @@ fn made<I: Expand>(
 /// Goes on with item n: makes it where it is marked.
 fn next<I: Expand>(
     alloc: Global,
-    maker: &mut Maker<I>,
+    maker: &mut Maker<I::Set>,
     kept: &mut Vec<Option<Kept>>,
     items: &[LaneItem],
     marks: &[bool],
     n: usize,
 ) -> Result<(), Memory>
     requires code { IsCode items.now }
-    requires rows { HasRows I.table.target items.now }
+    requires rows { HasRows I.Set.table.target items.now }
+    requires built { AreBuilt I.is_built items.now }
     requires inside { n < length items.now }
     requires count { length marks.now ≡ length items.now }
     requires closed { AreClosed items.now 0 marks.now }
-    requires state { IsState I.table I.is_op I.is_ours items.now marks.now maker.old.items maker.old.next kept.old.items n }
-    ensures { OnOk result (IsState I.table I.is_op I.is_ours items.now marks.now maker.new.items maker.new.next kept.new.items (n + 1)) }
+    requires state { IsState I.Set.table I.Set.is_op I.is_ours items.now marks.now maker.old.items maker.old.next kept.old.items n }
+    ensures { OnOk result (IsState I.Set.table I.Set.is_op I.is_ours items.now marks.now maker.new.items maker.new.next kept.new.items (n + 1)) }
 {
     let _item = &items[n];
     if !marks[n] {
         kept.push(None)?;
         return Ok(());
     }
-    let k = made(alloc, maker, kept.as_slice(), items, marks, n)?;
+    let k = made::<I>(alloc, maker, kept.as_slice(), items, marks, n)?;
     kept.push(Some(k))?;
     Ok(())
 }
 
 /// Stores the vectors of a value, one a part.
-fn store_parts<I: Expand>(maker: &mut Maker<I>, names: &[u32; 4], bits: Bits) -> Result<(), Memory>
+fn store_parts<I: Expand>(
+    maker: &mut Maker<I::Set>,
+    names: &[u32; 4],
+    bits: Bits,
+) -> Result<(), Memory>
     requires { length names.now ≡ 4 }
     ensures items { OnOk result (maker.new.items ≡ maker.old.items ++ stores_of bits names.now) }
     ensures next { OnOk result (maker.new.next ≡ maker.old.next) }
@@ -214,15 +220,15 @@ fn store_parts<I: Expand>(maker: &mut Maker<I>, names: &[u32; 4], bits: Bits) ->
 }
 
 /// Puts a value in the plain order, and stores it as the output.
-fn stored<I: Expand>(maker: &mut Maker<I>, value: &Kept, ty: LaneType) -> Result<(), Memory>
+fn stored<I: Expand>(maker: &mut Maker<I::Set>, value: &Kept, ty: LaneType) -> Result<(), Memory>
     requires ours { (ds : List ℕ) → value.now.order ≡ Some ds → I.is_ours ds }
-    requires begun { I.table.vectors ≤ maker.old.next }
+    requires begun { I.Set.table.vectors ≤ maker.old.next }
     requires room { maker.old.next + 64 < 2 ^ 32 }
-    ensures { OnOk result (IsStored I.table I.is_op maker.old.items maker.old.next ty value.now maker.new.items) }
+    ensures { OnOk result (IsStored I.Set.table I.Set.is_op maker.old.items maker.old.next ty value.now maker.new.items) }
 {
     let plain = I::plain();
     let k = I::repaired(maker, value, ty, &plain)?;
-    store_parts(maker, &k.names, ty.bits)?;
+    store_parts::<I>(maker, &k.names, ty.bits)?;
     Ok(())
 }
 
@@ -237,24 +243,25 @@ fn all_made<I: Expand>(
     alloc: Global,
     items: &[LaneItem],
     marks: &[bool],
-) -> Result<Expanded<I>, Memory>
+) -> Result<Expanded<I::Set>, Memory>
     requires code { IsCode items.now }
-    requires rows { HasRows I.table.target items.now }
+    requires rows { HasRows I.Set.table.target items.now }
+    requires built { AreBuilt I.is_built items.now }
     requires count { length marks.now ≡ length items.now }
     requires closed { AreClosed items.now 0 marks.now }
-    ensures { IfOk result (λ e. IsState I.table I.is_op I.is_ours items.now marks.now e.maker.items e.maker.next e.kept.items (length items.now)) }
+    ensures { IfOk result (λ e. IsState I.Set.table I.Set.is_op I.is_ours items.now marks.now e.maker.items e.maker.next e.kept.items (length items.now)) }
 {
-    let mut maker = Maker::<I>::new(alloc);
+    let mut maker = Maker::<I::Set>::new(alloc);
     let mut kept = Vec::new(alloc);
     for n in 0..items.len() {
-        next(alloc, &mut maker, &mut kept, items, marks, n)?;
+        next::<I>(alloc, &mut maker, &mut kept, items, marks, n)?;
     }
     Ok(Expanded { maker, kept })
 }
 
 /// Stores the output, where all items are expanded.
 fn put_out<I: Expand>(
-    maker: &mut Maker<I>,
+    maker: &mut Maker<I::Set>,
     kept: &[Option<Kept>],
     items: &[LaneItem],
     _marks: &[bool],
@@ -263,25 +270,30 @@ fn put_out<I: Expand>(
     requires code { IsCode items.now }
     requires inside { output < length items.now }
     requires marked { slice_index_or _marks.now output false ≡ true }
-    requires state { IsState I.table I.is_op I.is_ours items.now _marks.now maker.old.items maker.old.next kept.now (length items.now) }
-    ensures { OnOk result (IsExpansion I.table items.now output maker.new.items) }
+    requires state { IsState I.Set.table I.Set.is_op I.is_ours items.now _marks.now maker.old.items maker.old.next kept.now (length items.now) }
+    ensures { OnOk result (IsExpansion I.Set.table items.now output maker.new.items) }
 {
     let ty = type_of(&items[output]);
     let value = operand(kept, output);
-    stored(maker, value, ty)?;
+    stored::<I>(maker, value, ty)?;
     Ok(())
 }
 
-/// The block that makes the output of lane code and stores it. Each item needs a row on the target.
-pub fn expand<I: Expand>(alloc: Global, code: &LaneCode) -> Result<Block<I::Op>, Memory>
-    requires rows { HasRows I.table.target code.now.items }
+/// The block that makes the output of lane code and stores it. Each item needs a row on the target,
+/// whose operation is expanded there.
+pub fn expand<I: Expand>(
+    alloc: Global,
+    code: &LaneCode,
+) -> Result<Block<<I::Set as Isa>::Op>, Memory>
+    requires rows { HasRows I.Set.table.target code.now.items }
+    requires built { AreBuilt I.is_built code.now.items }
     requires output { code.now.output < length code.now.items }
-    ensures { IfOk result (λ block. IsExpansion I.table code.now.items code.now.output block) }
+    ensures { IfOk result (λ block. IsExpansion I.Set.table code.now.items code.now.output block) }
 {
     let items = code.items();
     let output = code.output() as usize;
     let marks = needed(alloc, items, output)?;
     let Expanded { mut maker, kept } = all_made::<I>(alloc, items, marks.as_slice())?;
-    put_out(&mut maker, kept.as_slice(), items, marks.as_slice(), output)?;
+    put_out::<I>(&mut maker, kept.as_slice(), items, marks.as_slice(), output)?;
     Ok(maker.items)
 }

@@ -43,6 +43,16 @@ impl<I: Isa> Maker<I> {
         Ok(name)
     }
 
+    /// Appends an operation that makes no name of its own: it changes the constant register, or one
+    /// of the names made so far.
+    pub fn add(&mut self, op: I::Op) -> Result<(), Memory>
+        ensures next { OnOk result (self.new.next ≡ self.old.next) }
+        ensures items { OnOk result (self.new.items ≡ self.old.items ++ Item.Vector op ∷ []) }
+    {
+        self.items.push(Item::Vector(op))?;
+        Ok(())
+    }
+
     /// Appends the load of a part of a tap into the next name, which it answers.
     pub fn load(&mut self, tap: u8, part: u8) -> Result<u32, Memory>
         requires { self.old.next + 1 < 2 ^ 32 }

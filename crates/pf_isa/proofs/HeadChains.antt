@@ -12,15 +12,17 @@ use Rattle.pf_text.specs.Meaning.Words.{is_name, is_reserved}
 use Rattle.pf_values.specs.declared.kernel.Definition.{Definition}
 use Rattle.pf_values.specs.declared.kernel.ImageDecl.{ImageDecl}
 use Rattle.pf_values.specs.declared.names.Tap.{Tap}
+use Rattle.pf_values.specs.Meaning.Kernels.{AreInOrder, IsStill}
 use Rattle.pf_values.specs.Meaning.Terms.{node_count}
 use Rattle.pf_values.specs.Meaning.NamedTerms.{no_type}
 use Rattle.pf_machine.specs.declared.program.Head.{Head}
 use Rattle.pf_isa.specs.declared.so_far.Stage.TheVariants.{Declarations, Scratch, Lifted, Cost}
-use Rattle.pf_machine.specs.Meaning.Heads.{image_name, def_name, with_def, IsDecl, IsTap, IsLifted, AreLifted, AreLiftedNames, IsHead}
+use Rattle.pf_machine.specs.Meaning.Heads.{image_name, def_name, flats, with_def, IsDecl, IsTap, IsLifted, AreLifted, AreLiftedNames, IsHead}
 use Rattle.pf_text.specs.Meaning.Lines.{IsLine}
 use Rattle.pf_isa.specs.Meaning.Texts.{IsHeadText, AreLiftedLines, target_line, image_line, tap_line, out_line, scratch_line, declaration_lines}
 use Rattle.pf_isa.specs.Meaning.TextFaults.{SoFar, empty_head, names_so_far, nodes_so_far, stage_behind, IsNextImage, IsNextTap, IsNextLifted, GoesOn, GoOn}
 use Rattle.pf_isa.specs.Steps.HeadSteps.{whole}
+use Rattle.pf_isa.proofs.OrderLaws.{order_at, flats_at}
 use Rattle.pf_text.proofs.ListLaws.{item_at, fresh, sum_split, zip_split}
 
 pub go_on : (a b c : SoFar) (xs ys : List (List ℕ)) → GoOn a xs b → GoOn b ys c → GoOn a (xs ++ ys) c
@@ -50,6 +52,7 @@ next_image h is done todo d all =
       decl = item_at IsDecl done todo d decls;
       early = refl;
       few = omega (arith, long, is.few_images);
+      order = order_at (flats done) (flats todo) d.flat (subst AreInOrder (ap flats (sym all) ∙ flats_at done todo d) is.in_order);
       new = λ c. new (subst (λ l. Contains l d.name) (append-nil (map (λ e. e.name) done)) c);
     }
 
@@ -69,6 +72,7 @@ next_tap h is done todo t all =
     let taps : All (IsTap (length h.images)) (done ++ t ∷ todo) = subst (λ l. All (IsTap (length h.images)) l) (sym all) is.taps in
     record {
       tap = item_at (IsTap (length h.images)) done todo t taps;
+      still = item_at (IsStill (flats h.images)) done todo t (subst (λ l. All (IsStill (flats h.images)) l) (sym all) is.still_taps);
       few = omega (arith, long, is.few_taps);
       new = fresh done todo t (subst (λ l. AllPairs (λ u v. u ≢ v) l) (sym all) is.distinct_taps);
     }

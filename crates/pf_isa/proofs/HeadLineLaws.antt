@@ -31,7 +31,7 @@ use Rattle.pf_machine.specs.Meaning.Heads.{image_name, def_name, IsDecl, IsTap}
 use Rattle.pf_isa.specs.Steps.HeadWords.{IsTheOne, IsLiftedName, is_sign, words_in, image_words, tap_words, out_words, scratch_words, cost_words, lifted_words}
 use Rattle.pf_isa.specs.Steps.HeadSteps.{ImageGoesOn, TapGoesOn, OutWordsGoOn, TapOrOutGoesOn, DeclarationGoesOn, WordsGoOn, LiftedGoesOn, HasTermNamesAt}
 use Rattle.pf_text.specs.Meaning.Lines.{IsLine}
-use Rattle.pf_isa.specs.Meaning.Texts.{image_line, tap_line, out_line, scratch_line, cost_line, lifted_front}
+use Rattle.pf_isa.specs.Meaning.Texts.{image_key, image_line, tap_line, out_line, scratch_line, cost_line, lifted_front}
 use Rattle.pf_isa.specs.Meaning.TextFaults.{SoFar, head_names, names_so_far, head_with_lifted, stage_behind, GoesOn, GoesOnAt}
 use Rattle.pf_isa.proofs.WordLines.{IsWord, AreWords, spaced_line, words_of_line, line_of_words, key_word, name_word, type_word_is, number_word, offset_word}
 
@@ -58,9 +58,7 @@ two_spaced key a b = append_assoc (key ++ codes " " ++ a) (codes " ") b ∙ appe
 image_spaced : (d : ImageDecl) → image_line d ≡ spaced_line (image_words d)
 image_spaced d =
     let range : type_word d.ty ++ codes " " ++ decimal d.lo ++ codes " " ++ decimal d.hi ≡ type_word d.ty ++ 32 ∷ (decimal d.lo ++ 32 ∷ decimal d.hi) = two_spaced (type_word d.ty) (decimal d.lo) (decimal d.hi) in
-    let front : codes ".image " ++ d.name ++ codes " " ++ (type_word d.ty ++ codes " " ++ decimal d.lo ++ codes " " ++ decimal d.hi) ≡ codes ".image " ++ (d.name ++ 32 ∷ (type_word d.ty ++ codes " " ++ decimal d.lo ++ codes " " ++ decimal d.hi)) =
-    append_assoc (codes ".image " ++ d.name) (codes " ") _ ∙ append_assoc (codes ".image ") d.name _ in
-    front ∙ ap (λ k. codes ".image " ++ (d.name ++ 32 ∷ k)) range
+    two_spaced (image_key d.flat) d.name (type_word d.ty ++ codes " " ++ decimal d.lo ++ codes " " ++ decimal d.hi) ∙ ap (λ k. image_key d.flat ++ 32 ∷ (d.name ++ 32 ∷ k)) range
 
 tap_spaced : (images : List ImageName) (t : Tap) → tap_line images t ≡ spaced_line (tap_words images t)
 tap_spaced images t =
@@ -73,9 +71,8 @@ lifted_spaced : (d : Definition) → lifted_front d ≡ spaced_line (lifted_word
 lifted_spaced d =
     append_assoc (codes ".lifted " ++ d.name ++ codes " ") (type_word d.ty) (codes " =") ∙ append_assoc (codes ".lifted " ++ d.name) (codes " ") (type_word d.ty ++ codes " =") ∙ append_assoc (codes ".lifted ") d.name (32 ∷ (type_word d.ty ++ codes " ="))
 
-solid_key : IsWord (codes ".image") × IsWord (codes ".tap") × IsWord (codes ".out") × IsWord (codes ".scratch") × IsWord (codes ".cost") × IsWord (codes ".lifted") × IsWord (codes "=") × IsWord (codes "out")
+solid_key : IsWord (codes ".tap") × IsWord (codes ".out") × IsWord (codes ".scratch") × IsWord (codes ".cost") × IsWord (codes ".lifted") × IsWord (codes "=") × IsWord (codes "out")
 solid_key = (
-  key_word (codes ".image") (refl, refl, (refl, refl, (refl, refl, (refl, refl, (refl, refl, (refl, refl, tt)))))) (omega arith),
   key_word (codes ".tap") (refl, refl, (refl, refl, (refl, refl, (refl, refl, tt)))) (omega arith),
   key_word (codes ".out") (refl, refl, (refl, refl, (refl, refl, (refl, refl, tt)))) (omega arith),
   key_word (codes ".scratch") (refl, refl, (refl, refl, (refl, refl, (refl, refl, (refl, refl, (refl, refl, (refl, refl, (refl, refl, tt)))))))) (omega arith),
@@ -84,6 +81,10 @@ solid_key = (
   key_word (codes "=") (refl, refl, tt) (omega arith),
   key_word (codes "out") (refl, refl, (refl, refl, (refl, refl, tt))) (omega arith),
 )
+
+solid_image : (flat : Bool) → IsWord (image_key flat)
+solid_image false = key_word (codes ".image") (refl, refl, (refl, refl, (refl, refl, (refl, refl, (refl, refl, (refl, refl, tt)))))) (omega arith)
+solid_image true = key_word (codes ".param") (refl, refl, (refl, refl, (refl, refl, (refl, refl, (refl, refl, (refl, refl, tt)))))) (omega arith)
 
 pixel_at : (signed : Bool) (bits : Bits) (n : ℕ) → IsPixelType (record { signed = signed; bits = bits }) → IsIn (record { signed = signed; bits = bits }) (pos n) → n < 2 ^ 16
 pixel_at true bits n is inside = absurd (let never : true ≡ false = is.unsigned in cc)
@@ -99,7 +100,7 @@ decl_fits d is =
 image_both : (line : List ℕ) (d : ImageDecl) → IsDecl d → IsBoth line (image_line d) (image_words d)
 image_both line d is =
     let fits = decl_fits d is in
-    both line (image_line d) (image_words d) (image_spaced d) (solid_key.0, (name_word d.name is.name, (type_word_is d.ty, (number_word d.lo fits.0, number_word d.hi fits.1))))
+    both line (image_line d) (image_words d) (image_spaced d) (solid_image d.flat, (name_word d.name is.name, (type_word_is d.ty, (number_word d.lo fits.0, number_word d.hi fits.1))))
 
 -- the names of images are names
 named_image : (h : Head) (n : ℕ) → IsNames (names_so_far h) → n < length h.images → IsTrue (is_name (get_or (map image_name h.images) n no_image).name)
@@ -115,22 +116,22 @@ named_image h n is lt =
 tap_both : (line : List ℕ) (h : Head) (t : Tap) → IsNames (names_so_far h) → IsTap (length h.images) t → IsBoth line (tap_line (map image_name h.images) t) (tap_words (map image_name h.images) t)
 tap_both line h t names is =
     both line (tap_line (map image_name h.images) t) (tap_words (map image_name h.images) t) (tap_spaced (map image_name h.images) t)
-    (solid_key.1, (name_word _ (named_image h t.image names is.image), (offset_word t.dx (is.left, is.right), offset_word t.dy (is.up, is.down))))
+    (solid_key.0, (name_word _ (named_image h t.image names is.image), (offset_word t.dx (is.left, is.right), offset_word t.dy (is.up, is.down))))
 
 out_both : (line : List ℕ) (ty : LaneType) → IsBoth line (out_line ty) (out_words ty)
-out_both line ty = both line (out_line ty) (out_words ty) refl (solid_key.2, type_word_is ty)
+out_both line ty = both line (out_line ty) (out_words ty) refl (solid_key.1, type_word_is ty)
 
 scratch_both : (line : List ℕ) (n : ℕ) → n ≤ 2 ^ 30 → IsBoth line (scratch_line n) (scratch_words n)
-scratch_both line n few = both line (scratch_line n) (scratch_words n) refl (solid_key.3, number_word n (omega (arith, few)))
+scratch_both line n few = both line (scratch_line n) (scratch_words n) refl (solid_key.2, number_word n (omega (arith, few)))
 
 cost_both : (line : List ℕ) (n : ℕ) → n < 2 ^ 64 → IsBoth line (cost_line n) (cost_words n)
-cost_both line n few = both line (cost_line n) (cost_words n) refl (solid_key.4, number_word n few)
+cost_both line n few = both line (cost_line n) (cost_words n) refl (solid_key.3, number_word n few)
 
 lifted_word : (name : List ℕ) → IsLiftedName name → IsWord name
-lifted_word name h = ⊎_elim (λ (out : name ≡ codes "out"). subst IsWord (sym out) solid_key.7) (λ (named : IsTrue (is_name name)). name_word name named) h
+lifted_word name h = ⊎_elim (λ (out : name ≡ codes "out"). subst IsWord (sym out) solid_key.6) (λ (named : IsTrue (is_name name)). name_word name named) h
 
 lifted_both : (line : List ℕ) (d : Definition) → IsLiftedName d.name → IsBoth line (lifted_front d) (lifted_words d.name d.ty)
-lifted_both line d h = both line (lifted_front d) (lifted_words d.name d.ty) (lifted_spaced d) (solid_key.5, (lifted_word d.name h, (type_word_is d.ty, solid_key.6)))
+lifted_both line d h = both line (lifted_front d) (lifted_words d.name d.ty) (lifted_spaced d) (solid_key.4, (lifted_word d.name h, (type_word_is d.ty, solid_key.5)))
 
 -- ---- lines but those of lifted terms
 declared_there : (h : Head) (line : List ℕ) → IsNames (names_so_far h) → (next : SoFar) → DeclarationGoesOn h (words_in line) next → GoesOnAt Declarations h line next

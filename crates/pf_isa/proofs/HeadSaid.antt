@@ -16,15 +16,17 @@ use Rattle.pf_values.specs.declared.names.Names.{Names}
 use Rattle.pf_values.specs.declared.names.ImageName.{ImageName}
 use Rattle.pf_values.specs.declared.names.Tap.{Tap}
 use Rattle.pf_terms.specs.Meaning.KernelNames.{IsNames, IsNearTap}
+use Rattle.pf_values.specs.Meaning.Kernels.{AreInOrder, IsStill}
 use Rattle.pf_values.specs.Meaning.Terms.{node_count}
 use Rattle.pf_machine.specs.declared.program.Head.{Head}
 use Rattle.pf_isa.specs.declared.so_far.Stage.{Stage}
 use Rattle.pf_isa.specs.declared.so_far.Stage.TheVariants.{Declarations, Scratch, Lifted, Cost, Code}
-use Rattle.pf_machine.specs.Meaning.Heads.{image_name, def_name, names_of_taps, with_def, IsDecl, IsTap, IsLifted, AreLifted, AreLiftedNames, IsHead}
+use Rattle.pf_machine.specs.Meaning.Heads.{image_name, def_name, flats, names_of_taps, with_def, IsDecl, IsTap, IsLifted, AreLifted, AreLiftedNames, IsHead}
 use Rattle.pf_text.specs.Meaning.Lines.{IsLine}
 use Rattle.pf_isa.specs.Meaning.Texts.{IsHeadText, IsLiftedLine, AreLiftedLines, target_line, image_line, tap_line, out_line, scratch_line, cost_line}
 use Rattle.pf_isa.specs.Meaning.TextFaults.{SoFar, empty_head, head_names, names_so_far, nodes_so_far, head_with_image, head_with_tap, head_with_lifted, IsNextImage, IsNextTap, IsNextLifted, GoesOnAt, GoOn}
 use Rattle.pf_isa.specs.Steps.HeadSteps.{whole, IsReached, HasTermNames, HasTermNamesAt}
+use Rattle.pf_isa.proofs.OrderLaws.{order_more, flats_at, flats_of_names}
 use Rattle.pf_text.proofs.ListLaws.{different, sum_split, zip_more}
 
 abbrev images_lines : Head → List (List ℕ)
@@ -79,8 +81,10 @@ IsAt Code h ls = IsInCode h ls
 
 record IsValid (h : Head) : Type 0 where
   images : All IsDecl h.images
+  in_order : AreInOrder (flats h.images)
   few_images : length h.images ≤ 8
   taps : All (IsTap (length h.images)) h.taps
+  still_taps : All (IsStill (flats h.images)) h.taps
   few_taps : length h.taps ≤ 64
   distinct_taps : AllPairs (λ t u. t ≢ u) h.taps
   names : AllPairs (λ n m. n ≢ m) (head_names h)
@@ -133,8 +137,10 @@ step_image h ls line d said is next =
     record {
       valid = record {
         images = All-push IsDecl h.images d said.valid.images next.decl;
+        in_order = subst AreInOrder (sym (flats_at h.images [] d)) (order_more (flats h.images) d.flat said.valid.in_order next.order);
         few_images = omega (arith, next.few, length_push h.images d);
         taps = subst (λ l. All (IsTap (length (h.images ++ d ∷ []))) l) (sym next.early) (All-nil (IsTap (length (h.images ++ d ∷ []))));
+        still_taps = subst (λ l. All (IsStill (flats (h.images ++ d ∷ []))) l) (sym next.early) (All-nil (IsStill (flats (h.images ++ d ∷ []))));
         few_taps = said.valid.few_taps;
         distinct_taps = said.valid.distinct_taps;
         names = subst (λ l. AllPairs (λ n m. n ≢ m) l) (sym more) (named_apart h d.name said.valid.names next.new);
@@ -152,8 +158,10 @@ step_tap h ls line t said is next =
     record {
       valid = record {
         images = said.valid.images;
+        in_order = said.valid.in_order;
         few_images = said.valid.few_images;
         taps = All-push (IsTap (length h.images)) h.taps t said.valid.taps next.tap;
+        still_taps = All-push (IsStill (flats h.images)) h.taps t said.valid.still_taps next.still;
         few_taps = omega (arith, next.few, length_push h.taps t);
         distinct_taps = all_pairs_push (λ u v. u ≢ v) h.taps t said.valid.distinct_taps (different h.taps t next.new);
         names = said.valid.names;
@@ -166,8 +174,10 @@ step_tap h ls line t said is next =
 same_valid : (h g : Head) → h.images ≡ g.images → h.taps ≡ g.taps → h.lifted ≡ g.lifted → IsValid h → IsValid g
 same_valid h g images taps lifted v = record {
   images = subst (λ l. All IsDecl l) images v.images;
+  in_order = subst (λ l. AreInOrder (flats l)) images v.in_order;
   few_images = subst (λ (l : List ImageDecl). length l ≤ 8) images v.few_images;
   taps = subst (λ l. All (IsTap (length g.images)) l) taps (subst (λ (l : List ImageDecl). All (IsTap (length l)) h.taps) images v.taps);
+  still_taps = subst (λ l. All (IsStill (flats g.images)) l) taps (subst (λ (l : List ImageDecl). All (IsStill (flats l)) h.taps) images v.still_taps);
   few_taps = subst (λ (l : List Tap). length l ≤ 64) taps v.few_taps;
   distinct_taps = subst (λ l. AllPairs (λ t u. t ≢ u) l) taps v.distinct_taps;
   names = subst (λ l. AllPairs (λ n m. n ≢ m) (map (λ d. d.name) g.images ++ map (λ d. d.name) l)) lifted (subst (λ l. AllPairs (λ n m. n ≢ m) (map (λ d. d.name) l ++ map (λ d. d.name) h.lifted)) images v.names);
@@ -183,8 +193,10 @@ step_lifted h ls line d said is next =
     let terms = said.at.terms in (
       record {
         images = said.valid.images;
+        in_order = said.valid.in_order;
         few_images = said.valid.few_images;
         taps = said.valid.taps;
+        still_taps = said.valid.still_taps;
         few_taps = said.valid.few_taps;
         distinct_taps = said.valid.distinct_taps;
         names = subst (λ l. AllPairs (λ n m. n ≢ m) l) (sym more) (named_apart h d.name said.valid.names next.new);
@@ -302,8 +314,10 @@ nothing_said : IsSaid empty_head []
 nothing_said = record {
   valid = record {
     images = All-nil IsDecl;
+    in_order = record { first = refl; order = λ i j d lt within. absurd (omega arith) };
     few_images = omega arith;
     taps = All-nil (IsTap 0);
+    still_taps = All-nil (IsStill []);
     few_taps = omega arith;
     distinct_taps = λ i j d lt within. absurd (omega arith);
     names = λ i j d lt within. absurd (omega arith);
@@ -338,9 +352,9 @@ named_of : (ds : List ImageDecl) → All IsDecl ds → All (λ s. is_name s ≡ 
 named_of [] h = All-nil (λ s. is_name s ≡ true)
 named_of (d ∷ ds) h = All-cons (λ s. is_name s ≡ true) d.name (map (λ e. e.name) ds) (All-head IsDecl d ds h).name (named_of ds (All-tail IsDecl d ds h))
 
-pub names_from : (h : Head) → length h.images ≤ 8 → All IsDecl h.images → length h.taps ≤ 64 → All (IsTap (length h.images)) h.taps → AllPairs (λ t u. t ≢ u) h.taps → AllPairs (λ n m. n ≢ m) (head_names h)
+pub names_from : (h : Head) → length h.images ≤ 8 → All IsDecl h.images → AreInOrder (flats h.images) → length h.taps ≤ 64 → All (IsTap (length h.images)) h.taps → All (IsStill (flats h.images)) h.taps → AllPairs (λ t u. t ≢ u) h.taps → AllPairs (λ n m. n ≢ m) (head_names h)
     → All (λ s. is_name s ≡ true) (map (λ d. d.name) h.lifted) → length h.lifted ≤ 64 → IsNames (names_so_far h)
-names_from h few_images decls few_taps taps distinct_taps distinct named few =
+names_from h few_images decls order few_taps taps still distinct_taps distinct named few =
     let images : map (λ (i : ImageName). i.name) (map image_name h.images) ≡ map (λ d. d.name) h.images = map_images h.images in
     let defs : map (λ d. d.name) (map def_name h.lifted) ≡ map (λ d. d.name) h.lifted = map_defs h.lifted in
     let long = length-map h.images image_name in
@@ -354,10 +368,12 @@ names_from h few_images decls few_taps taps distinct_taps distinct named few =
       distinct_names = subst (λ l. AllPairs (λ s t. s ≢ t) (l ++ map (λ d. d.name) (map def_name h.lifted))) (sym images) (subst (λ l. AllPairs (λ s t. s ≢ t) (map (λ d. d.name) h.images ++ l)) (sym defs) distinct);
       near = subst (λ n. All (IsNearTap n) h.taps) (sym long) (λ k d lt. let t = taps k d lt in record { image = t.image; across = record { low = t.left; high = t.right }; down = record { low = t.up; high = t.down } });
       distinct_taps = distinct_taps;
+      order = subst AreInOrder (sym (flats_of_names h.images)) order;
+      still = subst (λ fs. All (IsStill fs) h.taps) (sym (flats_of_names h.images)) still;
     }
 
 names_ready : (h : Head) → IsValid h → All (λ s. is_name s ≡ true) (map (λ d. d.name) h.lifted) → length h.lifted ≤ 64 → IsNames (names_so_far h)
-names_ready h v named few = names_from h v.few_images v.images v.few_taps v.taps v.distinct_taps v.names named few
+names_ready h v named few = names_from h v.few_images v.images v.in_order v.few_taps v.taps v.still_taps v.distinct_taps v.names named few
 
 ready_at : (st : Stage) (h : Head) (ls : List (List ℕ)) → IsSaid (record { stage = st; head = h }) ls → HasTermNamesAt st h
 ready_at Declarations h ls said = names_ready h said.valid (subst (λ l. All (λ s. is_name s ≡ true) (map (λ (d : Definition). d.name) l)) (sym said.at.0) (All-nil (λ s. is_name s ≡ true))) (subst (λ (l : List Definition). length l ≤ 64) (sym said.at.0) (omega arith))
@@ -379,8 +395,10 @@ chain_is_head h ls k =
       some_images = at.start.some;
       few_images = v.few_images;
       images = v.images;
+      in_order = v.in_order;
       few_taps = v.few_taps;
       taps = v.taps;
+      still_taps = v.still_taps;
       distinct_taps = v.distinct_taps;
       out_ty = at.start.out_ty;
       scratch = at.scratch;

@@ -1,5 +1,5 @@
 -- What the next line of a head says is one thing.
-use Rattle.std.proofs.Common.{◌≡◌, ◌≢◌, refl, sym, ap, ◌∙◌, subst, inl, inr, ⊎_elim, ℕ, ◌≤◌, ◌<◌, List, [], ◌∷◌, ◌++◌, length, map, true, false, Option, Some, None, arith, get_or, length-append, cond}
+use Rattle.std.proofs.Common.{◌≡◌, ◌≢◌, refl, sym, ap, ◌∙◌, subst, inl, inr, ⊎_elim, ℕ, ◌≤◌, ◌<◌, List, [], ◌∷◌, ◌++◌, length, map, Bool, true, false, Option, Some, None, arith, get_or, length-append, cond}
 use Rattle.std.specs.Prelude.{Result, Ok, Err, IfOk, IfSome, Contains, codes}
 use Rattle.std.specs.List.{list_any}
 use Rattle.std.proofs.lemmas.List.{length-map}
@@ -18,6 +18,7 @@ use Rattle.pf_values.specs.Meaning.Terms.{IsWellTyped}
 use Rattle.pf_values.specs.Meaning.NamedTerms.{is_named}
 use Rattle.pf_machine.specs.declared.program.Head.{Head}
 use Rattle.pf_machine.specs.Meaning.Heads.{image_name, IsDecl, IsTap}
+use Rattle.pf_isa.specs.Meaning.Texts.{image_key}
 use Rattle.pf_isa.specs.Steps.HeadWords.{IsTheOne, image_words, tap_words, out_words}
 use Rattle.pf_isa.specs.Steps.HeadSteps.{ImageGoesOn, TapGoesOn, OutGoesOn, OutWordsGoOn, TapOrOutGoesOn, DeclarationGoesOn, IsFitting, IsDefinitionOf, IsRoom, TermGoesOn, LiftedGoesOn}
 use Rattle.pf_isa.specs.Meaning.TextFaults.{SoFar, head_names, names_so_far, nodes_so_far, head_with_lifted, stage_behind}
@@ -29,17 +30,19 @@ first_of ws = get_or ws 0 []
 other_key : codes ".tap" ≡ codes ".out" → ⊥
 other_key e = absurd (let byte : 116 ≡ 111 = ap (λ l. get_or l 1 0) e in omega (arith, byte))
 
-image_or_tap : codes ".image" ≡ codes ".tap" → ⊥
-image_or_tap e = absurd (let byte : 105 ≡ 116 = ap (λ l. get_or l 1 0) e in omega (arith, byte))
+image_or_tap : (flat : Bool) → image_key flat ≡ codes ".tap" → ⊥
+image_or_tap false e = absurd (let byte : 105 ≡ 116 = ap (λ l. get_or l 1 0) e in omega (arith, byte))
+image_or_tap true e = absurd (let byte : 112 ≡ 116 = ap (λ l. get_or l 1 0) e in omega (arith, byte))
 
-image_or_out : codes ".image" ≡ codes ".out" → ⊥
-image_or_out e = absurd (let byte : 105 ≡ 111 = ap (λ l. get_or l 1 0) e in omega (arith, byte))
+image_or_out : (flat : Bool) → image_key flat ≡ codes ".out" → ⊥
+image_or_out false e = absurd (let byte : 105 ≡ 111 = ap (λ l. get_or l 1 0) e in omega (arith, byte))
+image_or_out true e = absurd (let byte : 112 ≡ 111 = ap (λ l. get_or l 1 0) e in omega (arith, byte))
 
 no_image_word : (h : Head) (ws : List (List ℕ)) (d : ImageDecl) (next : SoFar) → ws ≡ image_words d → TapOrOutGoesOn h ws next → ⊥
 unfolding first_of
 no_image_word h ws d next is k =
-    ⊎_elim (λ (t : (u : Tap) × (ws ≡ tap_words (map image_name h.images) u) × TapGoesOn h u next). absurd (image_or_tap (ap first_of (sym is ∙ t.1))))
-    (λ (o : OutWordsGoOn h ws next). absurd (image_or_out (ap first_of (sym is ∙ o.1)))) k
+    ⊎_elim (λ (t : (u : Tap) × (ws ≡ tap_words (map image_name h.images) u) × TapGoesOn h u next). absurd (image_or_tap d.flat (ap first_of (sym is ∙ t.1))))
+    (λ (o : OutWordsGoOn h ws next). absurd (image_or_out d.flat (ap first_of (sym is ∙ o.1)))) k
 
 no_tap_word : (h : Head) (ws : List (List ℕ)) (t : Tap) (next : SoFar) → ws ≡ tap_words (map image_name h.images) t → OutWordsGoOn h ws next → ⊥
 unfolding first_of

@@ -27,6 +27,7 @@ use Rattle.pf_values.specs.Meaning.NamedTerms.{no_image}
 use Rattle.pf_machine.specs.Meaning.Heads.{IsDecl, IsTap}
 use Rattle.pf_isa.specs.Steps.HeadWords.{IsTheOne, image_words, tap_words, lifted_words, IsLiftedName, IsOffset, is_space}
 use Rattle.pf_text.specs.Steps.Scan.{number_on, behind}
+use Rattle.pf_isa.specs.Meaning.Texts.{image_key}
 use Rattle.pf_isa.specs.Meaning.TextFaults.{texts}
 use Rattle.pf_text.proofs.ScanLaws.{number_on-decimal}
 use Rattle.pf_isa.proofs.TextLaws.{decimal_digits}
@@ -150,6 +151,22 @@ words_last line rest words more part so_far is split =
     rw (joined, ← split) so_far
 
 -- ---- images
+key_only : (f g : Bool) → image_key f ≡ image_key g → f ≡ g
+key_only true true e = refl
+key_only false false e = refl
+key_only true false e = absurd (let byte : 112 ≡ 105 = ap (λ l. get_or l 1 0) e in omega (arith, byte))
+key_only false true e = absurd (let byte : 105 ≡ 112 = ap (λ l. get_or l 1 0) e in omega (arith, byte))
+
+pub one_key : (word key : List ℕ) (flat : Bool) → word ≡ key → key ≡ image_key flat → (image_key flat ≡ word) × ((f : Bool) → image_key f ≡ word → f ≡ flat)
+one_key word key flat same is = (sym is ∙ sym same, λ f e. key_only f flat (e ∙ same ∙ is))
+
+pub no_key : (word : List ℕ) → word ≢ image_key false → word ≢ image_key true → (f : Bool) → image_key f ≡ word → ⊥
+no_key word image param false e = image (sym e)
+no_key word image param true e = param (sym e)
+
+pub no_image_key : (ws : List (List ℕ)) (key name word low high : List ℕ) → ws ≡ key ∷ name ∷ word ∷ low ∷ high ∷ [] → ((f : Bool) → image_key f ≡ key → ⊥) → (d : ImageDecl) → IsDecl d × (ws ≡ image_words d) → ⊥
+no_image_key ws key name word low high is never d (decl, says) = never d.flat (ap (λ l. get_or l 0 []) (sym says ∙ is))
+
 pub five_words : (xs : List (Bor (List ℕ))) (d : Bor (List ℕ)) → 5 ≤ length xs → length xs < 6 → texts xs ≡ (get_or xs 0 d).now ∷ (get_or xs 1 d).now ∷ (get_or xs 2 d).now ∷ (get_or xs 3 d).now ∷ (get_or xs 4 d).now ∷ []
 five_words [] d some few = absurd (omega arith)
 five_words (a ∷ []) d some few = absurd (omega arith)
@@ -170,17 +187,18 @@ no_image_range ws key name word low high ty is typed never d (decl, says) =
     let same : d.ty ≡ ty = type_word_injective d.ty ty (ap (λ l. get_or l 2 []) at ∙ sym typed) in
     never (d.lo, d.hi) (decl.ordered, subst (λ t. IsIn t (pos d.hi)) same decl.inside, ap (λ l. get_or l 3 []) at, ap (λ l. get_or l 4 []) at)
 
-pub one_image : (ws : List (List ℕ)) (key name word low high : List ℕ) (ty : LaneType) (lo hi : ℕ) (called : List ℕ) → ws ≡ key ∷ called ∷ word ∷ low ∷ high ∷ [] → key ≡ codes ".image" → IsTrue (is_name name) → name ≡ called → IsPixelType ty → type_word ty ≡ word
+pub one_image : (ws : List (List ℕ)) (key name word low high : List ℕ) (ty : LaneType) (lo hi : ℕ) (flat : Bool) (called : List ℕ) → ws ≡ key ∷ called ∷ word ∷ low ∷ high ∷ [] → (image_key flat ≡ key) × ((f : Bool) → image_key f ≡ key → f ≡ flat) → IsTrue (is_name name) → name ≡ called → IsPixelType ty → type_word ty ≡ word
     → IsRange ty low high lo hi × ((r : ℕ × ℕ) → IsRange ty low high r.0 r.1 → r ≡ (lo, hi))
-    → let d : ImageDecl = record { name = name; ty = ty; lo = lo; hi = hi } in (IsDecl d × (ws ≡ image_words d)) × ((e : ImageDecl) → IsDecl e × (ws ≡ image_words e) → e ≡ d)
-one_image ws key name word low high ty lo hi called is is_key named is_name pixel typed (range, only) = (
+    → let d : ImageDecl = record { name = name; ty = ty; lo = lo; hi = hi; flat = flat } in (IsDecl d × (ws ≡ image_words d)) × ((e : ImageDecl) → IsDecl e × (ws ≡ image_words e) → e ≡ d)
+one_image ws key name word low high ty lo hi flat called is (is_key, only_key) named is_name pixel typed (range, only) = (
   (record { name = named; ty = pixel; ordered = range.0; inside = range.1 }, is ∙ rw (is_key, is_name, typed, range.2, range.3) refl),
   λ e (decl, says).
       let at : image_words e ≡ key ∷ called ∷ word ∷ low ∷ high ∷ [] = sym says ∙ is in
       let same : e.ty ≡ ty = type_word_injective e.ty ty (ap (λ l. get_or l 2 []) at ∙ sym typed) in
       let pair : ◌≡◌ {A = ℕ × ℕ} (e.lo, e.hi) (lo, hi) = only (e.lo, e.hi) (decl.ordered, subst (λ t. IsIn t (pos e.hi)) same decl.inside, ap (λ l. get_or l 3 []) at, ap (λ l. get_or l 4 []) at) in
       let names : e.name ≡ name = ap (λ l. get_or l 1 []) at ∙ sym is_name in
-      λ i. record { name = names i; ty = same i; lo = (pair i).0; hi = (pair i).1 },
+      let flats : e.flat ≡ flat = only_key e.flat (ap (λ l. get_or l 0 []) at) in
+      λ i. record { name = names i; ty = same i; lo = (pair i).0; hi = (pair i).1; flat = flats i },
 )
 
 -- ---- taps and lifted terms

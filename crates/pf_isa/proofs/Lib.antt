@@ -4,6 +4,7 @@ pub mod HeadWordLaws
 pub mod NameLaws
 pub mod WordLines
 pub mod NodeLaws
+pub mod OrderLaws
 pub mod HeadStepLaws
 pub mod HeadLineLaws
 pub mod HeadChains

@@ -18,7 +18,7 @@ use Rattle.pf_terms.specs.declared.token.TokenKind.{TokenKind}
 use Rattle.pf_terms.specs.declared.token.TokenKind.TheVariants.{Close, CloseSquare, Comma, Plus, Minus, Times, ShiftLeft as LeftSign, ShiftRight as RightSign, Number as NumberToken}
 use Rattle.pf_terms.specs.declared.token.Token.{Token}
 use Rattle.pf_terms.specs.Meaning.Grammar.{Spells, Rank, IsInteger, IsComparison, plain, minus, greater, less, equal_sign, literal, negated, plain_name, placed, in_brackets, cast, one, two, one_by, two_by, typed_call, chosen, alone, product, term, sum as sum_of, difference, unshifted, left, right}
-use Rattle.pf_terms.specs.Meaning.Meanings.{in_order, term_of}
+use Rattle.pf_terms.specs.Meaning.Meanings.{in_order, term_of, is_param}
 use Rattle.pf_terms.specs.Meaning.Tokens.{kinds, IsLexed}
 use Rattle.pf_values.specs.Meaning.Terms.{node_count, nodes_step}
 use Rattle.pf_terms.proofs.TreeForms.{term_number, term_named, term_placed}
@@ -63,8 +63,12 @@ node_nodes names op swap ty k args =
 number_nodes : (names : Names) (n : ℤ) (t : LaneType) → nodes names (Number n t) ≡ 1
 number_nodes names n t = ap node_count (term_number names n t) ∙ leaf_nodes _ t
 
+either_node : (which : Bool) (t u : Term) → node_count t ≡ 1 → node_count u ≡ 1 → node_count (cond which t u) ≡ 1
+either_node true t u first second = first
+either_node false t u first second = second
+
 named_nodes : (names : Names) (s : List ℕ) → nodes names (Name s) ≡ 1
-named_nodes names s = ap node_count (term_named names s) ∙ leaf_nodes _ _
+named_nodes names s = ap node_count (term_named names s) ∙ either_node (is_param names.images s) _ _ (leaf_nodes _ _) (leaf_nodes _ _)
 
 placed_nodes : (names : Names) (s : List ℕ) (dx dy : ℤ) → nodes names (Tap s dx dy) ≡ 1
 placed_nodes names s dx dy = ap node_count (term_placed names s dx dy) ∙ leaf_nodes _ _

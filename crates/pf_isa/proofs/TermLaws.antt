@@ -1,5 +1,5 @@
 -- The printed text of a term stands inside a line.
-use Rattle.std.proofs.Common.{◌≡◌, refl, sym, subst, ℕ, Bool, true, false, List, [], ◌∷◌, ◌++◌, map, take, drop, get_or}
+use Rattle.std.proofs.Common.{◌≡◌, refl, sym, subst, ℕ, Bool, true, false, List, [], ◌∷◌, ◌++◌, map, take, drop, get_or, cond}
 use Rattle.std.specs.Prelude.{decimal, codes, ℤ}
 use Rattle.std.specs.Fmt.{signed_decimal}
 use Rattle.pf_ints.specs.declared.lane.LaneType.{LaneType}
@@ -54,8 +54,12 @@ inner_placed : (name : List ℕ) (t : TapOf) → IsInner name → IsInner (place
 inner_placed name t h =
     inner_append (inner_append (inner_append (inner_append (inner_append h (literal (codes "[") refl)) (signed_inner t.dx)) (literal (codes ",") refl)) (signed_inner t.dy)) (literal (codes "]") refl)
 
+inner_tap : (flat : Bool) (name : List ℕ) (t : TapOf) → IsInner name → IsInner (cond flat name (placed_text name t))
+inner_tap true name t h = h
+inner_tap false name t h = inner_placed name t h
+
 inner_leaf : (names : Names) (leaf : LeafOf) (ty : LaneType) → InnerNames names → IsInner (leaf_text names leaf ty)
-inner_leaf names (Tap n) ty h = inner_placed _ (get_or names.taps n no_tap) (h.images _)
+inner_leaf names (Tap n) ty h = inner_tap _ _ (get_or names.taps n no_tap) (h.images _)
 inner_leaf names (Const n) ty h = inner_append (signed_inner n) (inner_type ty)
 inner_leaf names (Def n) ty h = h.defs n
 

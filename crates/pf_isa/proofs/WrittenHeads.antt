@@ -116,7 +116,7 @@ names_at h is done todo all named few =
     let split : map (λ d. d.name) h.images ++ map (λ d. d.name) h.lifted ≡ (map (λ d. d.name) h.images ++ map (λ d. d.name) done) ++ map (λ d. d.name) todo =
     ap (λ l. map (λ d. d.name) h.images ++ map (λ d. d.name) l) (sym all) ∙ ap (λ l. map (λ d. d.name) h.images ++ l) (map-append (λ (d : Definition). d.name) done todo)
     ∙ sym (append_assoc (map (λ d. d.name) h.images) (map (λ d. d.name) done) (map (λ d. d.name) todo)) in
-    names_from (with_terms h done) is.few_images is.images is.few_taps is.taps is.distinct_taps
+    names_from (with_terms h done) is.few_images is.images is.in_order is.few_taps is.taps is.still_taps is.distinct_taps
     (distinct_front (map (λ d. d.name) h.images ++ map (λ d. d.name) done) (map (λ d. d.name) todo) (subst (λ l. AllPairs (λ n m. n ≢ m) l) split is.distinct_names)) named few
 
 lifted_are_read : (h : Head) → IsHead h → (done todo : List Definition) → done ++ todo ≡ h.lifted → All (λ s. is_name s ≡ true) (map (λ d. d.name) done) → (names : Names) → names ≡ names_so_far (with_terms h done)

@@ -1,5 +1,5 @@
 -- What is written of a program is a text of it.
-use Rattle.std.proofs.Common.{◌≡◌, ◌≢◌, inl, refl, sym, ap, ◌∙◌, subst, ℕ, zero, suc, ◌+◌, ◌<◌, ◌≤◌, true, false, not, List, [], ◌∷◌, ◌++◌, length, map, get_or, arith, All, ◌==◌, rules}
+use Rattle.std.proofs.Common.{◌≡◌, ◌≢◌, inl, refl, sym, ap, ◌∙◌, subst, ℕ, zero, suc, ◌+◌, ◌<◌, ◌≤◌, Bool, true, false, not, List, [], ◌∷◌, ◌++◌, length, map, get_or, arith, All, ◌==◌, rules}
 use Rattle.std.specs.Prelude.{codes, IsTrue, nat_le, if◌then◌else◌}
 use Rattle.std.specs.List.{list_all, AllByRecursion, AllPairs, AllZip}
 use Rattle.std.specs.Str.Lines.{lines}
@@ -24,7 +24,7 @@ use Rattle.pf_text.specs.Meaning.Lines.{tight, IsPlain, IsInstruction}
 use Rattle.pf_machine.specs.Meaning.Tables.{Table, IsTable}
 use Rattle.pf_machine.specs.Meaning.Heads.{IsHead, IsDecl, AreLiftedNames, image_name, def_name, names_of_taps, with_def}
 use Rattle.pf_machine.specs.Meaning.Programs.{ProgramOf, IsProgram, IsInstructionOf, IsLabel}
-use Rattle.pf_isa.specs.Meaning.Texts.{Named, Does, printed, line_text, label_text, label_lines, labels_at, labels_behind, named, code_lines, labels_of, said_from, uncommented_code, MeansLine, SaysCode, IsOpOf, IsText, head_lines, target_line, image_line, range_text, tap_line, offsets_text, typed_term_text, lifted_lines, cost_line}
+use Rattle.pf_isa.specs.Meaning.Texts.{Named, Does, printed, line_text, label_text, label_lines, labels_at, labels_behind, named, code_lines, labels_of, said_from, uncommented_code, MeansLine, SaysCode, IsOpOf, IsText, head_lines, target_line, image_key, image_line, range_text, tap_line, offsets_text, typed_term_text, lifted_lines, cost_line}
 use Rattle.pf_isa.proofs.TextLaws.{inner, is_inner, solid, all-append, all-weaker, inner_name, lines-printed, code_of-said_from, Ascend, ascend_at, labels_of-named, is_solid_name, tight-solid, uncommented-no_slash, solid_no_slash, no_slash}
 use Rattle.pf_isa.proofs.WrittenHeads.{head_is_read}
 use Rattle.pf_isa.proofs.TermLaws.{IsInner, Inner, literal, inner_append, decimal_inner, signed_inner, inner_type, inner_term, InnerNames}
@@ -53,11 +53,15 @@ target_inner Neon = literal _ refl
 target_inner Avx2 = literal _ refl
 target_inner Hvx = literal _ refl
 
+key_inner : (flat : Bool) → IsInner (image_key flat)
+key_inner true = literal _ refl
+key_inner false = literal _ refl
+
 images_inner : (ds : List ImageDecl) → AllByRecursion IsDecl ds → Inner (map image_line ds)
 images_inner [] h = tt
 images_inner (d ∷ ds) h =
     let range : IsInner (range_text d) = inner_append (inner_append (inner_append (inner_append (inner_type d.ty) (literal (codes " ") refl)) (decimal_inner d.lo)) (literal (codes " ") refl)) (decimal_inner d.hi) in
-    (inner_append (inner_append (inner_append (literal (codes ".image ") refl) (name_inner d.name h.0.name)) (literal (codes " ") refl)) range, images_inner ds h.1)
+    (inner_append (inner_append (inner_append (inner_append (key_inner d.flat) (literal (codes " ") refl)) (name_inner d.name h.0.name)) (literal (codes " ") refl)) range, images_inner ds h.1)
 
 image_named : (ds : List ImageDecl) → AllByRecursion IsDecl ds → (n : ℕ) → IsInner (get_or (map image_name ds) n no_image).name
 image_named [] h n = literal [] refl

@@ -8,6 +8,7 @@ ghost use Rattle.pf_terms.specs.Meaning.TermTexts.{type_word};
 ghost use Rattle.pf_values.specs.Meaning.NamedTerms.{no_image};
 ghost use Rattle.pf_machine.specs.Meaning.Heads.{IsDecl, IsTap};
 ghost use Rattle.pf_isa.specs.Steps.HeadWords.{IsTheOne, IsOffset, image_words, tap_words, lifted_words, IsLiftedName, out_words, scratch_words, cost_words};
+ghost use Rattle.pf_isa.specs.Meaning.Texts.{image_key};
 ghost use Rattle.pf_isa.specs.Meaning.TextFaults.{texts};
 
 use itoa::Buffer;
@@ -110,20 +111,45 @@ pub fn name_of_word(word: &[u8]) -> Option<Name>
     if is_name(word) { Name::new(word) } else { None }
 }
 
-/// The image that the words declare.
+/// The image or the parameter that the words declare.
 pub fn image_of(words: &[&[u8]]) -> Option<ImageDecl>
     ensures { IsTheOne (λ d. IsDecl d × (texts words.now ≡ image_words d)) result }
 {
     let [word, name, ty, lo, hi] = words else {
         return None;
     };
-    if *word != b".image".as_slice() {
-        return None;
-    }
+    let flat = flat_of_word(word)?;
     let name = name_of_word(name)?;
     let ty = pixel_type_of_word(ty)?;
     let (lo, hi) = range_of(ty, lo, hi)?;
-    Some(ImageDecl { name, ty, lo, hi })
+    Some(ImageDecl {
+        name,
+        ty,
+        lo,
+        hi,
+        flat,
+    })
+}
+
+/// The word in front of an image, and of a parameter, which is flat.
+pub fn image_key(flat: bool) -> &'static [u8]
+    ensures { result.now ≡ image_key flat }
+{
+    if flat { b".param" } else { b".image" }
+}
+
+// Whether the word stands in front of a parameter, where it doesn't of an image.
+fn flat_of_word(word: &[u8]) -> Option<bool>
+    ensures { IsTheOne (λ flat. image_key flat ≡ word.now) result }
+{
+    if word == image_key(false) {
+        return Some(false);
+    }
+    if word == image_key(true) {
+        Some(true)
+    } else {
+        None
+    }
 }
 
 // The range of pixels of the type that two words write.

@@ -1,16 +1,17 @@
-ghost use Rattle.std.specs.Prelude.{◌≡◌, ◌≢◌, ◌<◌, ◌≤◌, ◌+◌, ◌↔◌, [], ◌∷◌, ◌++◌, length, map, true, IsTrue, IfOk, OnOk, IfSome, Contains, codes};
-ghost use Rattle.std.specs.List.{list_any, position, slice_split};
+ghost use Rattle.std.specs.Prelude.{◌≡◌, ◌≢◌, ◌<◌, ◌≤◌, ◌+◌, ◌↔◌, [], ◌∷◌, ◌++◌, length, map, not, true, IsTrue, IfOk, OnOk, IfSome, Contains, codes};
+ghost use Rattle.std.specs.List.{list_all, list_any, position, slice_split};
 ghost use Rattle.std.specs.Str.{bytes_eq};
 ghost use Rattle.pf_ints.specs.Meaning.Images.{IsPixelType};
 ghost use Rattle.pf_terms.specs.declared.meaning.ReadFault.TheVariants.{Memory as Refused};
 ghost use Rattle.pf_terms.specs.Meaning.KernelNames.{IsNames};
 ghost use Rattle.pf_terms.specs.Meaning.Meanings.{IsTermText};
+ghost use Rattle.pf_values.specs.Meaning.Kernels.{IsStill};
 ghost use Rattle.pf_values.specs.Meaning.Terms.{IsWellTyped, stated_type};
 ghost use Rattle.pf_values.specs.Meaning.NamedTerms.{is_named};
-ghost use Rattle.pf_machine.specs.Meaning.Heads.{IsDecl, IsTap, image_name, def_name};
+ghost use Rattle.pf_machine.specs.Meaning.Heads.{IsDecl, IsTap, flats, image_name, def_name};
 ghost use Rattle.pf_isa.specs.Steps.HeadSteps.{WordsGoOn, DeclarationGoesOn, TapOrOutGoesOn, OutWordsGoOn, ImageGoesOn, TapGoesOn, OutGoesOn, LiftedGoesOn, TermGoesOn, IsDefinitionOf, IsFitting, IsRoom, HasTermNames};
 ghost use Rattle.pf_isa.specs.Steps.HeadWords.{IsTheOne, IsLiftedName, is_sign, is_space, lifted_words, words_in};
-ghost use Rattle.pf_isa.specs.Meaning.TextFaults.{texts, SoFar, empty_head, head_names, names_so_far, GoesOn, GoesOnAt, stage_behind, IsNextImage, head_with_image, head_with_tap};
+ghost use Rattle.pf_isa.specs.Meaning.TextFaults.{texts, SoFar, empty_head, head_names, names_so_far, GoesOn, GoesOnAt, stage_behind, MayFollow, IsNextImage, IsNextTap, head_with_image, head_with_tap};
 ghost use Rattle.pf_isa.specs.declared.so_far.Stage.TheVariants.{Declarations, Scratch, Lifted, Cost, Code};
 
 use crate::head_words::{cost_of, image_of, lifted_of, out_of, scratch_of, tap_of};
@@ -134,9 +135,13 @@ impl HeadSoFar {
         requires { IsDecl image.now }
         ensures { IsTrue result ↔ IsNextImage self.now.head image.now }
     {
-        !self.has_name(image.name.as_slice())
-            && self.head.taps.is_empty()
-            && self.head.images.len() < MOST_IMAGES
+        if self.has_name(image.name.as_slice()) {
+            return false;
+        }
+        if !self.head.taps.is_empty() || self.head.images.len() >= MOST_IMAGES {
+            return false;
+        }
+        may_follow(self.head.images.as_slice(), image.flat)
     }
 
     fn with_image(self, image: &ImageDecl) -> Result<Option<HeadSoFar>, Memory>
@@ -170,15 +175,25 @@ impl HeadSoFar {
         })
     }
 
+    // Whether the tap may come next.
+    fn may_take_tap(&self, tap: Tap) -> bool
+        requires { IsTap (length self.now.head.images) tap }
+        ensures { IsTrue result ↔ IsNextTap self.now.head tap }
+    {
+        !has_tap(self.head.taps.as_slice(), tap)
+            && self.head.taps.len() < MOST_TAPS
+            && is_still(self.head.images.as_slice(), tap)
+    }
+
     fn with_tap(self, tap: Tap) -> Result<Option<HeadSoFar>, Memory>
         requires stage { self.stage ≡ Declarations }
         requires tap { IsTap (length self.head.images) tap }
         ensures { IfOk result (IsTheOne (TapGoesOn self.head tap)) }
     {
-        if has_tap(self.head.taps.as_slice(), tap) || MOST_TAPS <= self.head.taps.len() {
-            Ok(None)
-        } else {
+        if self.may_take_tap(tap) {
             Ok(Some(self.behind_tap(tap)?))
+        } else {
+            Ok(None)
         }
     }
 
@@ -413,6 +428,31 @@ impl HeadSoFar {
     }
 }
 
+// Whether an image, or a parameter, may follow these.
+fn may_follow(images: &[ImageDecl], flat: bool) -> bool
+    ensures { IsTrue result ↔ MayFollow (flats images.now) flat }
+{
+    if flat {
+        !images.is_empty()
+    } else {
+        are_images(images)
+    }
+}
+
+fn are_images(decls: &[ImageDecl]) -> bool
+    ensures { result ≡ list_all (λ d. not d.flat) decls.now }
+{
+    decls.iter().all(|decl| !decl.flat)
+}
+
+// Whether the tap has no offset, where its image is a parameter.
+fn is_still(images: &[ImageDecl], tap: Tap) -> bool
+    requires { tap.image < length images.now }
+    ensures { IsTrue result ↔ IsStill (flats images.now) tap }
+{
+    !images[usize::from(tap.image)].flat || (tap.dx == 0 && tap.dy == 0)
+}
+
 fn push_image(head: &mut Head, names: &mut Names, image: &ImageDecl) -> Result<(), Memory>
     ensures head { OnOk result (head.new ≡ record head.old { images = head.old.images ++ image.now ∷ [] }) }
     ensures names { OnOk result (names.new ≡ record names.old { images = names.old.images ++ image_name image.now ∷ [] }) }
@@ -421,6 +461,7 @@ fn push_image(head: &mut Head, names: &mut Names, image: &ImageDecl) -> Result<(
     names.images.push(ImageName {
         name: image.name,
         ty: image.ty,
+        flat: image.flat,
     })
 }
 

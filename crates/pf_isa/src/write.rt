@@ -5,6 +5,7 @@ ghost use Rattle.pf_machine.specs.Meaning.Heads.{IsHead, names_of_taps, AreLifte
 ghost use Rattle.pf_machine.specs.Meaning.Programs.{IsInstructionOf};
 ghost use Rattle.pf_isa.specs.Meaning.Texts.{IsText, IsOpOf, printed, target_line, range_text, image_line, offsets_text, tap_line, out_line, scratch_line, lifted_line, lifted_lines, typed_term_text, cost_line, head_lines, label_text, label_lines, line_text, labels_at, labels_behind, code_lines};
 
+use crate::head_words::image_key;
 use pf_ints::{Duplicate, LaneType, Memory, Name, Sequence, Target};
 use pf_machine::{Head, Isa, Label, Line, Program};
 use pf_terms::{DefName, Definition, ImageDecl, ImageName, Names, Tap, write_term, write_type};
@@ -32,7 +33,8 @@ fn push_range(text: &mut Vec<u8>, image: &ImageDecl) -> Result<(), Memory>
 fn push_image_line(text: &mut Vec<u8>, image: &ImageDecl) -> Result<(), Memory>
     ensures { OnOk result (text.new.items ≡ text.old.items ++ printed (image_line image.now ∷ [])) }
 {
-    text.extend_from_slice(b".image ")?;
+    text.extend_from_slice(image_key(image.flat))?;
+    text.extend_from_slice(b" ")?;
     text.extend_from_slice(image.name.as_slice())?;
     text.extend_from_slice(b" ")?;
     push_range(text, image)?;
@@ -133,6 +135,7 @@ fn names_of_taps(alloc: Global, head: &Head) -> Result<Names, Memory>
         images.push(ImageName {
             name: image.name,
             ty: image.ty,
+            flat: image.flat,
         })?;
     }
     Ok(Names {

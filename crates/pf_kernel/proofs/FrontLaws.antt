@@ -48,8 +48,8 @@ lexed_kinds n text _ (token _ size _ k ts solid front h) = (kind_of text size k 
 
 may_add : (b : Begun) (ks : List TokenKind) (f : Front) → IsShape b ks f → AreKinds ks → MayAdd b f
 may_add b _ _ (kernel n may) h = (may, h.1.0)
-may_add b _ _ (image n t may pixel) h = (may, h.1.0, pixel, whole_decl n t pixel)
-may_add b _ _ (ranged n t lo hi may pixel le inside) h = (may, h.1.0, pixel, record { ordered = le; inside = inside })
+may_add b _ _ (image flat n t may pixel) h = (may, h.1.0, pixel, whole_decl flat n t pixel)
+may_add b _ _ (ranged flat n t lo hi may pixel le inside) h = (may, h.1.0, pixel, record { ordered = le; inside = inside })
 may_add b _ _ (def n t es may) h = (may, h.1.0)
 may_add b _ _ (out t es may pixel) h = (may, pixel)
 

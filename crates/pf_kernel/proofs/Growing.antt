@@ -121,7 +121,7 @@ good_def b d n ty h may named free names typed few nodes =
     let none : out_nodes b.out ≡ 0 = ap out_nodes open_still.out in
     record {
       called = h.called;
-      names = named_more now more n names named free all refl (omega arith) names.few_images (omega arith) names.pixels;
+      names = named_more now more n names named free all refl (omega arith) names.few_images (omega arith) names.pixels names.order names.still;
       images = h.images;
       defs = defs_push (names_behind b.images now.taps []) b.defs x (defs_stay b d h) typed;
       nodes = omega arith;

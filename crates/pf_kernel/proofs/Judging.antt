@@ -1,6 +1,6 @@
 -- The first fault of an expression.
 use Rattle.std.proofs.Common.{◌≡◌, refl, sym, ◌∙◌, ap, subst, ℕ, ◌+◌, ◌^◌, ◌≤◌, ◌<◌, Bool, true, false, not, ◌&&◌, List, [], ◌∷◌, length, map, arith, nat_lt}
-use Rattle.std.specs.Prelude.{ℤ, pos, Option, Some, None, Result, Ok, Err, IfOk, OnOk}
+use Rattle.std.specs.Prelude.{if◌then◌else◌, slice_index_or, ℤ, pos, Option, Some, None, Result, Ok, Err, IfOk, OnOk}
 use Rattle.std.specs.Option.{option_or, option_map}
 use Rattle.std.proofs.lemmas.Bool.Decides.{nat_tests}
 use Rattle.pf_ints.specs.declared.lane.LaneType.{LaneType}
@@ -25,11 +25,12 @@ use Rattle.pf_values.specs.declared.term.Term.TheVariants.{rolls-Node, rolls-Lea
 use Rattle.pf_values.specs.declared.term.Term.TheOpen.Term-F.{Leaf, Node as NodeLayer}
 use Rattle.pf_values.specs.declared.term.Term.TheFolds.{fold-roll-Term}
 use Rattle.pf_terms.specs.Meaning.SyntaxTrees.{IsTreeText}
-use Rattle.pf_terms.specs.Meaning.Meanings.{first_some, first_unknown, first_far, in_order, names_after, term_of, term_step, written_type, IsMeaningFault, IsReadFault, Means, IsTermText, IsTermOr}
+use Rattle.pf_values.specs.Meaning.NamedTerms.{no_def}
+use Rattle.pf_terms.specs.Meaning.Meanings.{first_some, first_unknown, first_far, in_order, is_param, tap_leaf, def_leaf, def_number, names_after, term_of, term_step, written_type, IsMeaningFault, IsReadFault, Means, IsTermText, IsTermOr}
 use Rattle.pf_values.specs.Meaning.Operators.{row_of}
 use Rattle.pf_values.specs.Meaning.Terms.{typing, stated_type, stated_step, result_type, same_type, same_bits, same_bool, depth_of, node_count}
 use Rattle.pf_values.proofs.TermRanges.{typing_stated}
-use Rattle.pf_kernel.specs.Steps.Expressions.{tree_type, type_step, term_fault, limit_fault, Judges, JudgesTerm, Tells, IsFaulty}
+use Rattle.pf_kernel.specs.Steps.Expressions.{tree_type, image_ty, type_step, term_fault, limit_fault, Judges, JudgesTerm, Tells, IsFaulty}
 use Rattle.pf_kernel.specs.Meaning.Lines.{kernel_faults, mistyped, more_than, capped_count, if_so, expression_faults}
 
 -- ---- the type of a syntax tree is that of its term
@@ -56,9 +57,13 @@ module _ (names : Names) (taps : List Tap) where
   each_type [] = refl
   each_type (e ∷ fs) = ap (λ t. t ∷ map stated_type (map (term_of with_these) (map (λ g. g.0) fs))) e.1 ∙ ap (λ ts. tree_type names e.0 ∷ ts) (each_type fs)
 
+  name_type : (s : List ℕ) (b : Bool) → stated_type (if b then tap_leaf with_these s (pos 0) (pos 0) else def_leaf with_these s) ≡ (if b then image_ty names s else (slice_index_or names.defs (def_number names.defs s) no_def).ty)
+  name_type s true = stated_leaf_is _ _
+  name_type s false = stated_leaf_is _ _
+
   layer_type : (y : SyntaxTree-F ((d : SyntaxTree) × IsTypeOf d)) → IsTypeOf (roll-SyntaxTree (map-SyntaxTree _ SyntaxTree (λ e. e.0) y))
   layer_type (Number n t) = ap stated_type (fold-roll-SyntaxTree Term (term_step with_these) (Number n t)) ∙ stated_leaf_is _ t ∙ sym (fold-roll-SyntaxTree LaneType (type_step names) (Number n t))
-  layer_type (NameTree s) = ap stated_type (fold-roll-SyntaxTree Term (term_step with_these) (NameTree s)) ∙ stated_leaf_is _ _ ∙ sym (fold-roll-SyntaxTree LaneType (type_step names) (NameTree s))
+  layer_type (NameTree s) = ap stated_type (fold-roll-SyntaxTree Term (term_step with_these) (NameTree s)) ∙ name_type s (is_param names.images s) ∙ sym (fold-roll-SyntaxTree LaneType (type_step names) (NameTree s))
   layer_type (TapTree s dx dy) = ap stated_type (fold-roll-SyntaxTree Term (term_step with_these) (TapTree s dx dy)) ∙ stated_leaf_is _ _ ∙ sym (fold-roll-SyntaxTree LaneType (type_step names) (TapTree s dx dy))
   layer_type (Node op less ty k fs) =
       let ds = map (λ e. e.0) fs in

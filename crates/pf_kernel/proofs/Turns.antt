@@ -1,6 +1,6 @@
 -- The taps of a term that is read come in turn.
 use Rattle.std.proofs.Common.{◌≡◌, refl, sym, ◌∙◌, ap, subst, ℕ, zero, suc, ◌+◌, ◌<◌, ◌||◌, ◌&&◌, ◌==◌, Bool, true, false, List, [], ◌∷◌, ◌++◌, length, map, get_or, append_assoc, append-nil, arith, length-append}
-use Rattle.std.specs.Prelude.{ℤ, max, int_le, if◌then◌else◌, cond, not}
+use Rattle.std.specs.Prelude.{ℤ, pos, max, int_le, if◌then◌else◌, cond, not}
 use Rattle.std.specs.List.{concat, flat_map, list_any, position_or_len}
 use Rattle.std.proofs.lemmas.Int.{ints}
 use Rattle.std.proofs.lemmas.Bool.Decides.{nat_tests}
@@ -20,7 +20,7 @@ use Rattle.pf_values.specs.declared.term.Term.TheFolds.{fold-roll-Term}
 use Rattle.pf_values.specs.declared.term.Leaf.{Leaf as LeafOf}
 use Rattle.pf_values.specs.declared.term.Leaf.TheVariants.{Tap as TapLeaf, Const, Def}
 use Rattle.pf_values.specs.Meaning.Operators.{int_same}
-use Rattle.pf_terms.specs.Meaning.Meanings.{in_order, same_tap, with_tap, with_taps, tap_number, tap_at, def_number, tap_uses, uses_step, term_of, term_step, names_after}
+use Rattle.pf_terms.specs.Meaning.Meanings.{in_order, same_tap, with_tap, with_taps, tap_number, tap_at, is_param, tap_leaf, def_leaf, def_number, tap_uses, uses_step, term_of, term_step, names_after}
 use Rattle.pf_kernel.specs.Meaning.Kernels.{taps_step, taps_in, AreInTurn}
 
 -- ---- one list of numbers after another
@@ -153,11 +153,15 @@ firsts names [] n d less = absurd (omega arith)
 firsts names (e ∷ fs) zero d less = e.1
 firsts names (e ∷ fs) (suc n) d less = firsts names fs n d (omega arith)
 
+name_uses : (names : Names) (s : List ℕ) (b : Bool) → taps_in (if b then tap_leaf names s (pos 0) (pos 0) else def_leaf names s) ≡ map (tap_number names.taps) (if b then tap_at names.images s (pos 0) (pos 0) ∷ [] else [])
+name_uses names s true = taps_leaf (TapLeaf (tap_number names.taps (tap_at names.images s (pos 0) (pos 0)))) _
+name_uses names s false = taps_leaf (Def (def_number names.defs s)) _
+
 layer_uses : (names : Names) (y : SyntaxTree-F ((d : SyntaxTree) × Uses names d)) → Uses names (roll-SyntaxTree (map-SyntaxTree _ SyntaxTree (λ e. e.0) y))
 layer_uses names (Number n t) =
     ap taps_in (fold-roll-SyntaxTree Term (term_step names) (Number n t)) ∙ taps_leaf (Const n) t ∙ ap (map (tap_number names.taps)) (sym (fold-roll-SyntaxTree (List Tap) (uses_step names.images) (Number n t)))
 layer_uses names (Name s) =
-    ap taps_in (fold-roll-SyntaxTree Term (term_step names) (Name s)) ∙ taps_leaf (Def (def_number names.defs s)) _ ∙ ap (map (tap_number names.taps)) (sym (fold-roll-SyntaxTree (List Tap) (uses_step names.images) (Name s)))
+    ap taps_in (fold-roll-SyntaxTree Term (term_step names) (Name s)) ∙ name_uses names s (is_param names.images s) ∙ ap (map (tap_number names.taps)) (sym (fold-roll-SyntaxTree (List Tap) (uses_step names.images) (Name s)))
 layer_uses names (TapTree s dx dy) =
     ap taps_in (fold-roll-SyntaxTree Term (term_step names) (TapTree s dx dy)) ∙ taps_leaf (TapLeaf (tap_number names.taps (tap_at names.images s dx dy))) _ ∙ ap (map (tap_number names.taps)) (sym (fold-roll-SyntaxTree (List Tap) (uses_step names.images) (TapTree s dx dy)))
 layer_uses names (Node op less ty k fs) =

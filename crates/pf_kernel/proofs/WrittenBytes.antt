@@ -158,8 +158,12 @@ placed_written : (name : List ℕ) (t : TapOf) → IsWritten name 32 → IsTapOf
 placed_written name t h across down =
     written_append (written_append (written_append (written_append (written_append h (literal (codes "[") 1 refl (omega arith))) (offset_written t.dx across)) (literal (codes ",") 1 refl (omega arith))) (offset_written t.dy down)) (literal (codes "]") 1 refl (omega arith))
 
+tap_written : (name : List ℕ) (t : TapOf) (flat : Bool) → IsWritten name 32 → IsTapOffset t.dx → IsTapOffset t.dy → IsWritten (if flat then name else placed_text name t) 41
+tap_written name t true h across down = written_more _ h (omega arith)
+tap_written name t false h across down = placed_written name t h across down
+
 leaf_written : (names : Names) (leaf : LeafOf) (ty : LaneType) → AreWrittenNames names → IsWritten (leaf_text names leaf ty) 92
-leaf_written names (Tap n) ty h = written_more _ (placed_written _ (get_or names.taps n no_tap) (h.images _) (h.across n) (h.down n)) (omega arith)
+leaf_written names (Tap n) ty h = written_more _ (tap_written _ (get_or names.taps n no_tap) _ (h.images _) (h.across n) (h.down n)) (omega arith)
 leaf_written names (Const n) ty h = written_more _ (written_append (signed_written n) (type_written ty)) (omega arith)
 leaf_written names (Def n) ty h = written_more _ (h.defs n) (omega arith)
 

@@ -20,7 +20,7 @@ use Rattle.pf_terms.specs.Meaning.KernelNames.{IsNames}
 use Rattle.pf_values.specs.Meaning.Terms.{node_count}
 use Rattle.pf_kernel.specs.Meaning.Kernels.{Meaning, IsKernelOf, image_name, def_name, names_of}
 use Rattle.pf_kernel.specs.Meaning.Lines.{uncommented}
-use Rattle.pf_kernel.specs.Meaning.Texts.{byte_limit, image_text, typed_text, def_text, ended, kernel_text}
+use Rattle.pf_kernel.specs.Meaning.Texts.{byte_limit, decl_start, image_text, typed_text, def_text, ended, kernel_text}
 use Rattle.pf_kernel.proofs.KernelLines.{out_text, kernel_lines}
 use Rattle.pf_kernel.proofs.ReadLaws.{within_limit}
 use Rattle.pf_kernel.proofs.WrittenBytes.{is_plain, IsWritten, literal, written_more, written_append, decimal_written, type_written, name_written, term_written, spread, ArePlain, AreWritten, none_written, first_written, all_more, all_append}
@@ -75,13 +75,17 @@ length_printed [] = omega arith
 length_printed (l ∷ ls) = omega (arith, length_printed ls, length-append (ended l) (printed ls), length-append l (10 ∷ []))
 
 -- ---- a kernel's lines
+start_written : (flat : Bool) → IsWritten (decl_start flat) 6
+start_written false = literal _ 6 refl (omega arith)
+start_written true = literal _ 6 refl (omega arith)
+
 images_written : (ds : List ImageDecl) (more : List (List ℕ)) → AllByRecursion (λ s. is_name s ≡ true) (map (λ i. i.name) (map image_name ds) ++ more) →
     AreWritten (map image_text ds) (176 * length ds) × AllByRecursion (λ s. is_name s ≡ true) more
 images_written [] more h = (all_more _ none_written (omega arith), h)
 images_written (d ∷ ds) more h =
     let rest = images_written ds more h.1 in
     let blank : IsWritten (codes " ") 1 = literal _ 1 refl (omega arith) in
-    let word : IsWritten (codes "image ") 6 = literal _ 6 refl (omega arith) in
+    let word = start_written d.flat in
     let line : IsWritten (image_text d) 172 =
     written_append (written_append (written_append (written_append (written_append (written_append (written_append word (name_written d.name h.0)) blank) (type_written d.ty)) blank) (decimal_written d.lo)) blank) (decimal_written d.hi) in
     (all_more _ (first_written line rest.0) (omega arith), rest.1)

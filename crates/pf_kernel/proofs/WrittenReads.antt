@@ -1,14 +1,14 @@
 -- The lines of a kernel's written text are read as the kernel.
 use Rattle.std.proofs.Common.{◌≡◌, ◌≢◌, refl, sym, ◌∙◌, ap, subst, ℕ, ◌+◌, ◌≤◌, ◌<◌, ◌||◌, ◌&&◌, not, Bool, true, false, List, [], ◌∷◌, ◌++◌, length, map, sum, get_or, append_assoc, append-nil, arith, length-append}
 use Rattle.std.specs.Prelude.{ℤ, pos, Option, Some, None, Result, Ok, All, nat_lt, codes}
-use Rattle.std.specs.List.{AllPairs, flat_map, list_any}
+use Rattle.std.specs.List.{AllPairs, flat_map, list_any, position_or_len}
 use Rattle.std.specs.Option.{option_or, option_map}
 use Rattle.std.specs.Str.{bytes_eq}
 use Rattle.std.proofs.Math.ListN.{get_or-append}
 use Rattle.std.proofs.lemmas.Bool.Decides.{nat_tests}
 use Rattle.std.proofs.lemmas.List.{length-map, map-append}
 use Rattle.std.proofs.lemmas.List.Concat.{flat_map-cons}
-use Rattle.std.proofs.lemmas.List.Sums.{sum_by-cons}
+use Rattle.std.proofs.lemmas.List.Sums.{sum_by-cons, passes_at_first}
 use Rattle.std.proofs.lemmas.Slice.Eq.{bytes_eq-Decides}
 use Rattle.pf_ints.specs.declared.lane.LaneType.{LaneType}
 use Rattle.pf_ints.specs.Meaning.Images.{IsPixelType}
@@ -29,16 +29,18 @@ use Rattle.pf_values.specs.declared.term.Term.{Term}
 use Rattle.pf_terms.specs.Meaning.KernelNames.{IsNames, IsNearTap, all_names}
 use Rattle.pf_terms.specs.Meaning.Meanings.{first_some, names_after, term_of}
 use Rattle.pf_values.specs.Meaning.Terms.{typing, stated_type, node_count, depth_of, IsWellTyped}
+use Rattle.pf_values.specs.Meaning.Kernels.{AreInOrder, IsStill}
 use Rattle.pf_values.specs.Meaning.NamedTerms.{is_named}
-use Rattle.pf_terms.proofs.TapLists.{Each, each_front, each_behind, each_of_all, all_of_each}
+use Rattle.pf_terms.proofs.TapLists.{Each, place_of_any, each_front, each_behind, each_of_all, all_of_each}
 use Rattle.pf_values.proofs.Typing.{same_self}
 use Rattle.pf_kernel.specs.declared.front.Front.TheVariants.{Kernel as KernelFront, Image as ImageFront, Def as DefFront, Out as OutFront}
 use Rattle.pf_kernel.specs.Meaning.Kernels.{Meaning, image_name, def_name, names_behind, names_of, IsDeclaredRange, IsTermOf, AreDefinitions, terms_of, taps_in, AreInTurn, IsKernelOf}
-use Rattle.pf_kernel.specs.Meaning.Lines.{Begun, nothing, is_empty, Bare, Over, if_so, capped_count, more_than, is_taken, taken, mistyped, names_with, term_with, nodes_in, kernel_faults, expression_faults, IsStep, AreRead}
+use Rattle.pf_kernel.specs.Meaning.Lines.{Begun, nothing, decl_word, may_stand, is_empty, Bare, Over, if_so, capped_count, more_than, is_taken, taken, mistyped, names_with, term_with, nodes_in, kernel_faults, expression_faults, IsStep, AreRead}
 use Rattle.pf_kernel.specs.Meaning.Texts.{all_of, image_text, def_text}
 use Rattle.pf_kernel.proofs.Extending.{more_names}
 use Rattle.pf_kernel.proofs.Fewer.{taps_split, IsSpoken, means_fewer}
 use Rattle.pf_kernel.proofs.KernelLines.{out_text, kernel_lines}
+use Rattle.pf_kernel.proofs.Naming.{flats_of, any_flat}
 use Rattle.pf_kernel.proofs.Printing.{stays_with_defs}
 use Rattle.pf_kernel.proofs.WrittenTokens.{kernel_says, image_says, def_says, out_says}
 
@@ -132,6 +134,8 @@ names_fewer images ts us ds es h =
       distinct_names = pairs_front (λ s t. s ≢ t) (all_names (names_behind images ts ds)) others (subst (AllPairs (λ s t. s ≢ t)) split h.distinct_names);
       near = all_front (IsNearTap (length (map image_name images))) ts us h.near;
       distinct_taps = pairs_front (λ t u. t ≢ u) ts us h.distinct_taps;
+      order = h.order;
+      still = all_front (IsStill (map (λ (i : ImageName). i.flat) (map image_name images))) ts us h.still;
     }
 
 -- ---- lines without a fault
@@ -320,6 +324,18 @@ module _ (k : Meaning) (h : IsKernelOf k) where
       next_name (names_of k.source) (names_behind done [] []) d.name (map (λ (i : ImageName). i.name) (map image_name later) ++ map (λ (e : DefName). e.name) (map def_name k.source.defs)) h.names
       (ap (λ (ds : List ImageDecl). all_names (names_behind ds k.source.taps k.source.defs)) images ∙ images_split done (d ∷ later) k.source.taps k.source.defs)
 
+  -- images stand before parameters
+  may_follow : (done later : List ImageDecl) (d : ImageDecl) (flat : Bool) → d.flat ≡ flat → AreInOrder (map (λ (e : ImageDecl). e.flat) (done ++ d ∷ later)) → may_stand (begun done [] []) (decl_word flat) ≡ true
+  may_follow [] later d true is order = absurd (let no : true ≡ false = sym is ∙ order.first in cc)
+  may_follow (x ∷ done) later d true is order = refl
+  may_follow done later d false is order =
+      let flats = map (λ (e : ImageDecl). e.flat) in
+      let before = pairs_before (λ f g. f ≡ true → g ≡ true) (flats done) (flats later) d.flat (subst (AllPairs (λ f g. f ≡ true → g ≡ true)) (map-append (λ (e : ImageDecl). e.flat) done (d ∷ later)) order.order) in
+      ap (λ v. not v && true) (sym (any_flat done) ∙ fails (list_any (λ g. g) (flats done)) (λ any.
+      let below = place_of_any (λ g. g) (flats done) any in
+      let yes : d.flat ≡ true = before (position_or_len (λ g. g) (flats done)) false below (passes_at_first (λ g. g) (flats done) false below) in
+      absurd (let no : true ≡ false = sym yes ∙ is in cc)))
+
   image_step : (done later : List ImageDecl) (d : ImageDecl) → k.source.images ≡ done ++ d ∷ later → IsStep (begun done [] []) (image_text d) (begun (done ++ d ∷ []) [] [])
   image_step done later d images =
       let b : Begun = begun done [] [] in
@@ -332,7 +348,7 @@ module _ (k : Meaning) (h : IsKernelOf k) where
       record {
         said = Bare (ImageFront d);
         read = record {
-          says = image_says b d name.named pixel range refl;
+          says = image_says b d name.named pixel range (may_follow done later d d.flat refl (subst AreInOrder (flats_of (done ++ d ∷ later)) (subst (λ (ds : List ImageDecl). AreInOrder (map (λ (i : ImageName). i.flat) (map image_name ds))) images h.names.order)));
           faultless = quiet (taken b d.name) (more_than 8 Images (length done + 1) ∷ []) (ap (λ v. if_so v (UnknownName d.name)) name.free) few_images;
         };
         next = refl;

@@ -17,7 +17,7 @@ use Rattle.pf_values.specs.declared.names.Names.{Names}
 use Rattle.pf_values.specs.declared.term.Term.{Term}
 use Rattle.pf_terms.specs.declared.token.TokenKind.{TokenKind}
 use Rattle.pf_terms.specs.declared.token.TokenKind.TheVariants.{Name, TypeWord, Number, Line, Equals}
-use Rattle.pf_terms.specs.declared.token.LineWord.TheVariants.{Kernel, Image, Def, Out}
+use Rattle.pf_terms.specs.declared.token.LineWord.TheVariants.{Kernel, Image, Param, Def, Out}
 use Rattle.pf_terms.specs.declared.token.Token.{Token}
 use Rattle.pf_terms.specs.Meaning.SyntaxTrees.{IsTreeText, IsShallow}
 use Rattle.pf_terms.specs.Meaning.Grammar.{Whole, Spells}
@@ -31,8 +31,8 @@ use Rattle.pf_terms.proofs.ReadBackWords.{reads_number, reads_type, reads_name}
 use Rattle.pf_kernel.specs.declared.front.Front.{Front}
 use Rattle.pf_kernel.specs.declared.front.Front.TheVariants.{Kernel as KernelFront, Image as ImageFront, Def as DefFront, Out as OutFront}
 use Rattle.pf_kernel.specs.Meaning.Kernels.{IsDeclaredRange}
-use Rattle.pf_kernel.specs.Meaning.Lines.{Begun, may_stand, IsShape, kernel, ranged, def, out, equals_of, end_of, Bare, Over, SaysOf, Says}
-use Rattle.pf_kernel.specs.Meaning.Texts.{image_text, typed_text, def_text}
+use Rattle.pf_kernel.specs.Meaning.Lines.{Begun, decl_word, may_stand, IsShape, kernel, ranged, def, out, equals_of, end_of, Bare, Over, SaysOf, Says}
+use Rattle.pf_kernel.specs.Meaning.Texts.{decl_start, image_text, typed_text, def_text}
 use Rattle.pf_kernel.proofs.WrittenBytes.{is_plain}
 use Rattle.pf_kernel.proofs.WrittenLines.{uncommented_plain, kernel_written, image_written, def_written, out_written}
 
@@ -129,18 +129,20 @@ reads_last_number n small = subst (λ xs. Reads xs (Number (pos n) ∷ [])) (app
 abbrev IsTextOf : List ℕ → TokenKind → Type 0
 IsTextOf w k = (r : List ℕ) (ls : List TokenKind) → IsNoRun r → Reads r ls → Reads (w ++ r) (k ∷ ls)
 
-reads_image : (w u v x : List ℕ) (t : LaneType) (lo hi : ℕ) → is_name w ≡ true → IsTextOf u (TypeWord t) → IsTextOf v (Number (pos lo)) → Reads x (Number (pos hi) ∷ []) →
-    Reads (codes "image " ++ w ++ codes " " ++ u ++ codes " " ++ v ++ codes " " ++ x) (Line Image ∷ Name w ∷ TypeWord t ∷ Number (pos lo) ∷ Number (pos hi) ∷ [])
-reads_image w u v x t lo hi name type low high =
+reads_image : (flat : Bool) (w u v x : List ℕ) (t : LaneType) (lo hi : ℕ) → is_name w ≡ true → IsTextOf u (TypeWord t) → IsTextOf v (Number (pos lo)) → Reads x (Number (pos hi) ∷ []) →
+    Reads (decl_start flat ++ w ++ codes " " ++ u ++ codes " " ++ v ++ codes " " ++ x) (Line (decl_word flat) ∷ Name w ∷ TypeWord t ∷ Number (pos lo) ∷ Number (pos hi) ∷ [])
+reads_image false w u v x t lo hi name type low high =
     simp append_assoc (reads_run (codes "image") (Line Image) _ _ (omega arith) refl refl refl (reads_blank _ _ (reads_name w _ _ name refl (reads_blank _ _ (type _ _ refl (reads_blank _ _ (low _ _ refl (reads_blank _ _ high))))))))
+reads_image true w u v x t lo hi name type low high =
+    simp append_assoc (reads_run (codes "param") (Line Param) _ _ (omega arith) refl refl refl (reads_blank _ _ (reads_name w _ _ name refl (reads_blank _ _ (type _ _ refl (reads_blank _ _ (low _ _ refl (reads_blank _ _ high))))))))
 
-pub image_says : (b : Begun) (d : ImageDecl) → is_name d.name ≡ true → IsPixelType d.ty → IsDeclaredRange d → may_stand b Image ≡ true → Says b (image_text d) (Bare (ImageFront d))
+pub image_says : (b : Begun) (d : ImageDecl) → is_name d.name ≡ true → IsPixelType d.ty → IsDeclaredRange d → may_stand b (decl_word d.flat) ≡ true → Says b (image_text d) (Bare (ImageFront d))
 image_says b d name pixel is may =
     let ordered = is.ordered in
     let high : d.hi < 10 ^ 10 = pixel_small d.ty d.hi pixel is.inside in
     let low : d.lo < 10 ^ 10 = omega arith in
-    let reads = reads_image d.name (type_word d.ty) (decimal d.lo) (decimal d.hi) d.ty d.lo d.hi name (reads_type d.ty) (λ r ls none h. reads_number d.lo r ls low none h) (reads_last_number d.hi high) in
-    bare_says b (image_text d) _ (ImageFront d) (image_written d name) reads (ranged d.name d.ty d.lo d.hi may pixel ordered is.inside) refl
+    let reads = reads_image d.flat d.name (type_word d.ty) (decimal d.lo) (decimal d.hi) d.ty d.lo d.hi name (reads_type d.ty) (λ r ls none h. reads_number d.lo r ls low none h) (reads_last_number d.hi high) in
+    bare_says b (image_text d) _ (ImageFront d) (image_written d name) reads (ranged d.flat d.name d.ty d.lo d.hi may pixel ordered is.inside) refl
 
 -- a type, `=` and an expression
 reads_typed : (u text : List ℕ) (t : LaneType) (ks : List TokenKind) → IsTextOf u (TypeWord t) → Reads text ks → Reads (u ++ codes " = " ++ text) (TypeWord t ∷ Equals ∷ ks)

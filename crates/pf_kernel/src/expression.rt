@@ -14,7 +14,7 @@ ghost use Rattle.pf_kernel.specs.Meaning.Lines.{expression_faults, mistyped, mor
 use pf_ints::LaneType;
 use pf_terms::{
     Gives, LimitKind, Names, ReadFault, SyntaxTree, Term, def_number, def_type, depth,
-    image_number, image_type, nodes, read_draft, read_term, stated_type,
+    image_number, image_type, is_param, nodes, read_draft, read_term, stated_type,
 };
 use pf_values::result_type;
 use std::alloc::Global;
@@ -201,6 +201,9 @@ fn tree_type(names: &Names, tree: &SyntaxTree) -> LaneType
 {
     match tree {
         SyntaxTree::Number(_, ty) => *ty,
+        SyntaxTree::Name(name) if is_param(&names.images, name) => {
+            image_type(&names.images, image_number(&names.images, name))
+        }
         SyntaxTree::Name(name) => def_type(&names.defs, def_number(&names.defs, name)),
         SyntaxTree::Tap(name, ..) => image_type(&names.images, image_number(&names.images, name)),
         SyntaxTree::Node {

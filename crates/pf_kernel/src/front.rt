@@ -11,6 +11,7 @@ use pf_terms::{ImageDecl, LineWord, Token, TokenKind};
 #[derive(Clone, Copy)]
 pub enum Front {
     Kernel(Name),
+    /// An image, or a parameter where it is flat.
     Image(ImageDecl),
     Def(Name, LaneType),
     Out(LaneType),
@@ -23,7 +24,8 @@ pub fn front_by(word: LineWord, tokens: &[Token]) -> Result<Front, usize>
 {
     match word {
         LineWord::Kernel => kernel_front(tokens),
-        LineWord::Image => image_front(tokens),
+        LineWord::Image => image_front(false, tokens),
+        LineWord::Param => image_front(true, tokens),
         LineWord::Def => def_front(tokens),
         LineWord::Out => out_front(tokens),
     }
@@ -44,37 +46,37 @@ fn kernel_front(tokens: &[Token]) -> Result<Front, usize>
     }
 }
 
-fn image_front(tokens: &[Token]) -> Result<Front, usize>
-    ensures { result ≡ image_front (kinds tokens.now) }
+fn image_front(flat: bool, tokens: &[Token]) -> Result<Front, usize>
+    ensures { result ≡ image_front flat (kinds tokens.now) }
 {
     match tokens {
         [token, rest @ ..] => match token.kind {
-            TokenKind::Name(name) => typed_image(name, rest),
+            TokenKind::Name(name) => typed_image(flat, name, rest),
             _ => Err(1),
         },
         [] => Err(1),
     }
 }
 
-fn typed_image(name: Name, tokens: &[Token]) -> Result<Front, usize>
-    ensures { result ≡ typed_image name (kinds tokens.now) }
+fn typed_image(flat: bool, name: Name, tokens: &[Token]) -> Result<Front, usize>
+    ensures { result ≡ typed_image flat name (kinds tokens.now) }
 {
     match tokens {
         [token, rest @ ..] => match token.kind {
-            TokenKind::TypeWord(ty) if ty.is_pixel() => range_front(name, ty, rest),
+            TokenKind::TypeWord(ty) if ty.is_pixel() => range_front(flat, name, ty, rest),
             _ => Err(2),
         },
         [] => Err(2),
     }
 }
 
-fn range_front(name: Name, ty: LaneType, tokens: &[Token]) -> Result<Front, usize>
+fn range_front(flat: bool, name: Name, ty: LaneType, tokens: &[Token]) -> Result<Front, usize>
     requires { is_pixel ty ≡ true }
-    ensures { result ≡ range_front name ty (kinds tokens.now) }
+    ensures { result ≡ range_front flat name ty (kinds tokens.now) }
 {
     match tokens {
         [token, rest @ ..] => match token.kind {
-            TokenKind::Number(lo) if is_in(ty, lo) => high_front(name, ty, lo, rest),
+            TokenKind::Number(lo) if is_in(ty, lo) => high_front(flat, name, ty, lo, rest),
             _ => Err(3),
         },
         [] => Ok(Front::Image(ImageDecl {
@@ -82,29 +84,45 @@ fn range_front(name: Name, ty: LaneType, tokens: &[Token]) -> Result<Front, usiz
             ty,
             lo: 0,
             hi: ty.greatest() as u32,
+            flat,
         })),
     }
 }
 
-fn high_front(name: Name, ty: LaneType, lo: i64, tokens: &[Token]) -> Result<Front, usize>
+fn high_front(
+    flat: bool,
+    name: Name,
+    ty: LaneType,
+    lo: i64,
+    tokens: &[Token],
+) -> Result<Front, usize>
     requires pixel { is_pixel ty ≡ true }
     requires low { is_in ty lo ≡ true }
-    ensures { result ≡ high_front name ty lo (kinds tokens.now) }
+    ensures { result ≡ high_front flat name ty lo (kinds tokens.now) }
 {
     match tokens {
         [token, rest @ ..] => match token.kind {
-            TokenKind::Number(hi) if lo <= hi && is_in(ty, hi) => range_end(name, ty, lo, hi, rest),
+            TokenKind::Number(hi) if lo <= hi && is_in(ty, hi) => range_end(
+                flat, name, ty, lo, hi, rest,
+            ),
             _ => Err(4),
         },
         [] => Err(4),
     }
 }
 
-fn range_end(name: Name, ty: LaneType, lo: i64, hi: i64, tokens: &[Token]) -> Result<Front, usize>
+fn range_end(
+    flat: bool,
+    name: Name,
+    ty: LaneType,
+    lo: i64,
+    hi: i64,
+    tokens: &[Token],
+) -> Result<Front, usize>
     requires pixel { is_pixel ty ≡ true }
     requires low { is_in ty lo ≡ true }
     requires high { is_in ty hi ≡ true }
-    ensures { result ≡ range_end name ty lo hi (kinds tokens.now) }
+    ensures { result ≡ range_end flat name ty lo hi (kinds tokens.now) }
 {
     match tokens {
         [] => Ok(Front::Image(ImageDecl {
@@ -112,6 +130,7 @@ fn range_end(name: Name, ty: LaneType, lo: i64, hi: i64, tokens: &[Token]) -> Re
             ty,
             lo: lo as u32,
             hi: hi as u32,
+            flat,
         })),
         _ => Err(5),
     }

@@ -5,7 +5,7 @@ use pf_ints::{LaneType, Name};
 use pf_terms::{Definitions, ImageList, Names, Term};
 use std::marker::Model;
 
-/// A kernel: images, definitions over their pixels, and the term of each output pixel.
+/// A kernel: images, parameters, definitions over them, and the term of each output pixel.
 #[derive(Drop)]
 pub struct Kernel {
     name: Name,
@@ -60,7 +60,7 @@ impl Kernel {
         &self.name
     }
 
-    /// Its images, in the order of their lines.
+    /// Its images and behind them its parameters, in the order of their lines.
     pub fn images(&self) -> &ImageList
         ensures { result.now ≡ self.now.source.images }
     {

@@ -5,12 +5,12 @@ ghost use Rattle.pf_text.specs.Meaning.Answers.{Answers};
 ghost use Rattle.pf_ints.specs.Meaning.Images.{IsPixelType};
 ghost use Rattle.pf_text.specs.Meaning.Words.{is_name};
 ghost use Rattle.pf_terms.specs.declared.meaning.ReadFault.TheVariants.{Memory};
-ghost use Rattle.pf_terms.specs.declared.token.LineWord.TheVariants.{Kernel, Image, Def, Out};
+ghost use Rattle.pf_terms.specs.declared.token.LineWord.TheVariants.{Def, Out};
 ghost use Rattle.pf_terms.specs.Meaning.Tokens.{kinds, token_place, IsLexed};
 ghost use Rattle.pf_kernel.specs.declared.front.Front.TheVariants.{Image as ImageFront, Def as DefFront, Out as OutFront};
 ghost use Rattle.pf_kernel.specs.Steps.Fronts.{front_of};
 ghost use Rattle.pf_kernel.specs.Meaning.Kernels.{IsDeclaredRange};
-ghost use Rattle.pf_kernel.specs.Meaning.Lines.{Bare, IsShape, IsStep, IsLineFault, may_stand, told_at, end_of, uncommented};
+ghost use Rattle.pf_kernel.specs.Meaning.Lines.{Bare, IsShape, IsStep, IsLineFault, may_stand, decl_word, told_at, end_of, uncommented};
 ghost use Rattle.pf_kernel.specs.Steps.Readings.{begun_of, IsReading, AnswersSaid, AnswersText, AnswersTokens, IsNearColumn, MayAdd, moved, unless_taken};
 
 use crate::expression::{Measure, read_expression};
@@ -18,7 +18,7 @@ use crate::front::{Front, front_by};
 use crate::reading::Reading;
 use pf_ints::{LaneType, Name};
 use pf_terms::{
-    Definition, ImageDecl, LimitKind, LineWord, ReadFault, Term, Token, TokenKind, nodes, tokens,
+    Definition, ImageDecl, LimitKind, ReadFault, Term, Token, TokenKind, nodes, tokens,
 };
 use std::alloc::Global;
 
@@ -132,10 +132,7 @@ fn told_at(tokens: &[Token], n: usize) -> usize
 {
     match tokens {
         [
-            Token {
-                kind: TokenKind::Line(LineWord::Image),
-                ..
-            },
+            _,
             _,
             _,
             _,
@@ -188,7 +185,7 @@ fn expression_place(_text: &[u8], tokens: &[Token], n: usize) -> usize
 
 fn read_image(reading: Reading, image: ImageDecl) -> Result<Reading, ReadFault>
     requires good { IsReading reading }
-    requires may { may_stand (begun_of reading) Image ≡ true }
+    requires may { may_stand (begun_of reading) (decl_word image.flat) ≡ true }
     requires named { is_name image.name ≡ true }
     requires pixels { IsPixelType image.ty }
     requires range { IsDeclaredRange image }

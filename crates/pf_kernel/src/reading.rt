@@ -1,11 +1,11 @@
 ghost use Rattle.std.specs.Prelude.{◌≡◌, ◌<◌, ◌++◌, ◌∷◌, [], true, false, length, OnOk};
 ghost use Rattle.pf_ints.specs.Meaning.Images.{IsPixelType};
 ghost use Rattle.pf_text.specs.Meaning.Words.{is_name};
-ghost use Rattle.pf_terms.specs.declared.token.LineWord.TheVariants.{Kernel, Image};
+ghost use Rattle.pf_terms.specs.declared.token.LineWord.TheVariants.{Kernel};
 ghost use Rattle.pf_terms.specs.Meaning.Meanings.{is_image, is_def};
 ghost use Rattle.pf_kernel.specs.declared.front.Front.TheVariants.{Kernel as KernelFront, Image as ImageFront};
 ghost use Rattle.pf_kernel.specs.Meaning.Kernels.{IsDeclaredRange};
-ghost use Rattle.pf_kernel.specs.Meaning.Lines.{nothing, may_stand, is_taken, names_in, with_said, Bare};
+ghost use Rattle.pf_kernel.specs.Meaning.Lines.{nothing, has_param, may_stand, decl_word, is_taken, names_in, with_said, Bare};
 ghost use Rattle.pf_kernel.specs.Steps.Readings.{begun_of, IsReading};
 
 use pf_ints::{LaneType, Name, Sequence};
@@ -20,7 +20,7 @@ use std::alloc::{AllocError, Global};
 pub struct Reading {
     pub name: Option<Name>,
     pub images: ImageList,
-    /// The names of the images and the definitions, and the taps so far.
+    /// The names of the images, the parameters and the definitions, and the taps so far.
     pub names: Names,
     pub defs: Definitions,
     pub out: Option<(LaneType, Term)>,
@@ -52,12 +52,22 @@ impl Reading {
         let is_open = self.out.is_none();
         match word {
             LineWord::Kernel => self.name.is_none(),
-            LineWord::Image => self.name.is_some() && self.defs.is_empty() && is_open,
+            LineWord::Image => self.name.is_some()
+                && !self.has_param()
+                && self.defs.is_empty()
+                && is_open,
+            LineWord::Param => !self.images.is_empty() && self.defs.is_empty() && is_open,
             LineWord::Def | LineWord::Out => !self.images.is_empty() && is_open,
         }
     }
 
-    /// Whether an image or a definition has the name.
+    fn has_param(&self) -> bool
+        ensures { result ≡ has_param self.now.images }
+    {
+        self.images.as_slice().iter().any(|image| image.flat)
+    }
+
+    /// Whether an image, a parameter or a definition has the name.
     pub fn is_taken(&self, name: &Name) -> bool
         ensures { result ≡ is_taken self.now.names name.now }
     {
@@ -77,10 +87,10 @@ impl Reading {
         reading
     }
 
-    /// Adds an image. After want of memory a part of it may have been added.
+    /// Adds an image or a parameter. After want of memory a part of it may have been added.
     pub fn add_image(&mut self, image: ImageDecl) -> Result<(), AllocError>
         requires good { IsReading self.old }
-        requires may { may_stand (begun_of self.old) Image ≡ true }
+        requires may { may_stand (begun_of self.old) (decl_word image.flat) ≡ true }
         requires named { is_name image.name ≡ true }
         requires pixels { IsPixelType image.ty }
         requires range { IsDeclaredRange image }
@@ -92,6 +102,7 @@ impl Reading {
         let name = ImageName {
             name: image.name,
             ty: image.ty,
+            flat: image.flat,
         };
         self.images.push(image)?;
         self.names.images.push(name)

@@ -4,7 +4,7 @@ ghost use Rattle.pf_values.specs.declared.names.Names.{Names};
 ghost use Rattle.pf_values.specs.Meaning.Terms.{is_well_formed};
 ghost use Rattle.pf_terms.specs.Meaning.TermTexts.{type_word, term_text};
 ghost use Rattle.pf_values.specs.Meaning.NamedTerms.{is_named};
-ghost use Rattle.pf_kernel.specs.Meaning.Texts.{IsKernel, kernel_text, image_text, def_text, typed_text, ended};
+ghost use Rattle.pf_kernel.specs.Meaning.Texts.{IsKernel, kernel_text, decl_start, image_text, def_text, typed_text, ended};
 ghost use Rattle.pf_kernel.specs.Steps.Printable.{IsPrintable};
 
 use crate::kernel::Kernel;
@@ -13,7 +13,7 @@ use pf_terms::{Definition, ImageDecl, Names, Term, write_term, write_type};
 use pf_text::push_number;
 use std::alloc::{AllocError, Global};
 
-/// The text of a kernel: each image with its range, each operation between operands in round
+/// The text of a kernel: each image and each parameter with its range, each operation between operands in round
 /// brackets, and each line ended by LF. It is read back as the kernel.
 pub fn write_kernel(alloc: Global, kernel: &Kernel) -> Result<Vec<u8>, AllocError>
     ensures value { IfOk result (λ text. text.items ≡ kernel_text kernel.now) }
@@ -42,7 +42,7 @@ fn write_images(text: &mut Vec<u8>, images: &[ImageDecl]) -> Result<(), AllocErr
 fn write_image(text: &mut Vec<u8>, image: &ImageDecl) -> Result<(), AllocError>
     ensures { OnOk result (text.new.items ≡ text.old.items ++ ended (image_text image.now)) }
 {
-    text.extend_from_slice(b"image ")?;
+    write_start(text, image.flat)?;
     text.extend_from_slice(image.name.as_slice())?;
     text.extend_from_slice(b" ")?;
     write_type(text, image.ty)?;
@@ -51,6 +51,12 @@ fn write_image(text: &mut Vec<u8>, image: &ImageDecl) -> Result<(), AllocError>
     text.extend_from_slice(b" ")?;
     push_number(text, u64::from(image.hi))?;
     text.extend_from_slice(b"\n")
+}
+
+fn write_start(text: &mut Vec<u8>, flat: bool) -> Result<(), AllocError>
+    ensures { OnOk result (text.new.items ≡ text.old.items ++ decl_start flat) }
+{
+    text.extend_from_slice(if flat { b"param " } else { b"image " })
 }
 
 fn write_defs(text: &mut Vec<u8>, defs: &[Definition], names: &Names) -> Result<(), AllocError>

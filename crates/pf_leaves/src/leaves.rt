@@ -1,9 +1,8 @@
 ghost use Rattle.std.specs.Prelude.{◌≡◌, ◌<◌, ◌<ℤ◌, ℕ, ℤ, pos, true, List, [], length, map, All, IfOk, Some};
-ghost use Rattle.pf_ints.specs.Meaning.Images.{Picture};
 ghost use Rattle.pf_ints.specs.Meaning.Ranges.{within};
 ghost use Rattle.pf_values.specs.declared.names.Names.{Names};
 ghost use Rattle.pf_values.specs.declared.term.Term.{Term};
-ghost use Rattle.pf_values.specs.Meaning.Kernels.{KeepsSet, out_width, out_height, def_values};
+ghost use Rattle.pf_values.specs.Meaning.Kernels.{Plane, KeepsSet, out_width, out_height, def_values};
 ghost use Rattle.pf_values.specs.Meaning.NamedTerms.{is_named};
 ghost use Rattle.pf_bounds.specs.Meaning.TermBounds.{AreWithin, IsWithin, are_ranges_of};
 ghost use Rattle.pf_leaves.specs.Meaning.Leaves.{IsDeclared, AreDefined, names_behind, declared_range, tap_range, HaveRanges, AreRanges, env_at};
@@ -15,7 +14,7 @@ use pf_values::{Definition, Definitions, ImageDecl, ImageList, Tap, TapList};
 use std::alloc::Global;
 
 /// The ranges of a kernel's leaves: a tap has its image's declared range, and a definition the
-/// interval of its term. At each pixel of images in the declared ranges the taps' numbers and the
+/// interval of its term. At each pixel of planes in the declared ranges the taps' numbers and the
 /// definitions' values lie in them.
 pub fn ranges(
     alloc: Global,
@@ -28,7 +27,7 @@ pub fn ranges(
     requires defs { AreDefined (names_behind images.now taps.now []) defs.now }
     ensures value { IfOk result (AreRanges images.now taps.now defs.now) }
     ensures entries { IfOk result (λ r. (t : Term) → is_named (names_behind images.now taps.now defs.now) t ≡ true → are_ranges_of r t ≡ true) }
-    ensures keeps { IfOk result (λ r. (pictures : List Picture) (x y : ℕ) → KeepsSet images.now taps.now pictures → pos x <ℤ out_width taps.now pictures → pos y <ℤ out_height taps.now pictures → IsWithin r (env_at taps.now defs.now pictures x y)) }
+    ensures keeps { IfOk result (λ r. (planes : List Plane) (x y : ℕ) → KeepsSet images.now taps.now planes → pos x <ℤ out_width taps.now planes → pos y <ℤ out_height taps.now planes → IsWithin r (env_at taps.now defs.now planes x y)) }
     ensures within { IfOk result (λ r. (xs : List ℤ) → AreWithin r.taps xs → IsWithin r (record { taps = xs; defs = def_values xs [] defs.now })) }
 {
     let first = Ranges {

@@ -3,13 +3,12 @@ use Rattle.std.proofs.Common.{◌≡◌, ℕ, ◌+◌, ◌*◌, ◌<◌, ◌≤�
 use Rattle.std.specs.Prelude.{replicate, slice_index_or}
 use Rattle.std.proofs.lemmas.List.{length-set, length-replicate}
 use Rattle.std.proofs.lemmas.List.Elements.{All-append, All-take, All-drop, All-set, All-get_or, All-replicate, All-weaker}
-use Rattle.pf_ints.specs.Meaning.Images.{Picture}
-use Rattle.pf_values.specs.Meaning.Kernels.{no_picture}
+use Rattle.pf_values.specs.Meaning.Kernels.{Plane, no_plane, plane_ty}
 use Rattle.pf_machine.specs.declared.registers.Reg.TheVariants.{V}
 use Rattle.pf_machine.specs.declared.registers.RegFile.{RegFile}
 use Rattle.pf_machine.specs.Meaning.Bytes.{AreBytes, bytes, packed}
 use Rattle.pf_machine.specs.Meaning.RegisterFiles.{read, write}
-use Rattle.pf_machine.specs.Meaning.Runs.{pixel_bytes}
+use Rattle.pf_machine.specs.Meaning.Runs.{pixel_bytes, plane_pixels}
 use Rattle.pf_machine.specs.Meaning.Tables.{Table, IsFile}
 use Rattle.pf_machine.proofs.ByteLaws.{bytes_below, packed_below, length-bytes, length-packed}
 use Rattle.pf_machine.proofs.MemoryLaws.{image_bytes, overwritten, length-overwritten}
@@ -25,8 +24,8 @@ packed_are w xs = record { size = length-packed w xs; small = packed_below w xs 
 pub zeros_are : (count : ℕ) → AreBytes count (replicate count 0)
 zeros_are count = record { size = length-replicate count 0; small = All-replicate (λ b. b < 256) count 0 (omega arith) }
 
-pub image_bytes_below : (pictures : List Picture) (k : ℕ) → All (λ b. b < 256) (image_bytes pictures k)
-image_bytes_below pictures k = let p = get_or pictures k no_picture in packed_below (pixel_bytes p.ty) p.pixels
+pub image_bytes_below : (n : ℕ) (planes : List Plane) (k : ℕ) → All (λ b. b < 256) (image_bytes n planes k)
+image_bytes_below n planes k = let p = get_or planes k no_plane in packed_below (pixel_bytes (plane_ty p)) (plane_pixels n p)
 
 -- a part of bytes
 pub part_are : (a c : ℕ) (bs : List ℕ) → a + c ≤ length bs → All (λ b. b < 256) bs → AreBytes c (take c (drop a bs))

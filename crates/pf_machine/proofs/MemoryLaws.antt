@@ -6,11 +6,10 @@ use Rattle.std.proofs.lemmas.List.Sums.{position_or_len_is}
 use Rattle.std.proofs.lemmas.Bool.Decides.{nat_tests}
 use Rattle.std.proofs.lemmas.Bool.{and_from, and_right, cond-true, lt-ltb}
 use Rattle.std.proofs.Math.Seq.{take-add}
-use Rattle.pf_ints.specs.Meaning.Images.{Picture}
-use Rattle.pf_values.specs.Meaning.Kernels.{no_picture}
+use Rattle.pf_values.specs.Meaning.Kernels.{Plane, no_plane}
 use Rattle.pf_machine.specs.declared.memory.Region.{Region}
 use Rattle.pf_machine.specs.Meaning.Memory.{holds, readable, writable, loaded, stored, Apart, nowhere, bytes_at, with_bytes}
-use Rattle.pf_machine.specs.Meaning.Runs.{Places, region, image_regions, memory, pixels_in_memory}
+use Rattle.pf_machine.specs.Meaning.Runs.{Places, region, plane_bytes, image_regions, memory}
 
 -- n bytes from the address on lie in the region
 pub record LiesIn (r : Region) (address n : ℕ) : Type 0 where
@@ -79,88 +78,88 @@ take-drop-part bs off n x count inside =
     let front : drop x (take n (drop off bs)) ≡ take (n - x) (drop x (drop off bs)) = drop-take-sum (drop off bs) x n (n - x) (omega arith) in
     rw (front, drop-drop) (take-take count (n - x) (drop (off + x) bs) (omega arith))
 
-pub length-image_regions : (starts : List ℕ) (pictures : List Picture) → length starts ≡ length pictures → length (image_regions starts pictures) ≡ length pictures
-length-image_regions [] [] same = refl
-length-image_regions [] (p ∷ ps) same = absurd (omega arith)
-length-image_regions (start ∷ starts) [] same = absurd (omega arith)
-length-image_regions (start ∷ starts) (p ∷ ps) same = ap suc (length-image_regions starts ps (omega arith))
+pub length-image_regions : (n : ℕ) (starts : List ℕ) (planes : List Plane) → length starts ≡ length planes → length (image_regions n starts planes) ≡ length planes
+length-image_regions n [] [] same = refl
+length-image_regions n [] (p ∷ ps) same = absurd (omega arith)
+length-image_regions n (start ∷ starts) [] same = absurd (omega arith)
+length-image_regions n (start ∷ starts) (p ∷ ps) same = ap suc (length-image_regions n starts ps (omega arith))
 
 -- the pixels of an image as they lie in memory
-abbrev pub image_bytes : List Picture → ℕ → List ℕ
-image_bytes pictures k = let p = get_or pictures k no_picture in pixels_in_memory p.ty p.pixels
+abbrev pub image_bytes : ℕ → List Plane → ℕ → List ℕ
+image_bytes n planes k = plane_bytes n (get_or planes k no_plane)
 
-get_or-image_regions : (starts : List ℕ) (pictures : List Picture) (k : ℕ) → length starts ≡ length pictures → k < length pictures
-    → get_or (image_regions starts pictures) k nowhere ≡ region (get_or starts k 0) (image_bytes pictures k) false
-get_or-image_regions [] [] k same within = absurd (omega arith)
-get_or-image_regions [] (p ∷ ps) k same within = absurd (omega arith)
-get_or-image_regions (start ∷ starts) [] k same within = absurd (omega arith)
-get_or-image_regions (start ∷ starts) (p ∷ ps) zero same within = refl
-get_or-image_regions (start ∷ starts) (p ∷ ps) (suc k) same within = get_or-image_regions starts ps k (omega arith) (omega arith)
+get_or-image_regions : (n : ℕ) (starts : List ℕ) (planes : List Plane) (k : ℕ) → length starts ≡ length planes → k < length planes
+    → get_or (image_regions n starts planes) k nowhere ≡ region (get_or starts k 0) (image_bytes n planes k) false
+get_or-image_regions n [] [] k same within = absurd (omega arith)
+get_or-image_regions n [] (p ∷ ps) k same within = absurd (omega arith)
+get_or-image_regions n (start ∷ starts) [] k same within = absurd (omega arith)
+get_or-image_regions n (start ∷ starts) (p ∷ ps) zero same within = refl
+get_or-image_regions n (start ∷ starts) (p ∷ ps) (suc k) same within = get_or-image_regions n starts ps k (omega arith) (omega arith)
 
-pub memory-image : (pictures : List Picture) (at : Places) (table scratch output : List ℕ) (k : ℕ) → length at.images ≡ length pictures → k < length pictures
-    → get_or (memory pictures at table scratch output) (suc (suc k)) nowhere ≡ region (get_or at.images k 0) (image_bytes pictures k) false
-memory-image pictures at table scratch output k same within =
-    let count : length (image_regions at.images pictures) ≡ length pictures = length-image_regions at.images pictures same in
-    get_or_append_left (image_regions at.images pictures) (region at.output output true ∷ []) nowhere k (omega arith) ∙ get_or-image_regions at.images pictures k same within
+pub memory-image : (n : ℕ) (planes : List Plane) (at : Places) (table scratch output : List ℕ) (k : ℕ) → length at.images ≡ length planes → k < length planes
+    → get_or (memory n planes at table scratch output) (suc (suc k)) nowhere ≡ region (get_or at.images k 0) (image_bytes n planes k) false
+memory-image n planes at table scratch output k same within =
+    let count : length (image_regions n at.images planes) ≡ length planes = length-image_regions n at.images planes same in
+    get_or_append_left (image_regions n at.images planes) (region at.output output true ∷ []) nowhere k (omega arith) ∙ get_or-image_regions n at.images planes k same within
 
 -- where the output stands among the regions
-abbrev pub output_place : List Picture → Places → ℕ
-output_place pictures at = suc (suc (length (image_regions at.images pictures)))
+abbrev pub output_place : ℕ → List Plane → Places → ℕ
+output_place n planes at = suc (suc (length (image_regions n at.images planes)))
 
-pub memory-output : (pictures : List Picture) (at : Places) (table scratch output : List ℕ) → get_or (memory pictures at table scratch output) (output_place pictures at) nowhere ≡ region at.output output true
-memory-output pictures at table scratch output =
-    get_or_at (region at.table table false ∷ region at.scratch scratch true ∷ image_regions at.images pictures) (region at.output output true) [] nowhere (output_place pictures at) refl
+pub memory-output : (n : ℕ) (planes : List Plane) (at : Places) (table scratch output : List ℕ) → get_or (memory n planes at table scratch output) (output_place n planes at) nowhere ≡ region at.output output true
+memory-output n planes at table scratch output =
+    get_or_at (region at.table table false ∷ region at.scratch scratch true ∷ image_regions n at.images planes) (region at.output output true) [] nowhere (output_place n planes at) refl
 
-pub length-memory : (pictures : List Picture) (at : Places) (table scratch output : List ℕ) → length at.images ≡ length pictures → length (memory pictures at table scratch output) ≡ length pictures + 3
-length-memory pictures at table scratch output same = let count = length-image_regions at.images pictures same in simp length-append (omega arith)
+pub length-memory : (n : ℕ) (planes : List Plane) (at : Places) (table scratch output : List ℕ) → length at.images ≡ length planes → length (memory n planes at table scratch output) ≡ length planes + 3
+length-memory n planes at table scratch output same = let count = length-image_regions n at.images planes same in simp length-append (omega arith)
 
-module _ (pictures : List Picture) (at : Places) (table scratch output : List ℕ) (apart : AllPairs Apart (memory pictures at table scratch output)) where
+module _ (width : ℕ) (planes : List Plane) (at : Places) (table scratch output : List ℕ) (apart : AllPairs Apart (memory width planes at table scratch output)) where
   -- a load from the table
-  pub loaded-table : (off n : ℕ) → 0 < n → off + n ≤ length table → loaded (memory pictures at table scratch output) (at.table + off) n ≡ Some (take n (drop off table))
+  pub loaded-table : (off n : ℕ) → 0 < n → off + n ≤ length table → loaded (memory width planes at table scratch output) (at.table + off) n ≡ Some (take n (drop off table))
   loaded-table off n some inside =
       let here : at.table + off - at.table ≡ off = omega arith in
       let lies : LiesIn (region at.table table false) (at.table + off) n = record { from = omega arith; to = omega arith } in
-      rw (loaded-inside (memory pictures at table scratch output) 0 (at.table + off) n apart some (omega arith) refl lies, here) refl
+      rw (loaded-inside (memory width planes at table scratch output) 0 (at.table + off) n apart some (omega arith) refl lies, here) refl
 
   -- a load from an image
-  pub loaded-image : (k off n : ℕ) → length at.images ≡ length pictures → k < length pictures → 0 < n → off + n ≤ length (image_bytes pictures k)
-      → loaded (memory pictures at table scratch output) (get_or at.images k 0 + off) n ≡ Some (take n (drop off (image_bytes pictures k)))
+  pub loaded-image : (k off n : ℕ) → length at.images ≡ length planes → k < length planes → 0 < n → off + n ≤ length (image_bytes width planes k)
+      → loaded (memory width planes at table scratch output) (get_or at.images k 0 + off) n ≡ Some (take n (drop off (image_bytes width planes k)))
   loaded-image k off n same within some inside =
       let start = get_or at.images k 0 in
-      let bytes = image_bytes pictures k in
+      let bytes = image_bytes width planes k in
       let here : start + off - start ≡ off = omega arith in
-      let found : get_or (memory pictures at table scratch output) (suc (suc k)) nowhere ≡ region start bytes false = memory-image pictures at table scratch output k same within in
-      let lies : LiesIn (get_or (memory pictures at table scratch output) (suc (suc k)) nowhere) (start + off) n = rw found (record { from = omega arith; to = omega arith }) in
-      let read : (get_or (memory pictures at table scratch output) (suc (suc k)) nowhere).reads ≡ true = rw found refl in
-      let places : suc (suc k) < length (memory pictures at table scratch output) = omega (arith, length-memory pictures at table scratch output same) in
-      rw (loaded-inside (memory pictures at table scratch output) (suc (suc k)) (start + off) n apart some places read lies, found, here) refl
+      let found : get_or (memory width planes at table scratch output) (suc (suc k)) nowhere ≡ region start bytes false = memory-image width planes at table scratch output k same within in
+      let lies : LiesIn (get_or (memory width planes at table scratch output) (suc (suc k)) nowhere) (start + off) n = rw found (record { from = omega arith; to = omega arith }) in
+      let read : (get_or (memory width planes at table scratch output) (suc (suc k)) nowhere).reads ≡ true = rw found refl in
+      let places : suc (suc k) < length (memory width planes at table scratch output) = omega (arith, length-memory width planes at table scratch output same) in
+      rw (loaded-inside (memory width planes at table scratch output) (suc (suc k)) (start + off) n apart some places read lies, found, here) refl
 
   -- a store to the output
   pub stored-output : (off : ℕ) (new : List ℕ) → 0 < length new → off + length new ≤ length output
-      → stored (memory pictures at table scratch output) (at.output + off) new ≡ Some (memory pictures at table scratch (overwritten output off new))
+      → stored (memory width planes at table scratch output) (at.output + off) new ≡ Some (memory width planes at table scratch (overwritten output off new))
   stored-output off new some inside =
-      let images = image_regions at.images pictures in
-      let k = output_place pictures at in
+      let images = image_regions width at.images planes in
+      let k = output_place width planes at in
       let here : at.output + off - at.output ≡ off = omega arith in
       let front = region at.table table false ∷ region at.scratch scratch true ∷ images in
-      let found : get_or (memory pictures at table scratch output) k nowhere ≡ region at.output output true = memory-output pictures at table scratch output in
-      let lies : LiesIn (get_or (memory pictures at table scratch output) k nowhere) (at.output + off) (length new) = rw found (record { from = omega arith; to = omega arith }) in
-      let written : (get_or (memory pictures at table scratch output) k nowhere).writes ≡ true = rw found refl in
-      let places : k < length (memory pictures at table scratch output) = simp length-append (omega arith) in
-      let after : set (memory pictures at table scratch output) k (region at.output (overwritten output off new) true) ≡ memory pictures at table scratch (overwritten output off new) =
+      let found : get_or (memory width planes at table scratch output) k nowhere ≡ region at.output output true = memory-output width planes at table scratch output in
+      let lies : LiesIn (get_or (memory width planes at table scratch output) k nowhere) (at.output + off) (length new) = rw found (record { from = omega arith; to = omega arith }) in
+      let written : (get_or (memory width planes at table scratch output) k nowhere).writes ≡ true = rw found refl in
+      let places : k < length (memory width planes at table scratch output) = simp length-append (omega arith) in
+      let after : set (memory width planes at table scratch output) k (region at.output (overwritten output off new) true) ≡ memory width planes at table scratch (overwritten output off new) =
       set_at front (region at.output output true) [] (region at.output (overwritten output off new) true) k refl in
-      rw (stored-inside (memory pictures at table scratch output) k (at.output + off) new apart some places written lies, found, here) (ap (λ l. Some l) after)
+      rw (stored-inside (memory width planes at table scratch output) k (at.output + off) new apart some places written lies, found, here) (ap (λ l. Some l) after)
 
   -- a load from the scratch, and a store to it
-  pub loaded-scratch : (off n : ℕ) → 0 < n → off + n ≤ length scratch → loaded (memory pictures at table scratch output) (at.scratch + off) n ≡ Some (take n (drop off scratch))
+  pub loaded-scratch : (off n : ℕ) → 0 < n → off + n ≤ length scratch → loaded (memory width planes at table scratch output) (at.scratch + off) n ≡ Some (take n (drop off scratch))
   loaded-scratch off n some inside =
       let here : at.scratch + off - at.scratch ≡ off = omega arith in
       let lies : LiesIn (region at.scratch scratch true) (at.scratch + off) n = record { from = omega arith; to = omega arith } in
-      rw (loaded-inside (memory pictures at table scratch output) 1 (at.scratch + off) n apart some (omega arith) refl lies, here) refl
+      rw (loaded-inside (memory width planes at table scratch output) 1 (at.scratch + off) n apart some (omega arith) refl lies, here) refl
 
   pub stored-scratch : (off : ℕ) (new : List ℕ) → 0 < length new → off + length new ≤ length scratch
-      → stored (memory pictures at table scratch output) (at.scratch + off) new ≡ Some (memory pictures at table (overwritten scratch off new) output)
+      → stored (memory width planes at table scratch output) (at.scratch + off) new ≡ Some (memory width planes at table (overwritten scratch off new) output)
   stored-scratch off new some inside =
       let here : at.scratch + off - at.scratch ≡ off = omega arith in
       let lies : LiesIn (region at.scratch scratch true) (at.scratch + off) (length new) = record { from = omega arith; to = omega arith } in
-      rw (stored-inside (memory pictures at table scratch output) 1 (at.scratch + off) new apart some (omega arith) refl lies, here) refl
+      rw (stored-inside (memory width planes at table scratch output) 1 (at.scratch + off) new apart some (omega arith) refl lies, here) refl

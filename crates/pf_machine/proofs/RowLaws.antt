@@ -12,7 +12,7 @@ use Rattle.pf_machine.specs.Meaning.Bytes.{AreBytes, packed}
 use Rattle.pf_machine.specs.Meaning.Memory.{Apart}
 use Rattle.pf_machine.specs.declared.memory.Region.{Region}
 use Rattle.pf_ints.specs.Meaning.Images.{Picture}
-use Rattle.pf_values.specs.Meaning.Kernels.{Source, Keeps, Out, out_value, out_width, out_height}
+use Rattle.pf_values.specs.Meaning.Kernels.{Plane, Source, Keeps, Out, out_value, out_width, out_height}
 use Rattle.pf_machine.specs.declared.program.Head.{Head}
 use Rattle.pf_machine.specs.Meaning.Tables.{Table}
 use Rattle.pf_machine.specs.Meaning.Programs.{ProgramOf}
@@ -82,39 +82,39 @@ pub packed-rows : (w : ℕ) (f : ℕ → List ℕ) (ys : List ℕ) → packed w 
 packed-rows w f [] = refl
 packed-rows w f (y ∷ ys) = packed-append w (f y) (flat_map f ys) ∙ ap (λ rest. packed w (f y) ++ rest) (packed-rows w f ys)
 
-pub output_in_rows : (h : Head) (pictures : List Picture) → output_size h pictures ≡ row_size h pictures * rows h pictures
-output_in_rows h pictures = sym (mul_assoc (pixel_bytes h.out_ty) (columns h pictures) (rows h pictures))
+pub output_in_rows : (h : Head) (planes : List Plane) → output_size h planes ≡ row_size h planes * rows h planes
+output_in_rows h planes = sym (mul_assoc (pixel_bytes h.out_ty) (columns h planes) (rows h planes))
 
-module _ {I O : Type 0} (t : Table O) (p : ProgramOf I O) (pictures : List Picture) (at : Places) (row : ℕ → List ℕ) (done : RowsDone t p pictures at row) where
+module _ {I O : Type 0} (t : Table O) (p : ProgramOf I O) (planes : List Plane) (at : Places) (row : ℕ → List ℕ) (done : RowsDone t p planes at row) where
   -- so many rows from row y on end, and leave this output
   record RowsLeft (left y : ℕ) (table scratch output whole : List ℕ) : Type 0 where
     table_left : List ℕ
     kept : List ℕ
     kept_size : length kept ≡ length scratch
-    ends : rows_from t p at.table (row_budget (length p.code) (length p.head.taps) (columns p.head pictures)) (λ y. row_entries p.head pictures at y) left y (memory pictures at table scratch output) ≡ Finished (memory pictures at table_left kept whole)
+    ends : rows_from t p at.table (row_budget (length p.code) (length p.head.taps) (columns p.head planes)) (λ y. row_entries p.head planes at y) left y (memory (columns p.head planes) planes at table scratch output) ≡ Finished (memory (columns p.head planes) planes at table_left kept whole)
 
-  rows_left : (left y : ℕ) (table scratch output : List ℕ) → y + left ≡ rows p.head pictures → AreBytes p.head.scratch scratch
-      → AreBytes (row_size p.head pictures * rows p.head pictures) output
-      → RowsLeft left y table scratch output (take (row_size p.head pictures * y) output ++ flat_map row (range_with_len y left))
+  rows_left : (left y : ℕ) (table scratch output : List ℕ) → y + left ≡ rows p.head planes → AreBytes p.head.scratch scratch
+      → AreBytes (row_size p.head planes * rows p.head planes) output
+      → RowsLeft left y table scratch output (take (row_size p.head planes * y) output ++ flat_map row (range_with_len y left))
   rows_left zero y table scratch output count small long =
-      let size : length output ≡ row_size p.head pictures * y = long.size ∙ ap (λ n. row_size p.head pictures * n) (omega arith) in
-      let whole : take (row_size p.head pictures * y) output ++ [] ≡ output = append-nil _ ∙ take_all (row_size p.head pictures * y) output (omega arith) in
+      let size : length output ≡ row_size p.head planes * y = long.size ∙ ap (λ n. row_size p.head planes * n) (omega arith) in
+      let whole : take (row_size p.head planes * y) output ++ [] ≡ output = append-nil _ ∙ take_all (row_size p.head planes * y) output (omega arith) in
       record {
         table_left = table;
         kept = scratch;
         kept_size = refl;
-        ends = ap (λ o. Finished (memory pictures at table scratch o)) (sym whole);
+        ends = ap (λ o. Finished (memory (columns p.head planes) planes at table scratch o)) (sym whole);
       }
   rows_left (suc left) y table scratch output count small long =
-      let size = row_size p.head pictures in
-      let inside : y < rows p.head pictures = omega arith in
-      let here : RowDone t p pictures at y (row y) scratch output = done.each y inside scratch output small (subst (λ n. AreBytes n output) (sym (output_in_rows p.head pictures)) long) in
+      let size = row_size p.head planes in
+      let inside : y < rows p.head planes = omega arith in
+      let here : RowDone t p planes at y (row y) scratch output = done.each y inside scratch output small (subst (λ n. AreBytes n output) (sym (output_in_rows p.head planes)) long) in
       let row_are : AreBytes size (row y) = done.bytes y inside in
       let width = row_are.size in
-      let fits : size * y + size ≤ length output = rw (long.size) (column_fits size y size (rows p.head pictures) inside (omega arith)) in
+      let fits : size * y + size ≤ length output = rw (long.size) (column_fits size y size (rows p.head planes) inside (omega arith)) in
       let kept_small : AreBytes p.head.scratch here.kept = subst (λ n. AreBytes n here.kept) small.size here.kept_bytes in
-      let kept_long : AreBytes (size * rows p.head pictures) (with_row output size y (row y)) = bytes-with_row (size * rows p.head pictures) output (row y) size y fits long row_are in
-      let rest = rows_left left (suc y) (packed 8 (row_entries p.head pictures at y)) here.kept (with_row output size y (row y)) (omega arith) kept_small kept_long in
+      let kept_long : AreBytes (size * rows p.head planes) (with_row output size y (row y)) = bytes-with_row (size * rows p.head planes) output (row y) size y fits long row_are in
+      let rest = rows_left left (suc y) (packed 8 (row_entries p.head planes at y)) here.kept (with_row output size y (row y)) (omega arith) kept_small kept_long in
       let next : y + 1 ≡ suc y = omega arith in
       let whole : take (size * suc y) (with_row output size y (row y)) ++ flat_map row (range_with_len (suc y) left) ≡ take (size * y) output ++ (row y ++ flat_map row (range_with_len (y + 1) left)) =
       rw (take-with_row output (row y) size y (omega arith) width, next) (append_assoc (take (size * y) output) (row y) (flat_map row (range_with_len (suc y) left))) in
@@ -122,50 +122,50 @@ module _ {I O : Type 0} (t : Table O) (p : ProgramOf I O) (pictures : List Pictu
         table_left = rest.table_left;
         kept = rest.kept;
         kept_size = let kept = here.kept_bytes in rest.kept_size ∙ kept.size;
-        ends = rw (here.ends, here.regions) (rest.ends ∙ ap (λ o. Finished (memory pictures at rest.table_left rest.kept o)) whole);
+        ends = rw (here.ends, here.regions) (rest.ends ∙ ap (λ o. Finished (memory (columns p.head planes) planes at rest.table_left rest.kept o)) whole);
       }
 
   -- All rows from the first on end, and leave their bytes one after another, whatever was in the scratch and the output.
-  pub rows_end : (scratch output : List ℕ) → AreBytes p.head.scratch scratch → AreBytes (output_size p.head pictures) output
-      → (table : List ℕ) × (kept : List ℕ) × (length kept ≡ length scratch) × (Runs t p pictures at scratch output ≡ Finished (memory pictures at table kept (flat_map row (range_with_len 0 (rows p.head pictures)))))
+  pub rows_end : (scratch output : List ℕ) → AreBytes p.head.scratch scratch → AreBytes (output_size p.head planes) output
+      → (table : List ℕ) × (kept : List ℕ) × (length kept ≡ length scratch) × (Runs t p planes at scratch output ≡ Finished (memory (columns p.head planes) planes at table kept (flat_map row (range_with_len 0 (rows p.head planes)))))
   rows_end scratch output small long =
-      let size = row_size p.head pictures in
-      let all = rows_left (rows p.head pictures) 0 (replicate (table_size p.head) 0) scratch output (omega arith) small (subst (λ n. AreBytes n output) (output_in_rows p.head pictures) long) in
+      let size = row_size p.head planes in
+      let all = rows_left (rows p.head planes) 0 (replicate (table_size p.head) 0) scratch output (omega arith) small (subst (λ n. AreBytes n output) (output_in_rows p.head planes) long) in
       let none : size * 0 ≡ 0 = omega arith in
       (all.table_left, all.kept, all.kept_size, (rw none at all.ends))
 
 -- The image of the rows
 
-pub length-row_in_memory : (value : ℕ → ℕ → ℕ) (h : Head) (pictures : List Picture) (y : ℕ) → length (row_in_memory value h pictures y) ≡ row_size h pictures
-length-row_in_memory value h pictures y =
-    length-packed (pixel_bytes h.out_ty) (row_values value (columns h pictures) y) ∙ ap (λ n. pixel_bytes h.out_ty * n) (length-row_values value (columns h pictures) y)
+pub length-row_in_memory : (value : ℕ → ℕ → ℕ) (h : Head) (planes : List Plane) (y : ℕ) → length (row_in_memory value h planes y) ≡ row_size h planes
+length-row_in_memory value h planes y =
+    length-packed (pixel_bytes h.out_ty) (row_values value (columns h planes) y) ∙ ap (λ n. pixel_bytes h.out_ty * n) (length-row_values value (columns h planes) y)
 
-bytes-row_in_memory : (value : ℕ → ℕ → ℕ) (h : Head) (pictures : List Picture) (y : ℕ) → AreBytes (row_size h pictures) (row_in_memory value h pictures y)
-bytes-row_in_memory value h pictures y = record {
-  size = length-row_in_memory value h pictures y;
-  small = packed_below (pixel_bytes h.out_ty) (row_values value (columns h pictures) y);
+bytes-row_in_memory : (value : ℕ → ℕ → ℕ) (h : Head) (planes : List Plane) (y : ℕ) → AreBytes (row_size h planes) (row_in_memory value h planes y)
+bytes-row_in_memory value h planes y = record {
+  size = length-row_in_memory value h planes y;
+  small = packed_below (pixel_bytes h.out_ty) (row_values value (columns h planes) y);
 }
 
-pub rows_in_memory : (value : ℕ → ℕ → ℕ) (h : Head) (pictures : List Picture)
-    → flat_map (row_in_memory value h pictures) (range_with_len 0 (rows h pictures)) ≡ pixels_in_memory h.out_ty (output_picture value h pictures).pixels
-rows_in_memory value h pictures = sym (packed-rows (pixel_bytes h.out_ty) (λ y. row_values value (columns h pictures) y) (range_with_len 0 (rows h pictures)))
+pub rows_in_memory : (value : ℕ → ℕ → ℕ) (h : Head) (planes : List Plane)
+    → flat_map (row_in_memory value h planes) (range_with_len 0 (rows h planes)) ≡ pixels_in_memory h.out_ty (output_picture value h planes).pixels
+rows_in_memory value h planes = sym (packed-rows (pixel_bytes h.out_ty) (λ y. row_values value (columns h planes) y) (range_with_len 0 (rows h planes)))
 
 -- where each row writes its numbers, the run leaves the picture of them
-pub picture_left : {I O : Type 0} (t : Table O) (p : ProgramOf I O) (pictures : List Picture) (at : Places) (value : ℕ → ℕ → ℕ)
-    → ((scratch output : List ℕ) → AreBytes p.head.scratch scratch → AreBytes (output_size p.head pictures) output → (y : ℕ) → y < rows p.head pictures → RowDone t p pictures at y (row_in_memory value p.head pictures y) scratch output)
-    → (scratch output : List ℕ) → AreBytes p.head.scratch scratch → AreBytes (output_size p.head pictures) output
-    → Leaves t p pictures at scratch output (output_picture value p.head pictures)
-picture_left t p pictures at value each scratch output small long =
-    let done : RowsDone t p pictures at (row_in_memory value p.head pictures) = record {
-      bytes = λ y inside. bytes-row_in_memory value p.head pictures y;
+pub picture_left : {I O : Type 0} (t : Table O) (p : ProgramOf I O) (planes : List Plane) (at : Places) (value : ℕ → ℕ → ℕ)
+    → ((scratch output : List ℕ) → AreBytes p.head.scratch scratch → AreBytes (output_size p.head planes) output → (y : ℕ) → y < rows p.head planes → RowDone t p planes at y (row_in_memory value p.head planes y) scratch output)
+    → (scratch output : List ℕ) → AreBytes p.head.scratch scratch → AreBytes (output_size p.head planes) output
+    → Leaves t p planes at scratch output (output_picture value p.head planes)
+picture_left t p planes at value each scratch output small long =
+    let done : RowsDone t p planes at (row_in_memory value p.head planes) = record {
+      bytes = λ y inside. bytes-row_in_memory value p.head planes y;
       each = λ y inside s o fits whole. each s o fits whole y inside;
     } in
-    let all = rows_end t p pictures at (row_in_memory value p.head pictures) done scratch output small long in
+    let all = rows_end t p planes at (row_in_memory value p.head planes) done scratch output small long in
     record {
       table = all.0;
       kept = all.1;
       kept_size = all.2;
-      ends = all.3 ∙ ap (λ o. Finished (memory pictures at all.0 all.1 o)) (rows_in_memory value p.head pictures);
+      ends = all.3 ∙ ap (λ o. Finished (memory (columns p.head planes) planes at all.0 all.1 o)) (rows_in_memory value p.head planes);
     }
 
 -- a size that is at least 1
@@ -173,15 +173,15 @@ pub whole_size : (z : ℤ) → pos 1 ≤ℤ z → pos (unsigned_abs z) ≡ z
 whole_size z some = omega (arith, ints)
 
 -- where the numbers are the values of the kernel's output, the picture of them is the kernel's output
-pub picture_is_out : (s : Source) (h : Head) (pictures : List Picture) (value : ℕ → ℕ → ℕ) → s.taps ≡ h.taps → s.out_ty ≡ h.out_ty → Keeps s pictures
-    → ((x y : ℕ) → x < columns h pictures → y < rows h pictures → pos (value x y) ≡ out_value s pictures x y) → Out s pictures (output_picture value h pictures)
-picture_is_out s h pictures value taps ty keeps each =
+pub picture_is_out : (s : Source) (h : Head) (planes : List Plane) (value : ℕ → ℕ → ℕ) → s.taps ≡ h.taps → s.out_ty ≡ h.out_ty → Keeps s planes
+    → ((x y : ℕ) → x < columns h planes → y < rows h planes → pos (value x y) ≡ out_value s planes x y) → Out s planes (output_picture value h planes)
+picture_is_out s h planes value taps ty keeps each =
     record {
       ty = sym ty;
-      width = ap (λ ts. pos (unsigned_abs (out_width ts pictures))) (sym taps) ∙ whole_size (out_width s.taps pictures) keeps.wide;
-      height = ap (λ ts. pos (unsigned_abs (out_height ts pictures))) (sym taps) ∙ whole_size (out_height s.taps pictures) keeps.high;
-      count = length-image_values value (columns h pictures) (rows h pictures);
-      each = λ x y column row. ap (λ n. pos n) (get_or-image_values value (columns h pictures) (rows h pictures) x y 0 column row) ∙ each x y column row;
+      width = ap (λ ts. pos (unsigned_abs (out_width ts planes))) (sym taps) ∙ whole_size (out_width s.taps planes) keeps.wide;
+      height = ap (λ ts. pos (unsigned_abs (out_height ts planes))) (sym taps) ∙ whole_size (out_height s.taps planes) keeps.high;
+      count = length-image_values value (columns h planes) (rows h planes);
+      each = λ x y column row. ap (λ n. pos n) (get_or-image_values value (columns h planes) (rows h planes) x y 0 column row) ∙ each x y column row;
     }
 
 -- The places of regions, whatever bytes they hold
@@ -230,37 +230,37 @@ low_kept rs ss same low k d inside =
     omega arith
 
 -- other bytes of the same sizes in the table, the scratch and the output
-pub memory_places : (pictures : List Picture) (at : Places) (table scratch output table' scratch' output' : List ℕ) → length table' ≡ length table
+pub memory_places : (n : ℕ) (planes : List Plane) (at : Places) (table scratch output table' scratch' output' : List ℕ) → length table' ≡ length table
     → length scratch' ≡ length scratch → length output' ≡ length output
-    → map place_of_region (memory pictures at table scratch output) ≡ map place_of_region (memory pictures at table' scratch' output')
-memory_places pictures at table scratch output table' scratch' output' tables scratches outputs =
-    let joined = λ (o : List ℕ). map-append place_of_region (image_regions at.images pictures) (region at.output o true ∷ []) in
+    → map place_of_region (memory n planes at table scratch output) ≡ map place_of_region (memory n planes at table' scratch' output')
+memory_places n planes at table scratch output table' scratch' output' tables scratches outputs =
+    let joined = λ (o : List ℕ). map-append place_of_region (image_regions n at.images planes) (region at.output o true ∷ []) in
     let front = λ (m n : ℕ) (l : List (ℕ × ℕ)). (at.table, m) ∷ (at.scratch, n) ∷ l in
-    let middle : front (length table) (length scratch) (map place_of_region (image_regions at.images pictures) ++ (at.output, length output) ∷ [])
-    ≡ front (length table') (length scratch') (map place_of_region (image_regions at.images pictures) ++ (at.output, length output') ∷ []) =
+    let middle : front (length table) (length scratch) (map place_of_region (image_regions n at.images planes) ++ (at.output, length output) ∷ [])
+    ≡ front (length table') (length scratch') (map place_of_region (image_regions n at.images planes) ++ (at.output, length output') ∷ []) =
     rw (tables, scratches, outputs) refl in
     ap (λ l. front (length table) (length scratch) l) (joined output) ∙ middle ∙ sym (ap (λ l. front (length table') (length scratch') l) (joined output'))
 
-pub length-row_entries : (h : Head) (pictures : List Picture) (at : Places) (y : ℕ) → length (row_entries h pictures at y) ≡ length h.taps + 3
-length-row_entries h pictures at y = simp (length-append, length-map) (omega arith)
+pub length-row_entries : (h : Head) (planes : List Plane) (at : Places) (y : ℕ) → length (row_entries h planes at y) ≡ length h.taps + 3
+length-row_entries h planes at y = simp (length-append, length-map) (omega arith)
 
-pub length-row_table : (h : Head) (pictures : List Picture) (at : Places) (y : ℕ) → length (packed 8 (row_entries h pictures at y)) ≡ table_size h
-length-row_table h pictures at y = length-packed 8 (row_entries h pictures at y) ∙ ap (λ n. 8 * n) (length-row_entries h pictures at y)
+pub length-row_table : (h : Head) (planes : List Plane) (at : Places) (y : ℕ) → length (packed 8 (row_entries h planes at y)) ≡ table_size h
+length-row_table h planes at y = length-packed 8 (row_entries h planes at y) ∙ ap (λ n. 8 * n) (length-row_entries h planes at y)
 
 -- the memory in which a run begins
-abbrev pub first_memory : Head → List Picture → Places → (scratch output : List ℕ) → List Region
-first_memory h pictures at scratch output = memory pictures at (replicate (table_size h) 0) scratch output
+abbrev pub first_memory : Head → List Plane → Places → (scratch output : List ℕ) → List Region
+first_memory h planes at scratch output = memory (columns h planes) planes at (replicate (table_size h) 0) scratch output
 
-pub placed_kept : (h : Head) (pictures : List Picture) (at : Places) (scratch output scratch' output' : List ℕ) → IsPlaced h pictures at scratch output
-    → AreBytes h.scratch scratch' → AreBytes (output_size h pictures) output'
-    → IsPlaced h pictures at scratch' output'
-placed_kept h pictures at scratch output scratch' output' placed small long =
-    let before = first_memory h pictures at scratch output in
-    let after = first_memory h pictures at scratch' output' in
+pub placed_kept : (h : Head) (planes : List Plane) (at : Places) (scratch output scratch' output' : List ℕ) → IsPlaced h planes at scratch output
+    → AreBytes h.scratch scratch' → AreBytes (output_size h planes) output'
+    → IsPlaced h planes at scratch' output'
+placed_kept h planes at scratch output scratch' output' placed small long =
+    let before = first_memory h planes at scratch output in
+    let after = first_memory h planes at scratch' output' in
     let same : map place_of_region before ≡ map place_of_region after =
     let scratches = placed.scratch_bytes in
     let outputs = placed.output_bytes in
-    memory_places pictures at (replicate (table_size h) 0) scratch output (replicate (table_size h) 0) scratch' output' refl (small.size ∙ sym scratches.size) (long.size ∙ sym outputs.size) in
+    memory_places (columns h planes) planes at (replicate (table_size h) 0) scratch output (replicate (table_size h) 0) scratch' output' refl (small.size ∙ sym scratches.size) (long.size ∙ sym outputs.size) in
     record {
       image_count = placed.image_count;
       scratch_bytes = small;
@@ -273,33 +273,33 @@ placed_kept h pictures at scratch output scratch' output' placed small long =
     }
 
 -- the memory of a row, with the table of the row
-pub row_places : (h : Head) (pictures : List Picture) (at : Places) (y : ℕ) (scratch output : List ℕ)
-    → map place_of_region (first_memory h pictures at scratch output) ≡ map place_of_region (memory pictures at (packed 8 (row_entries h pictures at y)) scratch output)
-row_places h pictures at y scratch output =
-    memory_places pictures at (replicate (table_size h) 0) scratch output (packed 8 (row_entries h pictures at y)) scratch output (length-row_table h pictures at y ∙ sym (length-replicate (table_size h) 0)) refl refl
+pub row_places : (h : Head) (planes : List Plane) (at : Places) (y : ℕ) (scratch output : List ℕ)
+    → map place_of_region (first_memory h planes at scratch output) ≡ map place_of_region (memory (columns h planes) planes at (packed 8 (row_entries h planes at y)) scratch output)
+row_places h planes at y scratch output =
+    memory_places (columns h planes) planes at (replicate (table_size h) 0) scratch output (packed 8 (row_entries h planes at y)) scratch output (length-row_table h planes at y ∙ sym (length-replicate (table_size h) 0)) refl refl
 
-pub row_apart : (h : Head) (pictures : List Picture) (at : Places) (y : ℕ) (scratch output kept left : List ℕ) → IsPlaced h pictures at scratch output
-    → length kept ≡ h.scratch → length left ≡ output_size h pictures
-    → AllPairs Apart (memory pictures at (packed 8 (row_entries h pictures at y)) kept left)
-row_apart h pictures at y scratch output kept left placed small long =
+pub row_apart : (h : Head) (planes : List Plane) (at : Places) (y : ℕ) (scratch output kept left : List ℕ) → IsPlaced h planes at scratch output
+    → length kept ≡ h.scratch → length left ≡ output_size h planes
+    → AllPairs Apart (memory (columns h planes) planes at (packed 8 (row_entries h planes at y)) kept left)
+row_apart h planes at y scratch output kept left placed small long =
     let scratches = placed.scratch_bytes in
     let outputs = placed.output_bytes in
-    let same = memory_places pictures at (replicate (table_size h) 0) scratch output (packed 8 (row_entries h pictures at y)) kept left (length-row_table h pictures at y ∙ sym (length-replicate (table_size h) 0)) (small ∙ sym scratches.size) (long ∙ sym outputs.size) in
-    apart_kept (first_memory h pictures at scratch output) (memory pictures at (packed 8 (row_entries h pictures at y)) kept left) same placed.apart
+    let same = memory_places (columns h planes) planes at (replicate (table_size h) 0) scratch output (packed 8 (row_entries h planes at y)) kept left (length-row_table h planes at y ∙ sym (length-replicate (table_size h) 0)) (small ∙ sym scratches.size) (long ∙ sym outputs.size) in
+    apart_kept (first_memory h planes at scratch output) (memory (columns h planes) planes at (packed 8 (row_entries h planes at y)) kept left) same placed.apart
 
-pub row_low : (h : Head) (pictures : List Picture) (at : Places) (y : ℕ) (scratch output : List ℕ) → IsPlaced h pictures at scratch output
-    → All (λ r. r.start + length r.bytes < 2 ^ 31) (memory pictures at (packed 8 (row_entries h pictures at y)) scratch output)
-row_low h pictures at y scratch output placed = low_kept (first_memory h pictures at scratch output) (memory pictures at (packed 8 (row_entries h pictures at y)) scratch output) (row_places h pictures at y scratch output) placed.low
+pub row_low : (h : Head) (planes : List Plane) (at : Places) (y : ℕ) (scratch output : List ℕ) → IsPlaced h planes at scratch output
+    → All (λ r. r.start + length r.bytes < 2 ^ 31) (memory (columns h planes) planes at (packed 8 (row_entries h planes at y)) scratch output)
+row_low h planes at y scratch output placed = low_kept (first_memory h planes at scratch output) (memory (columns h planes) planes at (packed 8 (row_entries h planes at y)) scratch output) (row_places h planes at y scratch output) placed.low
 
 -- Where each row of a program writes the values of a kernel's output, under every placement, the program's runs leave the kernel's output.
-pub leaves : {I O : Type 0} (t : Table O) (p : ProgramOf I O) (pictures : List Picture) (s : Source) (value : ℕ → ℕ → ℕ) → s.taps ≡ p.head.taps
-    → s.out_ty ≡ p.head.out_ty → Keeps s pictures
-    → ((x y : ℕ) → x < columns p.head pictures → y < rows p.head pictures → pos (value x y) ≡ out_value s pictures x y)
-    → ((at : Places) (scratch output : List ℕ) → IsPlaced p.head pictures at scratch output → (y : ℕ) → y < rows p.head pictures → RowDone t p pictures at y (row_in_memory value p.head pictures y) scratch output)
-    → (o : Picture) × Out s pictures o × ((at : Places) (scratch output : List ℕ) → IsPlaced p.head pictures at scratch output → Leaves t p pictures at scratch output o)
-leaves t p pictures s value taps ty keeps values each = (
-  output_picture value p.head pictures,
-  picture_is_out s p.head pictures value taps ty keeps values,
+pub leaves : {I O : Type 0} (t : Table O) (p : ProgramOf I O) (planes : List Plane) (s : Source) (value : ℕ → ℕ → ℕ) → s.taps ≡ p.head.taps
+    → s.out_ty ≡ p.head.out_ty → Keeps s planes
+    → ((x y : ℕ) → x < columns p.head planes → y < rows p.head planes → pos (value x y) ≡ out_value s planes x y)
+    → ((at : Places) (scratch output : List ℕ) → IsPlaced p.head planes at scratch output → (y : ℕ) → y < rows p.head planes → RowDone t p planes at y (row_in_memory value p.head planes y) scratch output)
+    → (o : Picture) × Out s planes o × ((at : Places) (scratch output : List ℕ) → IsPlaced p.head planes at scratch output → Leaves t p planes at scratch output o)
+leaves t p planes s value taps ty keeps values each = (
+  output_picture value p.head planes,
+  picture_is_out s p.head planes value taps ty keeps values,
   (λ at scratch output placed.
-      picture_left t p pictures at value (λ kept left small long y inside. each at kept left (placed_kept p.head pictures at scratch output kept left placed small long) y inside) scratch output placed.scratch_bytes placed.output_bytes),
+      picture_left t p planes at value (λ kept left small long y inside. each at kept left (placed_kept p.head planes at scratch output kept left placed small long) y inside) scratch output placed.scratch_bytes placed.output_bytes),
 )

@@ -49,7 +49,7 @@ module _ (w k : ℕ) (f : ℕ → Option Term) (v n : ℕ) where
       below_each args h.operands each (and_parts _ (all_true (map (is_formed v) args)) all).1 (subst (λ c. 1 ≤ c) (fold_node (occurrences_step n) op to amount args) o))
 
 -- each of the first variables stands where all do
-stands_each : (v : ℕ) (p : Pattern) → all_stand v p ≡ true → (n : ℕ) → n < v → 1 ≤ occurrences n p
+pub stands_each : (v : ℕ) (p : Pattern) → all_stand v p ≡ true → (n : ℕ) → n < v → 1 ≤ occurrences n p
 stands_each zero p h n below = absurd (omega (arith, below))
 stands_each (suc v) p h n below = by (cases_eq n v) (stands_each v p both.1 n)
   where

@@ -11,4 +11,4 @@ mod trials;
 
 pub use index::Index;
 pub use key::{RuleKey, TypeList};
-pub use matching::{match_at, match_kept};
+pub use matching::{match_at, match_kept, match_part};

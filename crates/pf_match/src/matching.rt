@@ -50,7 +50,8 @@ pub fn match_kept(
     }
 }
 
-fn match_part(alloc: Global, rule: &Rule, part: Part<'_>) -> Result<Option<Binding>, Memory>
+/// The binding with which the rule matches the part of a term, as `match_kept` tells it.
+pub fn match_part(alloc: Global, rule: &Rule, part: Part<'_>) -> Result<Option<Binding>, Memory>
     requires bounded { IsBounded part.term.now part.bounds.now }
     requires shifts { first_bad rule.now.widths rule.now.shift ≡ None }
     ensures { (ranges : R) → marks ranges part.entry.term.now ≡ Some part.entry.bounds.now → IfOk result (Match rule.now ranges part.entry.term.now) }

@@ -4,7 +4,7 @@ use Rattle.std.proofs.Math.Nat.{mul_comm, mul-le-mul_left}
 use Rattle.std.proofs.lemmas.Nat.{mul-le}
 use Rattle.std.proofs.lemmas.List.{take-append-drop, length-take-le}
 use Rattle.std.proofs.lemmas.List.Elements.{All-take, All-drop, All-get_or}
-use Rattle.pf_ints.specs.Meaning.Images.{Picture}
+use Rattle.pf_values.specs.Meaning.Kernels.{Plane}
 use Rattle.pf_machine.specs.declared.registers.RegFile.{RegFile}
 use Rattle.pf_machine.specs.declared.memory.Region.{Region}
 use Rattle.pf_machine.specs.declared.control.Control.TheVariants.{LoadPtr, StorePtr, Imm}
@@ -38,19 +38,19 @@ buffer_low vector taps k most few inside =
 pub table_ends : (taps k : ℕ) → k ≤ taps → 8 * k + 8 ≤ table_bytes taps
 table_ends taps k inside = omega arith
 
-module _ {I O : Type 0} (t : Table O) (code : List (Line I O)) (labels : List Label) (pictures : List Picture) (at : Places) (entries widths : List ℕ) (width slots n scratch_size output_size row : ℕ) (image place : ℕ → ℕ) (placed : RowPlace t.vector pictures at entries widths width slots n scratch_size output_size row image place) (narrow : n < t.vector) (some_pixel : 1 ≤ n) where
+module _ {I O : Type 0} (t : Table O) (code : List (Line I O)) (labels : List Label) (planes : List Plane) (at : Places) (entries widths : List ℕ) (width slots n scratch_size output_size row : ℕ) (image place : ℕ → ℕ) (placed : RowPlace t.vector planes at entries widths width slots n scratch_size output_size row image place) (narrow : n < t.vector) (some_pixel : 1 ≤ n) where
   abbrev memo : List ℕ → List ℕ → List Region
-  memo = mem t pictures at entries widths width slots n scratch_size output_size row image place placed
+  memo = mem t planes at entries widths width slots n scratch_size output_size row image place placed
 
   -- the bytes of a tap's row
   abbrev pub tap_row : ℕ → List ℕ
-  tap_row k = part (place k) (get_or widths k 0 * n) (image_bytes pictures (image k))
+  tap_row k = part (place k) (get_or widths k 0 * n) (image_bytes n planes (image k))
 
   pub tap_row_below : (k : ℕ) → All (λ b. b < 256) (tap_row k)
   tap_row_below k =
       let m = get_or widths k 0 * n in
-      let bytes_k = image_bytes pictures (image k) in
-      All-take (λ b. b < 256) m (drop (place k) bytes_k) (All-drop (λ b. b < 256) (place k) bytes_k (image_bytes_below pictures (image k)))
+      let bytes_k = image_bytes n planes (image k) in
+      All-take (λ b. b < 256) m (drop (place k) bytes_k) (All-drop (λ b. b < 256) (place k) bytes_k (image_bytes_below n planes (image k)))
 
   abbrev pub at_buffer : ℕ → ℕ
   at_buffer k = buffer_at t.vector (length widths) k
@@ -86,7 +86,7 @@ module _ {I O : Type 0} (t : Table O) (code : List (Line I O)) (labels : List La
     wide_tap = All-get_or (λ w. (1 ≤ w) × (w ≤ 2)) widths k 0 known placed.wide
 
     row_long : length (tap_row k) ≡ w * n
-    row_long = let inside = placed.inside k known in length-part (place k) (w * n) (image_bytes pictures (image k)) (omega arith)
+    row_long = let inside = placed.inside k known in length-part (place k) (w * n) (image_bytes n planes (image k)) (omega arith)
 
     -- the scratch once x pixels are copied
     abbrev copied_to : ℕ → List ℕ
@@ -123,10 +123,10 @@ module _ {I O : Type 0} (t : Table O) (code : List (Line I O)) (labels : List La
     pixel_load x inside =
         let wide = wide_tap in
         let room : w * x + w * 1 ≤ w * n = span w x 1 n (omega arith) in
-        let given = tap-given t.vector pictures at entries widths width slots n scratch_size output_size row image place placed k x 0 w (copied_to x) output known (omega arith) (omega arith) (copied_long x (omega arith)) output_long in
+        let given = tap-given t.vector planes at entries widths width slots n scratch_size output_size row image place placed k x 0 w (copied_to x) output known (omega arith) (omega arith) (copied_long x (omega arith)) output_long in
         let none : get_or entries k 0 + x * w + 0 ≡ get_or entries k 0 + x * w = omega arith in
         let none' : place k + w * x + 0 ≡ place k + w * x = omega arith in
-        ap (λ l. loaded (memo (copied_to x) output) l w) (sym none) ∙ given ∙ ap Some (ap (λ m. part m w (image_bytes pictures (image k))) none' ∙ sym (take-drop-part (image_bytes pictures (image k)) (place k) (w * n) (w * x) w (omega arith)))
+        ap (λ l. loaded (memo (copied_to x) output) l w) (sym none) ∙ given ∙ ap Some (ap (λ m. part m w (image_bytes n planes (image k))) none' ∙ sym (take-drop-part (image_bytes n planes (image k)) (place k) (w * n) (w * x) w (omega arith)))
 
     pixel_store : (x : ℕ) → x < n
         → stored (memo (copied_to x) output) (at.scratch + at_buffer k + x * w) (bytes w (number (pixel_held x))) ≡ Some (memo (copied_to (suc x)) output)
@@ -140,7 +140,7 @@ module _ {I O : Type 0} (t : Table O) (code : List (Line I O)) (labels : List La
         let turned : x * w ≡ w * x = mul_comm x w in
         let address : at.scratch + at_buffer k + x * w ≡ at.scratch + (at_buffer k + w * x) = omega arith in
         let copied_size = copied_long x (omega arith) in
-        let put = stored-scratch pictures at (packed 8 entries) (copied_to x) output (placed.apart (copied_to x) output copied_size output_long) (at_buffer k + w * x) (pixel_held x) (omega arith) (omega arith) in
+        let put = stored-scratch n planes at (packed 8 entries) (copied_to x) output (placed.apart (copied_to x) output copied_size output_long) (at_buffer k + w * x) (pixel_held x) (omega arith) (omega arith) in
         let next : w * x + w ≡ w * suc x = omega arith in
         ap (λ l. stored (memo (copied_to x) output) (at.scratch + at_buffer k + x * w) l) (held_bytes x inside)
         ∙ ap (λ l. stored (memo (copied_to x) output) l (pixel_held x)) address
@@ -169,7 +169,7 @@ module _ {I O : Type 0} (t : Table O) (code : List (Line I O)) (labels : List La
           source_low = omega arith;
           target_low = omega arith;
           sets_p = λ x p v e flag inside.
-              let entry = entry-given t.vector pictures at entries widths width slots n scratch_size output_size row image place placed t.target k (copied_to x) output (omega arith) (omega arith) (copied_long x (omega arith)) output_long in
+              let entry = entry-given t.vector planes at entries widths width slots n scratch_size output_size row image place placed t.target k (copied_to x) output (omega arith) (omega arith) (copied_long x (omega arith)) output_long in
               let load = entry.1 in
               let is = entry.2 in
               comes-one t code labels (Controls (LoadPtr 5 4 k)) (now (a + 1) (buffer_regs x p v e) flag f (memo (copied_to x) output)) (now (a + 1 + 1) (buffer_regs x (get_or entries k 0) v e) flag f (memo (copied_to x) output)) (from_stands code from_lines to_lines (a + 1) w (copy_label k) loop_there).0 (rw (load, is) refl);
@@ -226,7 +226,7 @@ module _ {I O : Type 0} (t : Table O) (code : List (Line I O)) (labels : List La
         let at_store : Stands code (a + 1 + c + scratch_count offset) store_line = subst (λ l. Stands code (a + 1 + c + l) store_line) (length-scratch_lines I O 7 offset) (stands-back code (a + 1 + c) (scratch_lines 7 offset) store_line at_last) in
         let two = comes-scratch t code labels (a + 1 + c) 7 at.scratch offset (buffer_regs n loop.pointer loop.value loop.end) false f (memo (copied_to n) output) at_scratch (omega arith) refl (omega arith) in
         let put : stored (memo (copied_to n) output) (at.scratch + 8 * k) (bytes pb (at.scratch + offset)) ≡ Some (memo filled output) =
-        stored-scratch pictures at (packed 8 entries) (copied_to n) output (placed.apart (copied_to n) output copied_size output_long) (8 * k) (bytes pb (at.scratch + offset)) (omega arith) (omega arith) in
+        stored-scratch n planes at (packed 8 entries) (copied_to n) output (placed.apart (copied_to n) output copied_size output_long) (8 * k) (bytes pb (at.scratch + offset)) (omega arith) (omega arith) in
         let last_at = a + 1 + c + scratch_count offset in
         let three : Comes t code labels 1 (now last_at (buffer_regs n loop.pointer loop.value (at.scratch + offset)) false f (memo (copied_to n) output)) (now (last_at + 1) (buffer_regs n loop.pointer loop.value (at.scratch + offset)) false f (memo filled output)) =
         pointer_stored t code labels k last_at at.table n at.scratch n at.table loop.pointer loop.value (at.scratch + offset) false f (memo (copied_to n) output) (memo filled output) (omega arith) at_store.0 put in

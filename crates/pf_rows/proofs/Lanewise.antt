@@ -8,7 +8,7 @@ use Rattle.std.proofs.lemmas.List.{take_all, length-map, get_or-map, length-repl
 use Rattle.std.proofs.lemmas.List.FromFn.{get_or-map-range_with_len}
 use Rattle.std.proofs.lemmas.List.Elements.{All-replicate}
 use Rattle.std.proofs.Math.Nat.{mul_comm}
-use Rattle.pf_ints.specs.Meaning.Images.{Picture}
+use Rattle.pf_values.specs.Meaning.Kernels.{Plane}
 use Rattle.pf_values.specs.Meaning.NamedTerms.{no_tap}
 use Rattle.pf_machine.specs.declared.registers.RegFile.{RegFile}
 use Rattle.pf_machine.specs.declared.block.Item.{Item}
@@ -64,19 +64,19 @@ start_low vector n q some inside =
     (omega arith, omega arith))
     (cases_lt q (n - vector))
 
-module _ {O : Type 0} (t : Table O) (h : Head) (slots : ℕ) (block : List (Item O)) (some : 1 ≤ t.vector) (value : List ℕ → ℕ) (lanewise : IsLanewise t (tap_widths h) t.vectors slots (pixel_bytes h.out_ty) block value) (pictures : List Picture) (y : ℕ) where
+module _ {O : Type 0} (t : Table O) (h : Head) (slots : ℕ) (block : List (Item O)) (some : 1 ≤ t.vector) (value : List ℕ → ℕ) (lanewise : IsLanewise t (tap_widths h) t.vectors slots (pixel_bytes h.out_ty) block value) (planes : List Plane) (y : ℕ) where
   abbrev value_at : ℕ → ℕ → ℕ
-  value_at x y = value (map (tap_pixel h.taps pictures x y) h.taps)
+  value_at x y = value (map (tap_pixel h.taps planes x y) h.taps)
 
   -- the row of such a block holds the function's values
-  pub row_of_lanes : (row : List ℕ) → IsBlockRow t slots block h pictures y row
-      → row ≡ row_in_memory (λ x y. value (map (tap_pixel h.taps pictures x y) h.taps)) h pictures y
+  pub row_of_lanes : (row : List ℕ) → IsBlockRow t slots block h planes y row
+      → row ≡ row_in_memory (λ x y. value (map (tap_pixel h.taps planes x y) h.taps)) h planes y
   row_of_lanes row is =
-      let n = columns h pictures in
+      let n = columns h planes in
       let width = pixel_bytes h.out_ty in
       let values = row_values value_at n y in
       let count : length values ≡ n = length-row_values value_at n y in
-      same_parts width n row (row_in_memory value_at h pictures y) is.size (length-row_in_memory value_at h pictures y)
+      same_parts width n row (row_in_memory value_at h planes y) is.size (length-row_in_memory value_at h planes y)
       (λ q known.
       let x = start_of t.vector n q in
       let low = start_low t.vector n q some known in
@@ -90,30 +90,30 @@ module _ {O : Type 0} (t : Table O) (h : Head) (slots : ℕ) (block : List (Item
         count = length-replicate slots (replicate t.vector 0);
         each = All-replicate (λ v. AreBytes t.vector v) slots (replicate t.vector 0) (zeros_are t.vector);
       } in
-      let numbers = map (tap_pixel h.taps pictures q y) h.taps in
+      let numbers = map (tap_pixel h.taps planes q y) h.taps in
       let widths_count : length (tap_widths h) ≡ length h.taps = length-map h.taps (λ t. pixel_bytes (get_or h.images t.image no_decl).ty) in
-      let numbers_count : length numbers ≡ length h.taps = length-map h.taps (tap_pixel h.taps pictures q y) in
+      let numbers_count : length numbers ≡ length h.taps = length-map h.taps (tap_pixel h.taps planes q y) in
       let sum : x + (q - x) ≡ q = omega arith in
       let given : pixel_part width (q - x) (concat (BVal t width block pixel.blocks file kept)) ≡ bytes width (value numbers) =
       lanewise.each pixel.blocks numbers file kept (q - x) taps.taps (clear_file t) kept_are (omega arith) (numbers_count ∙ sym widths_count)
       (λ k inside.
       let inside' : k < length h.taps = omega arith in
       taps.each k (q - x) inside' (omega arith) (omega arith)
-      ∙ ap (λ m. bytes (get_or (tap_widths h) k 0) (tap_pixel h.taps pictures m y (get_or h.taps k no_tap))) sum
-      ∙ ap (λ m. bytes (get_or (tap_widths h) k 0) m) (sym (get_or-map (tap_pixel h.taps pictures q y) h.taps k no_tap 0 inside'))) in
+      ∙ ap (λ m. bytes (get_or (tap_widths h) k 0) (tap_pixel h.taps planes m y (get_or h.taps k no_tap))) sum
+      ∙ ap (λ m. bytes (get_or (tap_widths h) k 0) m) (sym (get_or-map (tap_pixel h.taps planes q y) h.taps k no_tap 0 inside'))) in
       let here : part (width * q) width row ≡ bytes width (value numbers) = pixel.given file kept (clear_file t) kept_are ∙ given in
       here ∙ ap (λ m. bytes width m) (sym (get_or-map-range_with_len (λ x. value_at x y) 0 n q q 0 known (omega arith))) ∙ sym (lane_at width q values (omega arith)))
 
 module _ (I O : Type 0) (t : Table O) (is_op : O → Type 0) (laws : IsTable t is_op) (h : Head) (slots : ℕ) (block : List (Item O)) (ones : All (IsOne is_op) block) (fit : IsRowBlock t h slots block) where
   pub runs_block : RunsBlock t slots block (row_text I t h block)
-  runs_block pictures keeps at scratch output placed y inside = block_row I O t is_op laws h slots block ones fit pictures keeps at scratch output placed y inside
+  runs_block planes keeps at scratch output placed y inside = block_row I O t is_op laws h slots block ones fit planes keeps at scratch output placed y inside
 
   pub leaves_lanes : LeavesLanes t slots block (row_text I t h block)
-  leaves_lanes value lanewise s pictures images taps ty keeps values =
+  leaves_lanes value lanewise s planes images taps ty keeps values =
       let p = row_text I t h block in
-      let value_at = λ (x y : ℕ). value (map (tap_pixel h.taps pictures x y) h.taps) in
-      leaves t p pictures s value_at taps ty keeps values
+      let value_at = λ (x y : ℕ). value (map (tap_pixel h.taps planes x y) h.taps) in
+      leaves t p planes s value_at taps ty keeps values
       (λ at scratch output placed y inside.
-      let done = block_row I O t is_op laws h slots block ones fit pictures (subst (λ ts. KeepsSet h.images ts pictures) taps (subst (λ ds. KeepsSet ds s.taps pictures) images keeps)) at scratch output placed y inside in
-      let same : done.0 ≡ row_in_memory value_at h pictures y = row_of_lanes t h slots block laws.some_bytes value lanewise pictures y done.0 done.1 in
-      subst (λ row. RowDone t p pictures at y row scratch output) same done.2)
+      let done = block_row I O t is_op laws h slots block ones fit planes (subst (λ ts. KeepsSet h.images ts planes) taps (subst (λ ds. KeepsSet ds s.taps planes) images keeps)) at scratch output placed y inside in
+      let same : done.0 ≡ row_in_memory value_at h planes y = row_of_lanes t h slots block laws.some_bytes value lanewise planes y done.0 done.1 in
+      subst (λ row. RowDone t p planes at y row scratch output) same done.2)

@@ -6,7 +6,7 @@ use Rattle.std.proofs.lemmas.Nat.{mul-le}
 use Rattle.std.proofs.lemmas.List.{length-set}
 use Rattle.std.proofs.lemmas.List.Elements.{All-weaker, All-get_or}
 use Rattle.std.proofs.lemmas.List.FromFn.{get_or-map-range_with_len}
-use Rattle.pf_ints.specs.Meaning.Images.{Picture}
+use Rattle.pf_values.specs.Meaning.Kernels.{Plane}
 use Rattle.pf_machine.specs.declared.memory.Region.{Region}
 use Rattle.pf_machine.specs.declared.code.Line.{Line}
 use Rattle.pf_machine.specs.declared.code.Label.{Label}
@@ -27,15 +27,15 @@ use Rattle.pf_rows.proofs.Wide.{mem, SlotsIn}
 use Rattle.pf_rows.proofs.Buffers.{buffer_room, table_ends}
 use Rattle.pf_rows.proofs.Prepared.{Filled}
 
-module _ {I O : Type 0} (t : Table O) (code : List (Line I O)) (labels : List Label) (pictures : List Picture) (at : Places) (entries widths : List ℕ) (width slots n scratch_size output_size row : ℕ) (image place : ℕ → ℕ) (placed : RowPlace t.vector pictures at entries widths width slots n scratch_size output_size row image place) (narrow : n < t.vector) (some_pixel : 1 ≤ n) where
+module _ {I O : Type 0} (t : Table O) (code : List (Line I O)) (labels : List Label) (planes : List Plane) (at : Places) (entries widths : List ℕ) (width slots n scratch_size output_size row : ℕ) (image place : ℕ → ℕ) (placed : RowPlace t.vector planes at entries widths width slots n scratch_size output_size row image place) (narrow : n < t.vector) (some_pixel : 1 ≤ n) where
   abbrev memo : List ℕ → List ℕ → List Region
-  memo = mem t pictures at entries widths width slots n scratch_size output_size row image place placed
+  memo = mem t planes at entries widths width slots n scratch_size output_size row image place placed
 
   abbrev at_buffer : ℕ → ℕ
   at_buffer k = buffer_at t.vector (length widths) k
 
   room_of : (k : ℕ) → k ≤ length widths → at_buffer k + 2 * t.vector ≤ scratch_size
-  room_of k inside = buffer_room t code labels pictures at entries widths width slots n scratch_size output_size row image place placed narrow some_pixel k inside
+  room_of k inside = buffer_room t code labels planes at entries widths width slots n scratch_size output_size row image place placed narrow some_pixel k inside
 
   abbrev pub buffer_block : List ℕ → ℕ → List ℕ
   buffer_block before k = part (at_buffer k) (get_or widths k 0 * t.vector) before
@@ -61,12 +61,12 @@ module _ {I O : Type 0} (t : Table O) (code : List (Line I O)) (labels : List La
     pub scratch : List ℕ
     pub is : rs ≡ memo scratch out
     pub scratch_are : AreBytes scratch_size scratch
-    pub in_slots : SlotsIn t pictures at entries widths width slots n scratch_size output_size row image place placed kept scratch
+    pub in_slots : SlotsIn t planes at entries widths width slots n scratch_size output_size row image place placed kept scratch
     pub count : length output ≡ width
     pub there : Cells (at_buffer (length widths)) t.vector output scratch
     pub same : Agree 0 (at_buffer (length widths)) before scratch
 
-  module _ (before out : List ℕ) (before_are : AreBytes scratch_size before) (out_long : length out ≡ output_size) (filled : Filled t code labels pictures at entries widths width slots n scratch_size output_size row image place placed narrow some_pixel (length widths + 1) (length widths) before) where
+  module _ (before out : List ℕ) (before_are : AreBytes scratch_size before) (out_long : length out ≡ output_size) (filled : Filled t code labels planes at entries widths width slots n scratch_size output_size row image place placed narrow some_pixel (length widths + 1) (length widths) before) where
     abbrev address : ℕ → ℕ
     address k = at.scratch + at_buffer k
 
@@ -86,7 +86,7 @@ module _ {I O : Type 0} (t : Table O) (code : List (Line I O)) (labels : List La
         let low = placed.scratch_low in
         let are = w.scratch_are in
         let here : register_wrapped t.target (at.scratch + 8 * k) ≡ at.scratch + 8 * k = wrapped_small t.target (at.scratch + 8 * k) (omega arith) in
-        let load : loaded (memo w.scratch out) (at.scratch + 8 * k) pb ≡ Some (part (8 * k) pb w.scratch) = loaded-scratch pictures at (packed 8 entries) w.scratch out (placed.apart w.scratch out are.size out_long) (8 * k) pb some_bytes (omega arith) in
+        let load : loaded (memo w.scratch out) (at.scratch + 8 * k) pb ≡ Some (part (8 * k) pb w.scratch) = loaded-scratch n planes at (packed 8 entries) w.scratch out (placed.apart w.scratch out are.size out_long) (8 * k) pb some_bytes (omega arith) in
         let same = w.same in
         let held : part (8 * k) pb w.scratch ≡ bytes pb (address k) = same.each (8 * k) pb (omega arith) (omega arith) ∙ filled.entry k (omega arith) in (
           bytes pb (address k),
@@ -109,7 +109,7 @@ module _ {I O : Type 0} (t : Table O) (code : List (Line I O)) (labels : List La
         let are = w.scratch_are in
         let same = w.same in
         let spot : address k + 0 * by + j * t.vector ≡ at.scratch + (at_buffer k + t.vector * j) = omega arith in
-        let load = loaded-scratch pictures at (packed 8 entries) w.scratch out (placed.apart w.scratch out are.size out_long) (at_buffer k + t.vector * j) t.vector (omega arith) (omega arith) in
+        let load = loaded-scratch n planes at (packed 8 entries) w.scratch out (placed.apart w.scratch out are.size out_long) (at_buffer k + t.vector * j) t.vector (omega arith) (omega arith) in
         let held : part (at_buffer k + t.vector * j) t.vector w.scratch ≡ part (at_buffer k + t.vector * j) t.vector before = same.each (at_buffer k + t.vector * j) t.vector (omega arith) (omega arith) in
         let sub : part (t.vector * j) t.vector (buffer_block before k) ≡ part (at_buffer k + t.vector * j) t.vector before = take-drop-part before (at_buffer k) (by * t.vector) (t.vector * j) t.vector (omega arith) in
         ap (λ r. loaded r (address k + 0 * by + j * t.vector) t.vector) w.is ∙ ap (λ a. loaded (memo w.scratch out) a t.vector) spot ∙ load
@@ -132,14 +132,14 @@ module _ {I O : Type 0} (t : Table O) (code : List (Line I O)) (labels : List La
         let next_buffer = order (length widths) (length widths + 1) (omega arith) in
         let are = w.scratch_are in
         let spot : address (length widths) + 0 * width + j * t.vector ≡ at.scratch + (base + t.vector * j) = omega arith in
-        let put = stored-scratch pictures at (packed 8 entries) w.scratch out (placed.apart w.scratch out are.size out_long) (base + t.vector * j) new (omega arith) (omega arith) in
+        let put = stored-scratch n planes at (packed 8 entries) w.scratch out (placed.apart w.scratch out are.size out_long) (base + t.vector * j) new (omega arith) (omega arith) in
         let after = overwritten w.scratch (base + t.vector * j) new in
         let fit : base + t.vector * j + length new ≤ length w.scratch = omega arith in
         let next : Narrow before out kept (set output j new) (memo after out) = record {
           scratch = after;
           is = refl;
           scratch_are = overwritten_are scratch_size (base + t.vector * j) w.scratch new are fit new_are.small;
-          in_slots = slots-agree t.vector pictures at entries widths width slots n scratch_size output_size row image place placed kept w.scratch after w.in_slots (agree-behind (at_buffer (length widths + 1)) scratch_size (base + t.vector * j) w.scratch new (omega arith) fit);
+          in_slots = slots-agree t.vector planes at entries widths width slots n scratch_size output_size row image place placed kept w.scratch after w.in_slots (agree-behind (at_buffer (length widths + 1)) scratch_size (base + t.vector * j) w.scratch new (omega arith) fit);
           count = length-set output j new ∙ count;
           there = cells-set base t.vector j output w.scratch new w.there (omega arith) size (omega arith);
           same = agree-trans 0 base before w.scratch after w.same (agree-before 0 base (base + t.vector * j) w.scratch new (omega arith) fit);
@@ -149,7 +149,7 @@ module _ {I O : Type 0} (t : Table O) (code : List (Line I O)) (labels : List La
     narrow_slot : (kept output : List (List ℕ)) (rs : List Region) → Narrow before out kept output rs → (k : ℕ) → k < slots
         → (loaded rs (at.scratch + slot_at t.vector (length widths) k) t.vector ≡ Some (get_or kept k [])) × AreBytes t.vector (get_or kept k [])
     narrow_slot kept output rs w k inside =
-        let given = slot-given t.vector pictures at entries widths width slots n scratch_size output_size row image place placed k kept w.scratch out inside w.in_slots w.scratch_are out_long in
+        let given = slot-given t.vector planes at entries widths width slots n scratch_size output_size row image place placed k kept w.scratch out inside w.in_slots w.scratch_are out_long in
         (ap (λ r. loaded r (at.scratch + slot_at t.vector (length widths) k) t.vector) w.is ∙ given.0, given.1)
 
     narrow_keep : (kept output : List (List ℕ)) (rs : List Region) → Narrow before out kept output rs → (k : ℕ) (new : List ℕ) → k < slots
@@ -157,7 +157,7 @@ module _ {I O : Type 0} (t : Table O) (code : List (Line I O)) (labels : List La
         → (next : List Region) × (stored rs (at.scratch + slot_at t.vector (length widths) k) new ≡ Some next) × Narrow before out (set kept k new) output next
     narrow_keep kept output rs w k new inside new_are =
         let size = new_are.size in
-        let put = slot-stored t.vector pictures at entries widths width slots n scratch_size output_size row image place placed k new kept w.scratch out inside new_are w.in_slots w.scratch_are out_long in
+        let put = slot-stored t.vector planes at entries widths width slots n scratch_size output_size row image place placed k new kept w.scratch out inside new_are w.in_slots w.scratch_are out_long in
         let spot = slot_at t.vector (length widths) k in
         let after = overwritten w.scratch spot new in
         let base = at_buffer (length widths) in

@@ -6,7 +6,7 @@ use Rattle.std.proofs.Math.Nat.{mul_comm, mul-le-mul_left}
 use Rattle.std.proofs.lemmas.Nat.{mul-le}
 use Rattle.std.proofs.lemmas.List.{length-replicate, take_all, take-append-drop, length-take-le}
 use Rattle.std.proofs.lemmas.Bool.{le-ltb, cond-false}
-use Rattle.pf_ints.specs.Meaning.Images.{Picture}
+use Rattle.pf_values.specs.Meaning.Kernels.{Plane}
 use Rattle.pf_machine.specs.declared.registers.RegFile.{RegFile}
 use Rattle.pf_machine.specs.declared.memory.Region.{Region}
 use Rattle.pf_machine.specs.declared.control.Control.TheVariants.{LoadPtr, Imm, Return}
@@ -40,14 +40,14 @@ use Rattle.pf_rows.proofs.Prepared.{Filled, ready}
 use Rattle.pf_rows.proofs.Narrow.{narrow_taps, narrow_tap, narrow_taps_are, Narrow, narrow_desk}
 
 -- taps of a block from pixel x of a row of n pixels on: as many as there are are those of the row
-pub record Finds (vector n : ℕ) (pictures : List Picture) (widths : List ℕ) (image place : ℕ → ℕ) (x : ℕ) (blocks : List (List ℕ)) : Type 0 where
+pub record Finds (vector n : ℕ) (planes : List Plane) (widths : List ℕ) (image place : ℕ → ℕ) (x : ℕ) (blocks : List (List ℕ)) : Type 0 where
   pub taps : AreTaps vector widths blocks
   pub each : (k j : ℕ) → k < length widths → j < vector → x + j < n
-      → part (get_or widths k 0 * j) (get_or widths k 0) (get_or blocks k []) ≡ part (place k + get_or widths k 0 * (x + j)) (get_or widths k 0) (image_bytes pictures (image k))
+      → part (get_or widths k 0 * j) (get_or widths k 0) (get_or blocks k []) ≡ part (place k + get_or widths k 0 * (x + j)) (get_or widths k 0) (image_bytes n planes (image k))
 
-module _ {I O : Type 0} (t : Table O) (is_op : O → Type 0) (laws : IsTable t is_op) (code : List (Line I O)) (labels : List Label) (pictures : List Picture) (at : Places) (entries widths : List ℕ) (width slots n scratch_size output_size row : ℕ) (image place : ℕ → ℕ) (placed : RowPlace t.vector pictures at entries widths width slots n scratch_size output_size row image place) (block : List (Item O)) (laid : Laid t code labels widths width block) (ones : All (IsOne is_op) block) (within : All (IsWithin t t.vectors slots) block) (steps : All (IsBlockItem widths width) block) (stores : StoresEach width block) (narrow : n < t.vector) (some_pixel : 1 ≤ n) where
+module _ {I O : Type 0} (t : Table O) (is_op : O → Type 0) (laws : IsTable t is_op) (code : List (Line I O)) (labels : List Label) (planes : List Plane) (at : Places) (entries widths : List ℕ) (width slots n scratch_size output_size row : ℕ) (image place : ℕ → ℕ) (placed : RowPlace t.vector planes at entries widths width slots n scratch_size output_size row image place) (block : List (Item O)) (laid : Laid t code labels widths width block) (ones : All (IsOne is_op) block) (within : All (IsWithin t t.vectors slots) block) (steps : All (IsBlockItem widths width) block) (stores : StoresEach width block) (narrow : n < t.vector) (some_pixel : 1 ≤ n) where
   abbrev memo : List ℕ → List ℕ → List Region
-  memo = mem t pictures at entries widths width slots n scratch_size output_size row image place placed
+  memo = mem t planes at entries widths width slots n scratch_size output_size row image place placed
 
   abbrev many : ℕ
   many = length (block_lines {I = I} t widths width block)
@@ -56,7 +56,7 @@ module _ {I O : Type 0} (t : Table O) (is_op : O → Type 0) (laws : IsTable t i
   buffer = buffer_at t.vector (length widths) (length widths)
 
   room_of : buffer + 2 * t.vector ≤ scratch_size
-  room_of = buffer_room t code labels pictures at entries widths width slots n scratch_size output_size row image place placed narrow some_pixel (length widths) (omega arith)
+  room_of = buffer_room t code labels planes at entries widths width slots n scratch_size output_size row image place placed narrow some_pixel (length widths) (omega arith)
 
   room_of_row : width * n ≤ 2 * t.vector
   room_of_row = let wide = placed.wide_out in mul-le width n 2 t.vector wide.1 (omega arith)
@@ -111,7 +111,7 @@ module _ {I O : Type 0} (t : Table O) (is_op : O → Type 0) (laws : IsTable t i
         let turned : x * width ≡ width * x = mul_comm x width in
         let spot : at.scratch + buffer + x * width ≡ at.scratch + (buffer + width * x) = omega arith in
         ap (λ l. loaded (memo scratch (back_to x)) l width) spot
-        ∙ loaded-scratch pictures at (packed 8 entries) scratch (back_to x) (placed.apart scratch (back_to x) scratch_long (back_long x (omega arith))) (buffer + width * x) width (omega arith) (omega arith)
+        ∙ loaded-scratch n planes at (packed 8 entries) scratch (back_to x) (placed.apart scratch (back_to x) scratch_long (back_long x (omega arith))) (buffer + width * x) width (omega arith) (omega arith)
         ∙ ap Some (sym (take-drop-part scratch buffer (width * n) (width * x) width (omega arith)))
 
     back_store : (x : ℕ) → x < n
@@ -125,7 +125,7 @@ module _ {I O : Type 0} (t : Table O) (is_op : O → Type 0) (laws : IsTable t i
         let size : length (bytes width (number (back_held x))) ≡ width = length-bytes width (number (back_held x)) in
         let next : width * x + width ≡ width * suc x = omega arith in
         let spot : row + x * width ≡ row + width * x = omega arith in
-        row-stored t.vector pictures at entries widths width slots n scratch_size output_size row image place placed (x * width) (bytes width (number (back_held x))) scratch (back_to x) (omega arith) (omega arith) scratch_long (back_long x (omega arith))
+        row-stored t.vector planes at entries widths width slots n scratch_size output_size row image place placed (x * width) (bytes width (number (back_held x))) scratch (back_to x) (omega arith) (omega arith) scratch_long (back_long x (omega arith))
         ∙ ap (λ m. Some (memo scratch (overwritten (back_to x) m (bytes width (number (back_held x)))))) spot
         ∙ ap (λ l. Some (memo scratch (overwritten (back_to x) (row + width * x) l))) (sym (row_pixel x inside))
         ∙ ap (λ l. Some (memo scratch l)) (overwritten-overwritten out row_bytes row (width * x) width (omega arith) (omega arith) ∙ ap (λ m. overwritten out row (take m row_bytes)) next)
@@ -154,7 +154,7 @@ module _ {I O : Type 0} (t : Table O) (is_op : O → Type 0) (laws : IsTable t i
                 subst (λ c. Comes t code labels c (now a (regs x p v e) flag f (memo scratch (back_to x))) (now (a + c) (regs x (at.scratch + buffer) v e) flag f (memo scratch (back_to x)))) (sym (length-scratch_lines I O 5 buffer))
                 (comes-scratch t code labels a 5 at.scratch buffer (regs x p v e) flag f (memo scratch (back_to x)) (from_stands code from_lines to_lines a width (codes "loop") there) (omega arith) refl (omega arith));
             sets_e = λ x p v e flag inside.
-                let entry = entry-given t.vector pictures at entries widths width slots n scratch_size output_size row image place placed t.target (length widths) scratch (back_to x) (omega arith) (omega arith) scratch_long (back_long x (omega arith)) in
+                let entry = entry-given t.vector planes at entries widths width slots n scratch_size output_size row image place placed t.target (length widths) scratch (back_to x) (omega arith) (omega arith) scratch_long (back_long x (omega arith)) in
                 let load = entry.1 in
                 let is = entry.2 in
                 comes-one t code labels (Controls (LoadPtr 7 4 (length widths))) (now (a + length from_lines + width + 1) (regs x p v e) flag f (memo scratch (back_to x))) (now (a + length from_lines + width + 1 + 1) (regs x p v (get_or entries (length widths) 0)) flag f (memo scratch (back_to x))) (to_stands code from_lines to_lines a width (codes "loop") there).0 (rw (load, is) refl);
@@ -231,13 +231,13 @@ module _ {I O : Type 0} (t : Table O) (is_op : O → Type 0) (laws : IsTable t i
   -- The block
 
   abbrev narrow_taps_of : List ℕ → List (List ℕ)
-  narrow_taps_of before = narrow_taps t code labels pictures at entries widths width slots n scratch_size output_size row image place placed narrow some_pixel before
+  narrow_taps_of before = narrow_taps t code labels planes at entries widths width slots n scratch_size output_size row image place placed narrow some_pixel before
 
   abbrev slots_of : List ℕ → List (List ℕ)
   slots_of before = cells_of (buffer_at t.vector (length widths) (length widths + 1)) t.vector slots before
 
   abbrev IsFilled : List ℕ → Type 0
-  IsFilled before = Filled t code labels pictures at entries widths width slots n scratch_size output_size row image place placed narrow some_pixel (length widths + 1) (length widths) before
+  IsFilled before = Filled t code labels planes at entries widths width slots n scratch_size output_size row image place placed narrow some_pixel (length widths + 1) (length widths) before
 
   record BlockRan (f : RegFile) (before out : List ℕ) (p v e : ℕ) (flag : Bool) : Type 0 where
     pointer : ℕ
@@ -255,17 +255,17 @@ module _ {I O : Type 0} (t : Table O) (is_op : O → Type 0) (laws : IsTable t i
       let kept = slots_of before in
       let begun : Bench = record { file = f; slots = kept; output = replicate width none } in
       let done : Bench = items_run t (narrow_taps_of before) block begun in
-      let holds : Narrow t code labels pictures at entries widths width slots n scratch_size output_size row image place placed narrow some_pixel before out kept (replicate width none) (memo before out) = record {
+      let holds : Narrow t code labels planes at entries widths width slots n scratch_size output_size row image place placed narrow some_pixel before out kept (replicate width none) (memo before out) = record {
         scratch = before;
         is = refl;
         scratch_are = before_are;
-        in_slots = slots_are t.vector pictures at entries widths width slots n scratch_size output_size row image place placed before before_are;
+        in_slots = slots_are t.vector planes at entries widths width slots n scratch_size output_size row image place placed before before_are;
         count = length-replicate width none;
         there = cells-none buffer t.vector width before some;
         same = agree-same 0 buffer before;
       } in
-      let desk = narrow_desk t code labels pictures at entries widths width slots n scratch_size output_size row image place placed narrow some_pixel before out before_are out_long filled in
-      let takes = block_takes t is_op laws code labels at.scratch at.scratch 0 widths width slots (λ k. at.scratch + buffer_at t.vector (length widths) k) (narrow_taps_of before) (Narrow t code labels pictures at entries widths width slots n scratch_size output_size row image place placed narrow some_pixel before out) desk n at.table v e flag block 7 p (memo before out) begun laid.steps ones within steps is_file (length-replicate width none) holds in
+      let desk = narrow_desk t code labels planes at entries widths width slots n scratch_size output_size row image place placed narrow some_pixel before out before_are out_long filled in
+      let takes = block_takes t is_op laws code labels at.scratch at.scratch 0 widths width slots (λ k. at.scratch + buffer_at t.vector (length widths) k) (narrow_taps_of before) (Narrow t code labels planes at entries widths width slots n scratch_size output_size row image place placed narrow some_pixel before out) desk n at.table v e flag block 7 p (memo before out) begun laid.steps ones within steps is_file (length-replicate width none) holds in
       let after = takes.holds in
       let all : length done.output ≡ width = after.count in
       let full : (k : ℕ) → k < length done.output → length (get_or done.output k []) ≡ t.vector = λ k known. takes.fills k (omega arith) (stores k (omega arith)) in
@@ -280,9 +280,9 @@ module _ {I O : Type 0} (t : Table O) (is_op : O → Type 0) (laws : IsTable t i
       }
 
   -- the buffers hold the row's pixels
-  finds_of : (before : List ℕ) → AreBytes scratch_size before → IsFilled before → Finds t.vector n pictures widths image place 0 (narrow_taps_of before)
+  finds_of : (before : List ℕ) → AreBytes scratch_size before → IsFilled before → Finds t.vector n planes widths image place 0 (narrow_taps_of before)
   finds_of before before_are filled = record {
-    taps = narrow_taps_are t code labels pictures at entries widths width slots n scratch_size output_size row image place placed narrow some_pixel before before_are;
+    taps = narrow_taps_are t code labels planes at entries widths width slots n scratch_size output_size row image place placed narrow some_pixel before before_are;
     each = λ k j known inside left.
         let w = get_or widths k 0 in
         let at_k = buffer_at t.vector (length widths) k in
@@ -291,16 +291,16 @@ module _ {I O : Type 0} (t : Table O) (is_op : O → Type 0) (laws : IsTable t i
         let room_n : w * j + w * 1 ≤ w * n = span w j 1 n (omega arith) in
         let one : part (w * j) w (part at_k (w * t.vector) before) ≡ part (at_k + w * j) w before = take-drop-part before at_k (w * t.vector) (w * j) w (omega arith) in
         let two : part (w * j) w (part at_k (w * n) before) ≡ part (at_k + w * j) w before = take-drop-part before at_k (w * n) (w * j) w (omega arith) in
-        let three : part (w * j) w (part (place k) (w * n) (image_bytes pictures (image k))) ≡ part (place k + w * j) w (image_bytes pictures (image k)) = take-drop-part (image_bytes pictures (image k)) (place k) (w * n) (w * j) w (omega arith) in
-        ap (λ l. part (w * j) w l) (narrow_tap t code labels pictures at entries widths width slots n scratch_size output_size row image place placed narrow some_pixel before k known)
-        ∙ one ∙ sym two ∙ ap (λ l. part (w * j) w l) (filled.rows_there k known) ∙ three ∙ ap (λ i. part (place k + w * i) w (image_bytes pictures (image k))) (sym zeroth);
+        let three : part (w * j) w (part (place k) (w * n) (image_bytes n planes (image k))) ≡ part (place k + w * j) w (image_bytes n planes (image k)) = take-drop-part (image_bytes n planes (image k)) (place k) (w * n) (w * j) w (omega arith) in
+        ap (λ l. part (w * j) w l) (narrow_tap t code labels planes at entries widths width slots n scratch_size output_size row image place placed narrow some_pixel before k known)
+        ∙ one ∙ sym two ∙ ap (λ l. part (w * j) w l) (filled.rows_there k known) ∙ three ∙ ap (λ i. part (place k + w * i) w (image_bytes n planes (image k))) (sym zeroth);
   }
 
   module _ (Given : ℕ → ℕ → List ℕ → Type 0)
-      (gives : (x : ℕ) → x + t.vector ≤ n → (f : RegFile) (kept : List (List ℕ)) → IsFile t t.vectors f → AreSlots t.vector slots kept → (q : ℕ) → x ≤ q → q < x + t.vector → Given x q (part (width * (q - x)) width (given_by t is_op laws code labels pictures at entries widths width slots n scratch_size output_size row image place placed block laid ones within steps stores x f kept)))
-      (narrow_gives : (blocks : List (List ℕ)) → Finds t.vector n pictures widths image place 0 blocks → (f : RegFile) (kept : List (List ℕ)) → IsFile t t.vectors f → AreSlots t.vector slots kept → (q : ℕ) → q < n → AreBytes width (part (width * q) width (given_from blocks f kept)) → Given 0 q (bytes width (number (part (width * q) width (given_from blocks f kept))))) where
+      (gives : (x : ℕ) → x + t.vector ≤ n → (f : RegFile) (kept : List (List ℕ)) → IsFile t t.vectors f → AreSlots t.vector slots kept → (q : ℕ) → x ≤ q → q < x + t.vector → Given x q (part (width * (q - x)) width (given_by t is_op laws code labels planes at entries widths width slots n scratch_size output_size row image place placed block laid ones within steps stores x f kept)))
+      (narrow_gives : (blocks : List (List ℕ)) → Finds t.vector n planes widths image place 0 blocks → (f : RegFile) (kept : List (List ℕ)) → IsFile t t.vectors f → AreSlots t.vector slots kept → (q : ℕ) → q < n → AreBytes width (part (width * q) width (given_from blocks f kept)) → Given 0 q (bytes width (number (part (width * q) width (given_from blocks f kept))))) where
     abbrev Left : ℕ → State → List ℕ → Type 0
-    Left = RowLeft t is_op laws code labels pictures at entries widths width slots n scratch_size output_size row image place placed block laid ones within steps stores Given gives
+    Left = RowLeft t is_op laws code labels planes at entries widths width slots n scratch_size output_size row image place placed block laid ones within steps stores Given gives
 
     pub narrow_row : (f : RegFile) (scratch held : List ℕ) → IsFile t t.vectors f → AreBytes scratch_size scratch → length held ≡ output_size
         → Left (many + 4096 * (length widths + 1)) (now 0 (at.table ∷ 0 ∷ 0 ∷ 0 ∷ 0 ∷ 0 ∷ 0 ∷ 0 ∷ []) false f (memo scratch held)) held
@@ -316,11 +316,11 @@ module _ {I O : Type 0} (t : Table O) (is_op : O → Type 0) (laws : IsTable t i
         let is_count = placed.count in
         let is_scratch = placed.scratch in
         let taps = length widths in
-        let count = entry-given t.vector pictures at entries widths width slots n scratch_size output_size row image place placed t.target (taps + 2) scratch held (omega arith) (omega arith) scratch_are.size held_long in
-        let base = entry-given t.vector pictures at entries widths width slots n scratch_size output_size row image place placed t.target (taps + 1) scratch held (omega arith) (omega arith) scratch_are.size held_long in
+        let count = entry-given t.vector planes at entries widths width slots n scratch_size output_size row image place placed t.target (taps + 2) scratch held (omega arith) (omega arith) scratch_are.size held_long in
+        let base = entry-given t.vector planes at entries widths width slots n scratch_size output_size row image place placed t.target (taps + 1) scratch held (omega arith) (omega arith) scratch_are.size held_long in
         let start : State = now 0 (at.table ∷ 0 ∷ 0 ∷ 0 ∷ 0 ∷ 0 ∷ 0 ∷ 0 ∷ []) false f (memo scratch held) in
         let begun = begins_narrow t code labels widths width block laid at.table n at.scratch f (memo scratch held) count.0 base.0 (omega arith) (omega arith) narrow count.1 (count.2 ∙ is_count) base.1 (base.2 ∙ is_scratch) in
-        let prepared = ready t code labels pictures at entries widths width slots n scratch_size output_size row image place placed narrow some_pixel (narrow_at I t widths width block) 0 0 0 t.vector true f scratch held scratch_are held_long laid.narrow laid.to_copies laid.to_block in
+        let prepared = ready t code labels planes at entries widths width slots n scratch_size output_size row image place placed narrow some_pixel (narrow_at I t widths width block) 0 0 0 t.vector true f scratch held scratch_are held_long laid.narrow laid.to_copies laid.to_block in
         let ran = block_ran f prepared.left held is_file prepared.left_are held_long prepared.filled prepared.pointer prepared.value prepared.end prepared.flag_left in
         let kept_are = ran.kept_are in
         let c = turn_count t code labels (from_lines 0 f ran.kept held kept_are.size held_long) (to_lines 0 f ran.kept held kept_are.size held_long) width in
@@ -352,7 +352,7 @@ module _ {I O : Type 0} (t : Table O) (is_op : O → Type 0) (laws : IsTable t i
               let source_are = part_are buffer (width * n) ran.kept (let fits = room_of_row in let end = room_of in omega arith) kept_are.small in
               let pixel_are : AreBytes width (part (width * q) width (given_from (narrow_taps_of prepared.left) f (slots_of prepared.left))) = subst (λ l. AreBytes width l) same (part_are (width * q) width (part buffer (width * n) ran.kept) (omega arith) source_are.small) in
               let here : bytes width (number (part (width * q) width (given_from (narrow_taps_of prepared.left) f (slots_of prepared.left)))) ≡ part (row + width * q) width ended.left = ap (λ l. bytes width (number l)) (sym same) ∙ sym (ended.pixels q inside) in
-              let given = narrow_gives (narrow_taps_of prepared.left) (finds_of prepared.left prepared.left_are prepared.filled) f (slots_of prepared.left) is_file (slots_found t.vector pictures at entries widths width slots n scratch_size output_size row image place placed prepared.left prepared.left_are) q inside pixel_are in
+              let given = narrow_gives (narrow_taps_of prepared.left) (finds_of prepared.left prepared.left_are prepared.filled) f (slots_of prepared.left) is_file (slots_found t.vector planes at entries widths width slots n scratch_size output_size row image place placed prepared.left prepared.left_are) q inside pixel_are in
               subst (λ s. Given s q (part (row + width * q) width ended.left)) (sym first) (subst (λ l. Given 0 q l) here given);
         } in
-        longer t is_op laws code labels pictures at entries widths width slots n scratch_size output_size row image place placed block laid ones within steps stores Given gives (6 + (prepared.count + (many + 3)) + ended.cost) (many + 4096 * (taps + 1)) start held budget left
+        longer t is_op laws code labels planes at entries widths width slots n scratch_size output_size row image place placed block laid ones within steps stores Given gives (6 + (prepared.count + (many + 3)) + ended.cost) (many + 4096 * (taps + 1)) start held budget left

@@ -4,7 +4,7 @@ use Rattle.std.specs.Prelude.{codes}
 use Rattle.std.proofs.lemmas.List.{take_all, length-take-le}
 use Rattle.std.proofs.lemmas.List.Elements.{All-take, All-get_or}
 use Rattle.std.proofs.lemmas.Bool.{cases_lt}
-use Rattle.pf_ints.specs.Meaning.Images.{Picture}
+use Rattle.pf_values.specs.Meaning.Kernels.{Plane}
 use Rattle.pf_machine.specs.declared.registers.RegFile.{RegFile}
 use Rattle.pf_machine.specs.declared.memory.Region.{Region}
 use Rattle.pf_machine.specs.declared.control.Control.TheVariants.{StorePtr, Imm, AddImm, Jump}
@@ -31,12 +31,12 @@ use Rattle.pf_rows.proofs.Ways.{Copies}
 use Rattle.pf_rows.proofs.PixelCopies.{pointer_stored}
 use Rattle.pf_rows.proofs.Buffers.{tap_row, tap_row_below, buffer_room, row_room, buffer_low, table_ends, tap_copied}
 
-module _ {I O : Type 0} (t : Table O) (code : List (Line I O)) (labels : List Label) (pictures : List Picture) (at : Places) (entries widths : List ℕ) (width slots n scratch_size output_size row : ℕ) (image place : ℕ → ℕ) (placed : RowPlace t.vector pictures at entries widths width slots n scratch_size output_size row image place) (narrow : n < t.vector) (some_pixel : 1 ≤ n) where
+module _ {I O : Type 0} (t : Table O) (code : List (Line I O)) (labels : List Label) (planes : List Plane) (at : Places) (entries widths : List ℕ) (width slots n scratch_size output_size row : ℕ) (image place : ℕ → ℕ) (placed : RowPlace t.vector planes at entries widths width slots n scratch_size output_size row image place) (narrow : n < t.vector) (some_pixel : 1 ≤ n) where
   abbrev memo : List ℕ → List ℕ → List Region
-  memo = mem t pictures at entries widths width slots n scratch_size output_size row image place placed
+  memo = mem t planes at entries widths width slots n scratch_size output_size row image place placed
 
   abbrev pub row_of_tap : ℕ → List ℕ
-  row_of_tap = tap_row t code labels pictures at entries widths width slots n scratch_size output_size row image place placed narrow some_pixel
+  row_of_tap = tap_row t code labels planes at entries widths width slots n scratch_size output_size row image place placed narrow some_pixel
 
   abbrev pub buffer : ℕ → ℕ
   buffer k = buffer_at t.vector (length widths) k
@@ -48,17 +48,17 @@ module _ {I O : Type 0} (t : Table O) (code : List (Line I O)) (labels : List La
   regs x p v e = at.table ∷ n ∷ at.scratch ∷ x ∷ at.table ∷ p ∷ v ∷ e ∷ []
 
   room_of : (k : ℕ) → k ≤ length widths → buffer k + 2 * t.vector ≤ scratch_size
-  room_of k inside = buffer_room t code labels pictures at entries widths width slots n scratch_size output_size row image place placed narrow some_pixel k inside
+  room_of k inside = buffer_room t code labels planes at entries widths width slots n scratch_size output_size row image place placed narrow some_pixel k inside
 
   room_of_row : (k : ℕ) → k < length widths → get_or widths k 0 * n ≤ 2 * t.vector
-  room_of_row k known = let wide = All-get_or (λ w. (1 ≤ w) × (w ≤ 2)) widths k 0 known placed.wide in row_room t code labels pictures at entries widths width slots n scratch_size output_size row image place placed narrow some_pixel (get_or widths k 0) wide.1
+  room_of_row k known = let wide = All-get_or (λ w. (1 ≤ w) × (w ≤ 2)) widths k 0 known placed.wide in row_room t code labels planes at entries widths width slots n scratch_size output_size row image place placed narrow some_pixel (get_or widths k 0) wide.1
 
   -- one buffer lies before another
   buffer_order : (j k : ℕ) → j < k → buffer j + 2 * t.vector ≤ buffer k
   buffer_order j k less = let room : 2 * t.vector * j + 2 * t.vector * 1 ≤ 2 * t.vector * k = span (2 * t.vector) j 1 k (omega arith) in omega arith
 
   row_size : (k : ℕ) → k < length widths → length (row_of_tap k) ≡ get_or widths k 0 * n
-  row_size k known = let inside = placed.inside k known in length-part (place k) (get_or widths k 0 * n) (image_bytes pictures (image k)) (omega arith)
+  row_size k known = let inside = placed.inside k known in length-part (place k) (get_or widths k 0 * n) (image_bytes n planes (image k)) (omega arith)
 
   -- so many taps are in their buffers, and so many addresses in the table
   pub record Filled (addresses rows : ℕ) (scratch : List ℕ) : Type 0 where
@@ -78,7 +78,7 @@ module _ {I O : Type 0} (t : Table O) (code : List (Line I O)) (labels : List La
       let whole : length new ≡ get_or widths k 0 * n = length-take-le (get_or widths k 0 * n) (row_of_tap k) (omega arith) in
       let room = room_of k (omega arith) in
       let fits = room_of_row k known in
-      let small = tap_row_below t code labels pictures at entries widths width slots n scratch_size output_size row image place placed narrow some_pixel k in
+      let small = tap_row_below t code labels planes at entries widths width slots n scratch_size output_size row image place placed narrow some_pixel k in
       overwritten_are scratch_size (buffer k) scratch new are (omega arith) (All-take (λ b. b < 256) (get_or widths k 0 * n) (row_of_tap k) small)
 
   bytes-filled : (k : ℕ) (scratch : List ℕ) → k < length widths → AreBytes scratch_size scratch → AreBytes scratch_size (filled_of k scratch)
@@ -171,7 +171,7 @@ module _ {I O : Type 0} (t : Table O) (code : List (Line I O)) (labels : List La
       let front : List (Line I O) = tap_copy t.vector (length widths) k w in
       let back : List (Line I O) = tap_copies t.vector (length widths) (k + 1) rest in
       let there' : Stands code a (tap_copy t.vector (length widths) k (get_or widths k 0)) = subst (λ l. Stands code a (tap_copy t.vector (length widths) k l)) is (stands-front code a front back there) in
-      let one = tap_copied t code labels pictures at entries widths width slots n scratch_size output_size row image place placed narrow some_pixel k known a f scratch output are.size output_long there' to.0 x p v e flag in
+      let one = tap_copied t code labels planes at entries widths width slots n scratch_size output_size row image place placed narrow some_pixel k known a f scratch output are.size output_long there' to.0 x p v e flag in
       let way : Comes t code labels one.count (now a (regs x p v e) flag f (memo scratch output)) (now (a + length front) (regs n one.pointer one.value (at.scratch + buffer k)) false f (memo (filled_of k scratch) output)) =
       subst (λ l. Comes t code labels one.count (now a (regs x p v e) flag f (memo scratch output)) (now (a + length (tap_copy {I = I} {O = O} t.vector (length widths) k l)) (regs n one.pointer one.value (at.scratch + buffer k)) false f (memo (filled_of k scratch) output))) (sym is) one.comes in
       let later = all_copied rest (k + 1) (a + length front) n one.pointer one.value (at.scratch + buffer k) false f (filled_of k scratch) output (omega arith)
@@ -251,7 +251,7 @@ module _ {I O : Type 0} (t : Table O) (code : List (Line I O)) (labels : List La
       let two = comes-scratch t code labels b 7 at.scratch offset (regs copies.x' copies.p' copies.v' copies.e') copies.flag' f (memo copies.left output) (stands-front code b pointer_lines end_lines at_last) (omega arith) refl (omega arith) in
       let at_end : Stands code (b + many) end_lines = subst (λ l. Stands code (b + l) end_lines) (length-scratch_lines I O 7 offset) (stands-back code b pointer_lines end_lines at_last) in
       let put : stored (memo copies.left output) (at.scratch + 8 * taps) pointer ≡ Some (memo after output) =
-      stored-scratch pictures at (packed 8 entries) copies.left output (placed.apart copies.left output left_are.size output_long) (8 * taps) pointer (omega arith) (omega arith) in
+      stored-scratch n planes at (packed 8 entries) copies.left output (placed.apart copies.left output left_are.size output_long) (8 * taps) pointer (omega arith) (omega arith) in
       let three = pointer_stored t code labels taps (b + many) at.table n at.scratch copies.x' at.table copies.p' copies.v' (at.scratch + offset) copies.flag' f (memo copies.left output) (memo after output) (omega arith) at_end.0 put in
       let base : register_wrapped t.target (at.scratch + 0) ≡ at.scratch = let zeroth : at.scratch + 0 ≡ at.scratch = omega arith in ap (λ m. register_wrapped t.target m) zeroth ∙ wrapped_small t.target at.scratch (omega arith) in
       let four = over_scratch (b + many + 1) at.table n at.scratch copies.x' at.table copies.p' copies.v' (at.scratch + offset) copies.flag' f (memo after output) at_end.1 base to_block in

@@ -4,7 +4,7 @@ use Rattle.std.specs.List.{AllPairs}
 use Rattle.std.proofs.Math.Nat.{mul_comm, mul-add, mul-le-mul_left}
 use Rattle.std.proofs.lemmas.List.{take-take, get_or-set_same, get_or-set_other, length-set}
 use Rattle.std.proofs.lemmas.Bool.{cases_eq}
-use Rattle.pf_ints.specs.Meaning.Images.{Picture}
+use Rattle.pf_values.specs.Meaning.Kernels.{Plane}
 use Rattle.pf_ints.specs.declared.target.Target.{Target}
 use Rattle.pf_ints.specs.declared.target.Target.TheVariants.{Neon, Avx2, Hvx}
 use Rattle.pf_machine.specs.declared.memory.Region.{Region}
@@ -20,18 +20,18 @@ use Rattle.pf_rows.specs.Meaning.Scratch.{buffer_at, slot_at, scratch_bytes}
 use Rattle.pf_rows.proofs.Cells.{part, Agree, Cells, cells-agree, cells-set}
 
 -- A row of n pixels: its table, where its taps lie in their images, its place in the output, and the scratch.
-pub record RowPlace (vector : ℕ) (pictures : List Picture) (at : Places) (entries widths : List ℕ) (width slots n scratch_size output_size row : ℕ) (image place : ℕ → ℕ) : Type 0 where
+pub record RowPlace (vector : ℕ) (planes : List Plane) (at : Places) (entries widths : List ℕ) (width slots n scratch_size output_size row : ℕ) (image place : ℕ → ℕ) : Type 0 where
   pub some : 1 ≤ vector
   pub most : vector ≤ 128
-  pub images : length at.images ≡ length pictures
+  pub images : length at.images ≡ length planes
   pub size : length entries ≡ length widths + 3
   pub few_taps : length widths ≤ 64
   pub wide : All (λ w. (1 ≤ w) × (w ≤ 2)) widths
   pub wide_out : (1 ≤ width) × (width ≤ 2)
   pub table_low : at.table + 8 * (length widths + 3) < 2 ^ 31
-  pub known : (k : ℕ) → k < length widths → image k < length pictures
+  pub known : (k : ℕ) → k < length widths → image k < length planes
   pub entry : (k : ℕ) → k < length widths → get_or entries k 0 ≡ get_or at.images (image k) 0 + place k
-  pub inside : (k : ℕ) → k < length widths → place k + get_or widths k 0 * n ≤ length (image_bytes pictures (image k))
+  pub inside : (k : ℕ) → k < length widths → place k + get_or widths k 0 * n ≤ length (image_bytes n planes (image k))
   pub low : (k : ℕ) → k < length widths → get_or entries k 0 + get_or widths k 0 * n < 2 ^ 31
   pub out : get_or entries (length widths) 0 ≡ at.output + row
   pub inside_out : row + width * n ≤ output_size
@@ -42,7 +42,7 @@ pub record RowPlace (vector : ℕ) (pictures : List Picture) (at : Places) (entr
   pub count : get_or entries (length widths + 2) 0 ≡ n
   pub count_low : n < 2 ^ 31
   pub apart : (kept output : List ℕ) → length kept ≡ scratch_size → length output ≡ output_size
-      → AllPairs Apart (memory pictures at (packed 8 entries) kept output)
+      → AllPairs Apart (memory n planes at (packed 8 entries) kept output)
 
 -- a number of a table by as many bytes as a machine's pointers have
 pub number-entry : (target : Target) (entries : List ℕ) (k : ℕ) → k < length entries → get_or entries k 0 < 2 ^ 32
@@ -72,10 +72,10 @@ most-pointer Hvx = omega arith
 pub span : (w x count n : ℕ) → x + count ≤ n → w * x + w * count ≤ w * n
 span w x count n inside = rw (← mul-add) (mul-le-mul_left w inside)
 
-module _ (vector : ℕ) (pictures : List Picture) (at : Places) (entries widths : List ℕ) (width slots n scratch_size output_size row : ℕ) (image place : ℕ → ℕ) (placed : RowPlace vector pictures at entries widths width slots n scratch_size output_size row image place) where
+module _ (vector : ℕ) (planes : List Plane) (at : Places) (entries widths : List ℕ) (width slots n scratch_size output_size row : ℕ) (image place : ℕ → ℕ) (placed : RowPlace vector planes at entries widths width slots n scratch_size output_size row image place) where
   -- the memory of the row, with other bytes in the scratch and the output
   abbrev pub holding : (scratch output : List ℕ) → List Region
-  holding scratch output = memory pictures at (packed 8 entries) scratch output
+  holding scratch output = memory n planes at (packed 8 entries) scratch output
 
   -- an entry of the row's table
   pub entry-given : (target : Target) (k : ℕ) (scratch output : List ℕ) → k < length entries → get_or entries k 0 < 2 ^ 32 → length scratch ≡ scratch_size
@@ -90,13 +90,13 @@ module _ (vector : ℕ) (pictures : List Picture) (at : Places) (entries widths 
       let address : register_wrapped target (at.table + 8 * k) ≡ at.table + 8 * k = wrapped_small target (at.table + 8 * k) (omega arith) in
       let held = take (pointer_bytes target) (drop (8 * k) (packed 8 entries)) in
       let load : loaded (holding scratch output) (register_wrapped target (at.table + 8 * k)) (pointer_bytes target) ≡ Some held =
-      ap (λ a. loaded (holding scratch output) a (pointer_bytes target)) address ∙ loaded-table pictures at (packed 8 entries) scratch output (placed.apart scratch output kept out) (8 * k) (pointer_bytes target) some (omega arith) in
+      ap (λ a. loaded (holding scratch output) a (pointer_bytes target)) address ∙ loaded-table n planes at (packed 8 entries) scratch output (placed.apart scratch output kept out) (8 * k) (pointer_bytes target) some (omega arith) in
       (held, load, number-entry target entries k inside small)
 
   -- bytes of a tap
   pub tap-given : (k x off c : ℕ) (scratch output : List ℕ) → k < length widths → 0 < c → get_or widths k 0 * x + off + c ≤ get_or widths k 0 * n
       → length scratch ≡ scratch_size → length output ≡ output_size
-      → loaded (holding scratch output) (get_or entries k 0 + x * get_or widths k 0 + off) c ≡ Some (part (place k + get_or widths k 0 * x + off) c (image_bytes pictures (image k)))
+      → loaded (holding scratch output) (get_or entries k 0 + x * get_or widths k 0 + off) c ≡ Some (part (place k + get_or widths k 0 * x + off) c (image_bytes n planes (image k)))
   tap-given k x off c scratch output known some within kept out =
       let w = get_or widths k 0 in
       let inside = placed.inside k known in
@@ -104,7 +104,7 @@ module _ (vector : ℕ) (pictures : List Picture) (at : Places) (entries widths 
       let turned : x * w ≡ w * x = mul_comm x w in
       let address : get_or entries k 0 + x * w + off ≡ get_or at.images (image k) 0 + (place k + w * x + off) = omega arith in
       ap (λ a. loaded (holding scratch output) a c) address
-      ∙ loaded-image pictures at (packed 8 entries) scratch output (placed.apart scratch output kept out) (image k) (place k + w * x + off) c placed.images (placed.known k known) some (omega arith)
+      ∙ loaded-image n planes at (packed 8 entries) scratch output (placed.apart scratch output kept out) (image k) (place k + w * x + off) c placed.images (placed.known k known) some (omega arith)
 
   -- a store to the row
   pub row-stored : (off : ℕ) (new scratch output : List ℕ) → 0 < length new → off + length new ≤ width * n → length scratch ≡ scratch_size
@@ -115,7 +115,7 @@ module _ (vector : ℕ) (pictures : List Picture) (at : Places) (entries widths 
       let entry = placed.out in
       let address : get_or entries (length widths) 0 + off ≡ at.output + (row + off) = omega arith in
       ap (λ a. stored (holding scratch output) a new) address
-      ∙ stored-output pictures at (packed 8 entries) scratch output (placed.apart scratch output kept out) (row + off) new some (omega arith)
+      ∙ stored-output n planes at (packed 8 entries) scratch output (placed.apart scratch output kept out) (row + off) new some (omega arith)
 
   -- where the slots begin
   abbrev pub slots_at : ℕ
@@ -149,7 +149,7 @@ module _ (vector : ℕ) (pictures : List Picture) (at : Places) (entries widths 
       let count = are.count in
       let slot = are.each k inside in
       let there = are.there in
-      let load = loaded-scratch pictures at (packed 8 entries) scratch output (placed.apart scratch output held.size out) (slot_at vector (length widths) k) vector (omega arith) (omega arith) in
+      let load = loaded-scratch n planes at (packed 8 entries) scratch output (placed.apart scratch output held.size out) (slot_at vector (length widths) k) vector (omega arith) (omega arith) in
       (load ∙ ap Some (there.each k (omega arith) slot.size), slot)
 
   -- a slot is stored
@@ -164,7 +164,7 @@ module _ (vector : ℕ) (pictures : List Picture) (at : Places) (entries widths 
       let room : vector * k + vector * 1 ≤ vector * slots = span vector k 1 slots (omega arith) in
       let count = are.count in
       let same : vector * length kept ≡ vector * slots = ap (λ c. vector * c) count in
-      let put = stored-scratch pictures at (packed 8 entries) scratch output (placed.apart scratch output held.size out) (slot_at vector (length widths) k) new (omega arith) (omega arith) in
+      let put = stored-scratch n planes at (packed 8 entries) scratch output (placed.apart scratch output held.size out) (slot_at vector (length widths) k) new (omega arith) (omega arith) in
       let after : Slots (set kept k new) (overwritten scratch (slot_at vector (length widths) k) new) = record {
         count = length-set kept k new ∙ count;
         each = λ j known. ⊎_elim

@@ -3,7 +3,7 @@ use Rattle.std.proofs.Common.{◌≡◌, ℕ, zero, suc, ◌+◌, ◌<◌, ◌�
 use Rattle.std.specs.Prelude.{ℤ, pos, ◌+ℤ◌, ◌-ℤ◌, ◌≤ℤ◌, unsigned_abs}
 use Rattle.std.proofs.lemmas.Int.{ints, int_min_is, int_max_is}
 use Rattle.std.proofs.lemmas.List.{get_or-map, length-map}
-use Rattle.pf_ints.specs.Meaning.Images.{Picture}
+use Rattle.pf_values.specs.Meaning.Kernels.{Plane}
 use Rattle.pf_values.specs.declared.names.Tap.{Tap}
 use Rattle.pf_values.specs.Meaning.NamedTerms.{no_tap}
 use Rattle.pf_values.specs.Meaning.Kernels.{lowest, highest, left_reach, right_reach, up_reach, down_reach, width_of, height_of, out_width, out_height, tap_column, tap_row}
@@ -44,28 +44,28 @@ column_inside : (low high d : ℤ) (width : ℕ) → low ≤ℤ pos 0 → low �
 column_inside low high d width reach before behind some = omega (arith, ints)
 
 -- a tap's columns and rows, which lie in the image
-module _ (taps : List Tap) (pictures : List Picture) (k : ℕ) (known : k < length taps) (wide : pos 1 ≤ℤ out_width taps pictures) (high : pos 1 ≤ℤ out_height taps pictures) where
+module _ (taps : List Tap) (planes : List Plane) (k : ℕ) (known : k < length taps) (wide : pos 1 ≤ℤ out_width taps planes) (high : pos 1 ≤ℤ out_height taps planes) where
   pub columns_at : (x : ℕ) → tap_column taps x (get_or taps k no_tap) ≡ tap_column taps 0 (get_or taps k no_tap) + x
   columns_at x =
       let reads : get_or (map (λ t. t.dx) taps) k (pos 0) ≡ (get_or taps k no_tap).dx = get_or-map (λ t. t.dx) taps k no_tap (pos 0) known in
       let inside : k < length (map (λ t. t.dx) taps) = omega (arith, length-map taps (λ t. t.dx)) in
-      column_at (left_reach taps) (right_reach taps) (get_or taps k no_tap).dx (width_of pictures) x (lowest_low (map (λ t. t.dx) taps))
+      column_at (left_reach taps) (right_reach taps) (get_or taps k no_tap).dx (width_of planes) x (lowest_low (map (λ t. t.dx) taps))
       (rw reads at (lowest_below (map (λ t. t.dx) taps) k inside)) (rw reads at (highest_above (map (λ t. t.dx) taps) k inside)) wide
 
-  pub columns_fit : tap_column taps 0 (get_or taps k no_tap) + unsigned_abs (out_width taps pictures) ≤ width_of pictures
+  pub columns_fit : tap_column taps 0 (get_or taps k no_tap) + unsigned_abs (out_width taps planes) ≤ width_of planes
   columns_fit =
       let reads : get_or (map (λ t. t.dx) taps) k (pos 0) ≡ (get_or taps k no_tap).dx = get_or-map (λ t. t.dx) taps k no_tap (pos 0) known in
       let inside : k < length (map (λ t. t.dx) taps) = omega (arith, length-map taps (λ t. t.dx)) in
-      column_inside (left_reach taps) (right_reach taps) (get_or taps k no_tap).dx (width_of pictures) (lowest_low (map (λ t. t.dx) taps))
+      column_inside (left_reach taps) (right_reach taps) (get_or taps k no_tap).dx (width_of planes) (lowest_low (map (λ t. t.dx) taps))
       (rw reads at (lowest_below (map (λ t. t.dx) taps) k inside)) (rw reads at (highest_above (map (λ t. t.dx) taps) k inside)) wide
 
-  pub rows_fit : (y : ℕ) → y < unsigned_abs (out_height taps pictures) → tap_row taps y (get_or taps k no_tap) < height_of pictures
+  pub rows_fit : (y : ℕ) → y < unsigned_abs (out_height taps planes) → tap_row taps y (get_or taps k no_tap) < height_of planes
   rows_fit y within =
       let reads : get_or (map (λ t. t.dy) taps) k (pos 0) ≡ (get_or taps k no_tap).dy = get_or-map (λ t. t.dy) taps k no_tap (pos 0) known in
       let inside : k < length (map (λ t. t.dy) taps) = omega (arith, length-map taps (λ t. t.dy)) in
       let low = lowest_low (map (λ t. t.dy) taps) in
       let above = rw reads at (lowest_below (map (λ t. t.dy) taps) k inside) in
       let below = rw reads at (highest_above (map (λ t. t.dy) taps) k inside) in
-      let at_y = column_at (up_reach taps) (down_reach taps) (get_or taps k no_tap).dy (height_of pictures) y low above below high in
-      let fits = column_inside (up_reach taps) (down_reach taps) (get_or taps k no_tap).dy (height_of pictures) low above below high in
+      let at_y = column_at (up_reach taps) (down_reach taps) (get_or taps k no_tap).dy (height_of planes) y low above below high in
+      let fits = column_inside (up_reach taps) (down_reach taps) (get_or taps k no_tap).dy (height_of planes) low above below high in
       omega arith

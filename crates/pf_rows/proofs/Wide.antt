@@ -6,7 +6,7 @@ use Rattle.std.proofs.lemmas.List.{length-set}
 use Rattle.std.proofs.lemmas.List.Elements.{All-weaker}
 use Rattle.std.proofs.lemmas.List.FromFn.{get_or-map-range_with_len}
 use Rattle.std.proofs.lemmas.Bool.{cases_lt}
-use Rattle.pf_ints.specs.Meaning.Images.{Picture}
+use Rattle.pf_values.specs.Meaning.Kernels.{Plane}
 use Rattle.pf_machine.specs.declared.memory.Region.{Region}
 use Rattle.pf_machine.specs.Meaning.Blocks.{AreTaps}
 use Rattle.pf_machine.specs.Meaning.Bytes.{AreBytes}
@@ -20,10 +20,10 @@ use Rattle.pf_rows.proofs.Cells.{part, Agree, agree-trans, agree-before, agree-b
 use Rattle.pf_rows.proofs.Steps.{Desk}
 use Rattle.pf_rows.proofs.RowPlaces.{RowPlace, span, holding, entry-given, tap-given, row-stored, Slots, slot-given, slot-stored}
 
-module _ {O : Type 0} (t : Table O) (pictures : List Picture) (at : Places) (entries widths : List ℕ) (width slots n scratch_size output_size row : ℕ) (image place : ℕ → ℕ) (placed : RowPlace t.vector pictures at entries widths width slots n scratch_size output_size row image place) where
+module _ {O : Type 0} (t : Table O) (planes : List Plane) (at : Places) (entries widths : List ℕ) (width slots n scratch_size output_size row : ℕ) (image place : ℕ → ℕ) (placed : RowPlace t.vector planes at entries widths width slots n scratch_size output_size row image place) where
   -- what a block at pixel x finds of the taps
   abbrev pub tap_block : ℕ → ℕ → List ℕ
-  tap_block x k = part (place k + get_or widths k 0 * x) (get_or widths k 0 * t.vector) (image_bytes pictures (image k))
+  tap_block x k = part (place k + get_or widths k 0 * x) (get_or widths k 0 * t.vector) (image_bytes n planes (image k))
 
   abbrev pub wide_taps : ℕ → List (List ℕ)
   wide_taps x = map (tap_block x) (range_with_len 0 (length widths))
@@ -32,10 +32,10 @@ module _ {O : Type 0} (t : Table O) (pictures : List Picture) (at : Places) (ent
   wide_tap x k known = get_or-map-range_with_len (tap_block x) 0 (length widths) k k [] known (omega arith)
 
   abbrev pub mem : List ℕ → List ℕ → List Region
-  mem scratch output = holding t.vector pictures at entries widths width slots n scratch_size output_size row image place placed scratch output
+  mem scratch output = holding t.vector planes at entries widths width slots n scratch_size output_size row image place placed scratch output
 
   abbrev pub SlotsIn : List (List ℕ) → List ℕ → Type 0
-  SlotsIn kept scratch = Slots t.vector pictures at entries widths width slots n scratch_size output_size row image place placed kept scratch
+  SlotsIn kept scratch = Slots t.vector planes at entries widths width slots n scratch_size output_size row image place placed kept scratch
 
   pub wide_taps_are : (x : ℕ) → x + t.vector ≤ n → AreTaps t.vector widths (wide_taps x)
   wide_taps_are x within = record {
@@ -43,7 +43,7 @@ module _ {O : Type 0} (t : Table O) (pictures : List Picture) (at : Places) (ent
         let by = get_or widths k 0 in
         let room : by * x + by * t.vector ≤ by * n = span by x t.vector n within in
         let inside = placed.inside k known in
-        subst (λ l. AreBytes (by * t.vector) l) (sym (wide_tap x k known)) (part_are (place k + by * x) (by * t.vector) (image_bytes pictures (image k)) (omega arith) (image_bytes_below pictures (image k)));
+        subst (λ l. AreBytes (by * t.vector) l) (sym (wide_tap x k known)) (part_are (place k + by * x) (by * t.vector) (image_bytes n planes (image k)) (omega arith) (image_bytes_below n planes (image k)));
   }
 
   -- memory with these slots and these parts of the block at pixel x; else the output is as before
@@ -77,7 +77,7 @@ module _ {O : Type 0} (t : Table O) (pictures : List Picture) (at : Places) (ent
     wide_entry kept output rs w k inside =
         let size = placed.size in
         let low = entry_low k inside in
-        let given = entry-given t.vector pictures at entries widths width slots n scratch_size output_size row image place placed t.target k w.scratch w.held (omega arith) (omega arith) w.scratch_are.size w.held_long in
+        let given = entry-given t.vector planes at entries widths width slots n scratch_size output_size row image place placed t.target k w.scratch w.held (omega arith) (omega arith) w.scratch_are.size w.held_long in
         (given.0, ap (λ r. loaded r (Rattle.pf_machine.specs.Meaning.MachineSteps.register_wrapped t.target (at.table + 8 * k)) (Rattle.pf_machine.specs.Meaning.MachineSteps.pointer_bytes t.target)) w.is ∙ given.1, given.2)
 
     wide_load : (kept output : List (List ℕ)) (rs : List Region) → Wide x before kept output rs → (k j : ℕ) → k < length widths → j < get_or widths k 0
@@ -89,11 +89,11 @@ module _ {O : Type 0} (t : Table O) (pictures : List Picture) (at : Places) (ent
         let whole : by * t.vector ≡ t.vector * by = mul_comm by t.vector in
         let room : t.vector * j + t.vector * 1 ≤ t.vector * by = span t.vector j 1 by (omega arith) in
         let all : by * x + by * t.vector ≤ by * n = span by x t.vector n within in
-        let given = tap-given t.vector pictures at entries widths width slots n scratch_size output_size row image place placed k x (j * t.vector) t.vector w.scratch w.held known (omega arith) (omega arith) w.scratch_are.size w.held_long in
-        let sub : part (t.vector * j) t.vector (tap_block x k) ≡ part (place k + by * x + t.vector * j) t.vector (image_bytes pictures (image k)) =
-        take-drop-part (image_bytes pictures (image k)) (place k + by * x) (by * t.vector) (t.vector * j) t.vector (omega arith) in
+        let given = tap-given t.vector planes at entries widths width slots n scratch_size output_size row image place placed k x (j * t.vector) t.vector w.scratch w.held known (omega arith) (omega arith) w.scratch_are.size w.held_long in
+        let sub : part (t.vector * j) t.vector (tap_block x k) ≡ part (place k + by * x + t.vector * j) t.vector (image_bytes n planes (image k)) =
+        take-drop-part (image_bytes n planes (image k)) (place k + by * x) (by * t.vector) (t.vector * j) t.vector (omega arith) in
         ap (λ r. loaded r (get_or entries k 0 + x * by + j * t.vector) t.vector) w.is ∙ given
-        ∙ ap Some (ap (λ m. part (place k + by * x + m) t.vector (image_bytes pictures (image k))) turned ∙ sym sub ∙ ap (λ l. part (t.vector * j) t.vector l) (sym (wide_tap x k known)))
+        ∙ ap Some (ap (λ m. part (place k + by * x + m) t.vector (image_bytes n planes (image k))) turned ∙ sym sub ∙ ap (λ l. part (t.vector * j) t.vector l) (sym (wide_tap x k known)))
 
     wide_store : (kept output : List (List ℕ)) (rs : List Region) → Wide x before kept output rs → (j : ℕ) (new : List ℕ) → j < width → AreBytes t.vector new
         → (next : List Region) × (stored rs (get_or entries (length widths) 0 + x * width + j * t.vector) new ≡ Some next) × Wide x before kept (set output j new) next
@@ -113,7 +113,7 @@ module _ {O : Type 0} (t : Table O) (pictures : List Picture) (at : Places) (ent
         let base = row + width * x in
         let address : get_or entries (length widths) 0 + x * width + j * t.vector ≡ get_or entries (length widths) 0 + off = omega arith in
         let spot : row + off ≡ base + t.vector * j = omega arith in
-        let put = row-stored t.vector pictures at entries widths width slots n scratch_size output_size row image place placed off new w.scratch w.held (omega arith) (omega arith) w.scratch_are.size w.held_long in
+        let put = row-stored t.vector planes at entries widths width slots n scratch_size output_size row image place placed off new w.scratch w.held (omega arith) (omega arith) w.scratch_are.size w.held_long in
         let after = overwritten w.held (base + t.vector * j) new in
         let fits : base + t.vector * j + length new ≤ length w.held = omega arith in
         let next : Wide x before kept (set output j new) (mem w.scratch after) = record {
@@ -136,13 +136,13 @@ module _ {O : Type 0} (t : Table O) (pictures : List Picture) (at : Places) (ent
     wide_slot : (kept output : List (List ℕ)) (rs : List Region) → Wide x before kept output rs → (k : ℕ) → k < slots
         → (loaded rs (at.scratch + slot_at t.vector (length widths) k) t.vector ≡ Some (get_or kept k [])) × AreBytes t.vector (get_or kept k [])
     wide_slot kept output rs w k inside =
-        let given = slot-given t.vector pictures at entries widths width slots n scratch_size output_size row image place placed k kept w.scratch w.held inside w.in_slots w.scratch_are w.held_long in
+        let given = slot-given t.vector planes at entries widths width slots n scratch_size output_size row image place placed k kept w.scratch w.held inside w.in_slots w.scratch_are w.held_long in
         (ap (λ r. loaded r (at.scratch + slot_at t.vector (length widths) k) t.vector) w.is ∙ given.0, given.1)
 
     wide_keep : (kept output : List (List ℕ)) (rs : List Region) → Wide x before kept output rs → (k : ℕ) (new : List ℕ) → k < slots → AreBytes t.vector new
         → (next : List Region) × (stored rs (at.scratch + slot_at t.vector (length widths) k) new ≡ Some next) × Wide x before (set kept k new) output next
     wide_keep kept output rs w k new inside new_are =
-        let put = slot-stored t.vector pictures at entries widths width slots n scratch_size output_size row image place placed k new kept w.scratch w.held inside new_are w.in_slots w.scratch_are w.held_long in
+        let put = slot-stored t.vector planes at entries widths width slots n scratch_size output_size row image place placed k new kept w.scratch w.held inside new_are w.in_slots w.scratch_are w.held_long in
         let after = overwritten w.scratch (slot_at t.vector (length widths) k) new in
         let next : Wide x before (set kept k new) output (mem after w.held) = record {
           scratch = after;

@@ -7,7 +7,7 @@ use Rattle.std.proofs.lemmas.List.{length-replicate}
 use Rattle.std.proofs.lemmas.List.Elements.{All-from_get_or}
 use Rattle.std.proofs.lemmas.Nat.{div-mul-add}
 use Rattle.std.proofs.lemmas.Bool.{cases_lt, lt-ltb, le-ltb, cond-true, cond-false}
-use Rattle.pf_ints.specs.Meaning.Images.{Picture}
+use Rattle.pf_values.specs.Meaning.Kernels.{Plane}
 use Rattle.pf_machine.specs.declared.registers.RegFile.{RegFile}
 use Rattle.pf_machine.specs.declared.memory.Region.{Region}
 use Rattle.pf_machine.specs.declared.code.Line.{Line}
@@ -32,9 +32,9 @@ use Rattle.pf_rows.proofs.Wide.{wide_taps, Wide, wide_desk, mem}
 use Rattle.pf_rows.proofs.Ways.{Laid, Ends, comes-ends, begins_wide, goes_on, goes_last, ends_wide}
 
 -- the slots that the scratch has
-pub slots_are : (vector : ℕ) (pictures : List Picture) (at : Places) (entries widths : List ℕ) (width slots n scratch_size output_size row : ℕ) (image place : ℕ → ℕ) (placed : RowPlace vector pictures at entries widths width slots n scratch_size output_size row image place) (scratch : List ℕ) → AreBytes scratch_size scratch
-    → Slots vector pictures at entries widths width slots n scratch_size output_size row image place placed (cells_of (buffer_at vector (length widths) (length widths + 1)) vector slots scratch) scratch
-slots_are vector pictures at entries widths width slots n scratch_size output_size row image place placed scratch are =
+pub slots_are : (vector : ℕ) (planes : List Plane) (at : Places) (entries widths : List ℕ) (width slots n scratch_size output_size row : ℕ) (image place : ℕ → ℕ) (placed : RowPlace vector planes at entries widths width slots n scratch_size output_size row image place) (scratch : List ℕ) → AreBytes scratch_size scratch
+    → Slots vector planes at entries widths width slots n scratch_size output_size row image place placed (cells_of (buffer_at vector (length widths) (length widths + 1)) vector slots scratch) scratch
+slots_are vector planes at entries widths width slots n scratch_size output_size row image place placed scratch are =
     let base = buffer_at vector (length widths) (length widths + 1) in
     record {
       count = length-cells_of base vector slots scratch;
@@ -46,10 +46,10 @@ slots_are vector pictures at entries widths width slots n scratch_size output_si
     }
 
 -- such slots are a block's
-pub slots_found : (vector : ℕ) (pictures : List Picture) (at : Places) (entries widths : List ℕ) (width slots n scratch_size output_size row : ℕ) (image place : ℕ → ℕ) (placed : RowPlace vector pictures at entries widths width slots n scratch_size output_size row image place) (scratch : List ℕ) → AreBytes scratch_size scratch
+pub slots_found : (vector : ℕ) (planes : List Plane) (at : Places) (entries widths : List ℕ) (width slots n scratch_size output_size row : ℕ) (image place : ℕ → ℕ) (placed : RowPlace vector planes at entries widths width slots n scratch_size output_size row image place) (scratch : List ℕ) → AreBytes scratch_size scratch
     → AreSlots vector slots (cells_of (buffer_at vector (length widths) (length widths + 1)) vector slots scratch)
-slots_found vector pictures at entries widths width slots n scratch_size output_size row image place placed scratch are =
-    let there = slots_are vector pictures at entries widths width slots n scratch_size output_size row image place placed scratch are in
+slots_found vector planes at entries widths width slots n scratch_size output_size row image place placed scratch are =
+    let there = slots_are vector planes at entries widths width slots n scratch_size output_size row image place placed scratch are in
     let count = there.count in
     let cells = cells_of (buffer_at vector (length widths) (length widths + 1)) vector slots scratch in
     record { count = count; each = All-from_get_or (λ v. AreBytes vector v) cells [] (λ k inside. there.each k (omega arith)) }
@@ -61,12 +61,12 @@ start_whole vector m q from to =
     let place : q ≡ m * vector + (q - vector * m) = omega arith in
     ap (λ k. vector * (k / vector)) place ∙ ap (λ k. vector * k) (div-mul-add m vector (q - vector * m) (omega arith))
 
-module _ {I O : Type 0} (t : Table O) (is_op : O → Type 0) (laws : IsTable t is_op) (code : List (Line I O)) (labels : List Label) (pictures : List Picture) (at : Places) (entries widths : List ℕ) (width slots n scratch_size output_size row : ℕ) (image place : ℕ → ℕ) (placed : RowPlace t.vector pictures at entries widths width slots n scratch_size output_size row image place) (block : List (Item O)) (laid : Laid t code labels widths width block) (ones : All (IsOne is_op) block) (within : All (IsWithin t t.vectors slots) block) (steps : All (IsBlockItem widths width) block) (stores : StoresEach width block) where
+module _ {I O : Type 0} (t : Table O) (is_op : O → Type 0) (laws : IsTable t is_op) (code : List (Line I O)) (labels : List Label) (planes : List Plane) (at : Places) (entries widths : List ℕ) (width slots n scratch_size output_size row : ℕ) (image place : ℕ → ℕ) (placed : RowPlace t.vector planes at entries widths width slots n scratch_size output_size row image place) (block : List (Item O)) (laid : Laid t code labels widths width block) (ones : All (IsOne is_op) block) (within : All (IsWithin t t.vectors slots) block) (steps : All (IsBlockItem widths width) block) (stores : StoresEach width block) where
   abbrev m_of : List ℕ → List ℕ → List Region
-  m_of = mem t pictures at entries widths width slots n scratch_size output_size row image place placed
+  m_of = mem t planes at entries widths width slots n scratch_size output_size row image place placed
 
   abbrev taps_at : ℕ → List (List ℕ)
-  taps_at = wide_taps t pictures at entries widths width slots n scratch_size output_size row image place placed
+  taps_at = wide_taps t planes at entries widths width slots n scratch_size output_size row image place placed
 
   abbrev many : ℕ
   many = length (block_lines {I = I} t widths width block)
@@ -102,20 +102,20 @@ module _ {I O : Type 0} (t : Table O) (is_op : O → Type 0) (laws : IsTable t i
         let kept = cells_of (buffer_at t.vector (length widths) (length widths + 1)) t.vector slots scratch in
         let begun : Bench = record { file = f; slots = kept; output = replicate width none } in
         let done : Bench = items_run t (taps_at x) block begun in
-        let holds : Wide t pictures at entries widths width slots n scratch_size output_size row image place placed x held kept (replicate width none) (m_of scratch held) = record {
+        let holds : Wide t planes at entries widths width slots n scratch_size output_size row image place placed x held kept (replicate width none) (m_of scratch held) = record {
           scratch = scratch;
           held = held;
           is = refl;
           scratch_are = scratch_are;
           held_long = held_long;
-          in_slots = slots_are t.vector pictures at entries widths width slots n scratch_size output_size row image place placed scratch scratch_are;
+          in_slots = slots_are t.vector planes at entries widths width slots n scratch_size output_size row image place placed scratch scratch_are;
           count = length-replicate width none;
           there = cells-none base t.vector width held some;
           front = agree-same 0 base held;
           back = agree-same (base + t.vector * width) output_size held;
         } in
-        let desk = wide_desk t pictures at entries widths width slots n scratch_size output_size row image place placed x inside held in
-        let takes = block_takes t is_op laws code labels at.table at.scratch x widths width slots (λ k. get_or entries k 0) (taps_at x) (Wide t pictures at entries widths width slots n scratch_size output_size row image place placed x held) desk n at.table v e flag block 7 p (m_of scratch held) begun laid.steps ones within steps is_file (length-replicate width none) holds in
+        let desk = wide_desk t planes at entries widths width slots n scratch_size output_size row image place placed x inside held in
+        let takes = block_takes t is_op laws code labels at.table at.scratch x widths width slots (λ k. get_or entries k 0) (taps_at x) (Wide t planes at entries widths width slots n scratch_size output_size row image place placed x held) desk n at.table v e flag block 7 p (m_of scratch held) begun laid.steps ones within steps is_file (length-replicate width none) holds in
         let after = takes.holds in
         let all : length done.output ≡ width = after.count in
         let full : (k : ℕ) → k < length done.output → length (get_or done.output k []) ≡ t.vector = λ k known. takes.fills k (omega arith) (stores k (omega arith)) in
@@ -140,7 +140,7 @@ module _ {I O : Type 0} (t : Table O) (is_op : O → Type 0) (laws : IsTable t i
               let spot : base + width * d ≡ row + width * q = omega arith in
               let cut : part (width * d) width (part base (t.vector * width) after.held) ≡ part (base + width * d) width after.held = take-drop-part after.held base (t.vector * width) (width * d) width (omega arith) in
               let here : part (width * d) width (concat done.output) ≡ part (row + width * q) width after.held = ap (λ l. part (width * d) width l) (sym joined') ∙ cut ∙ ap (λ k. part k width after.held) spot in
-              subst (λ l. Given x q l) here (gives x inside f kept is_file (slots_found t.vector pictures at entries widths width slots n scratch_size output_size row image place placed scratch scratch_are) q from to);
+              subst (λ l. Given x q l) here (gives x inside f kept is_file (slots_found t.vector planes at entries widths width slots n scratch_size output_size row image place placed scratch scratch_are) q from to);
         }
 
     -- a row that is over: its pixels are given, and the rest is as before
@@ -300,8 +300,8 @@ module _ {I O : Type 0} (t : Table O) (is_op : O → Type 0) (laws : IsTable t i
         let scratch_low = placed.scratch_low in
         let is_count = placed.count in
         let is_scratch = placed.scratch in
-        let count = entry-given t.vector pictures at entries widths width slots n scratch_size output_size row image place placed t.target (length widths + 2) scratch held (omega arith) (omega arith) scratch_are.size held_long in
-        let base = entry-given t.vector pictures at entries widths width slots n scratch_size output_size row image place placed t.target (length widths + 1) scratch held (omega arith) (omega arith) scratch_are.size held_long in
+        let count = entry-given t.vector planes at entries widths width slots n scratch_size output_size row image place placed t.target (length widths + 2) scratch held (omega arith) (omega arith) scratch_are.size held_long in
+        let base = entry-given t.vector planes at entries widths width slots n scratch_size output_size row image place placed t.target (length widths + 1) scratch held (omega arith) (omega arith) scratch_are.size held_long in
         let begun = begins_wide t code labels widths width block laid at.table n at.scratch f (m_of scratch held) count.0 base.0 (omega arith) (omega arith) wide count.1 (count.2 ∙ is_count) base.1 (base.2 ∙ is_scratch) in
         let none : t.vector * 0 ≡ 0 = omega arith in
         let rest : RowLeft ((many + 12) * n) (now 7 (regs (t.vector * 0) 0 0 t.vector) false f (m_of scratch held)) held =

@@ -6,6 +6,8 @@ mod candidates;
 #[cfg(test)]
 mod checks;
 #[cfg(test)]
+mod lifting;
+#[cfg(test)]
 mod rulefile;
 #[cfg(test)]
 mod rules;

@@ -21,18 +21,19 @@ use Rattle.std.proofs.lemmas.List.{get_or_append_left, get_or_at, get_or-map, le
 use Rattle.std.proofs.lemmas.List.Elements.{All-nil, All-cons, All-get_or, All-from_get_or, All-weaker}
 use Rattle.std.proofs.lemmas.Slice.Zip.{get_or-zip, length-zip}
 use Rattle.std.proofs.lemmas.Nat.{column_fits}
-use Rattle.pf_ints.specs.Meaning.Images.{Picture, IsPicture}
+use Rattle.pf_ints.specs.Meaning.Images.{pixel}
 use Rattle.pf_values.specs.declared.kernel.Definition.{Definition}
 use Rattle.pf_values.specs.declared.kernel.ImageDecl.{ImageDecl}
 use Rattle.pf_values.specs.declared.names.Tap.{Tap as TapOf}
 use Rattle.pf_terms.specs.Meaning.KernelNames.{IsNearTap}
-use Rattle.pf_values.specs.Meaning.Kernels.{Source, Keeps, KeepsRange, no_picture, left_reach, right_reach, up_reach, down_reach, width_of, height_of, tap_column, tap_row, tap_value, tap_values, def_values}
-use Rattle.pf_kernel.specs.Meaning.Kernels.{AreDefinitions, names_behind, def_name, image_name}
+use Rattle.pf_values.specs.Meaning.Kernels.{Source, Plane, Image, Flat, Keeps, KeepsRange, IsPlane, IsSized, no_plane, no_decl, left_reach, right_reach, up_reach, down_reach, width_of, height_of, tap_column, tap_row, plane_value, tap_value, tap_values, def_values}
+use Rattle.pf_kernel.specs.Meaning.Kernels.{AreDefinitions, IsDeclaredRange, names_behind, def_name, image_name}
 use Rattle.pf_run.specs.declared.reach.Reach.{Reach}
 use Rattle.pf_values.specs.declared.reach.Axis.{Axis}
 use Rattle.pf_values.specs.declared.reach.Axis.TheVariants.{Columns, Rows}
 use Rattle.pf_values.specs.Meaning.Reach.{offset_along, least_offset, greatest_offset}
-use Rattle.pf_run.specs.Steps.Pixels.{AreTapNumbers, AreDefs, IsReach, LiesInside}
+use Rattle.pf_run.specs.Steps.Pixels.{AreTapNumbers, AreDefs, HasPlace, IsReach, LiesInside}
+use Rattle.pf_run.proofs.ReadyLaws.{value_in}
 
 and_left : (a b : Bool) → (a && b) ≡ true → a ≡ true
 and_left true b h = refl
@@ -195,48 +196,53 @@ least_low axis (t ∷ ts) =
 place_inside : (low high d : ℤ) (size count x : ℕ) → low ≤ℤ pos 0 → low ≤ℤ d → d ≤ℤ high → pos count ≡ (pos size -ℤ (high -ℤ low)) → x < count → unsigned_abs ((pos x -ℤ low) +ℤ d) < size
 place_inside low high d size count x reach before behind same inside = omega (arith, ints)
 
-abbrev no_decl : ImageDecl
-no_decl = record { name = []; ty = no_picture.ty; lo = 0; hi = 0 }
+-- a plane of this size has a number there
+has_place : (p : Plane) (width height column row : ℕ) → IsSized width height p → column < width → row < height → HasPlace p column row
+has_place (Image p) width height column row sized across down = (subst (λ n. column < n) (sym sized.0) across, subst (λ n. row < n) (sym sized.1) down)
+has_place (Flat ty v) width height column row sized across down = tt
 
-module _ (s : Source) (pictures : List Picture) (keeps : Keeps s pictures) (r : Reach) (of : IsReach s.taps pictures r) (near : All (IsNearTap (length s.images)) s.taps) (x y : ℕ) (column : x < r.columns) (row : y < r.rows) where
-  size_at : (k : ℕ) → k < length pictures → ((get_or pictures k no_picture).width ≡ width_of pictures) × ((get_or pictures k no_picture).height ≡ height_of pictures)
-  size_at k inside = All-get_or (λ (p : Picture). (p.width ≡ width_of pictures) × (p.height ≡ height_of pictures)) pictures k no_picture inside keeps.sizes
+-- the number there is of the type of the plane's declaration
+number_inside : (d : ImageDecl) (p : Plane) (column row : ℕ) → IsDeclaredRange d → IsPlane p → KeepsRange d p → HasPlace p column row → IsIn d.ty (plane_value p column row)
+number_inside d (Image p) column row is picture keeps place =
+    let first = place.0 in
+    let fits : p.width * row + p.width ≤ p.width * p.height = column_fits p.width row p.width p.height place.1 (omega arith) in
+    let count = picture.count in
+    let inside : p.width * row + column < length p.pixels = omega arith in
+    subst (λ t. IsIn t (pos (pixel p column row))) keeps.1 (All-get_or (λ n. IsIn p.ty (pos n)) p.pixels (p.width * row + column) 0 inside picture.each)
+number_inside d (Flat ty v) column row is plane keeps place = value_in d v is.inside keeps.2 keeps.3
 
-  pub lies_inside : All (LiesInside s.taps pictures x y) s.taps
-  lies_inside = All-from_get_or (LiesInside s.taps pictures x y) s.taps no_tap (λ k inside.
+module _ (s : Source) (planes : List Plane) (keeps : Keeps s planes) (r : Reach) (of : IsReach s.taps planes r) (decls : All IsDeclaredRange s.images) (near : All (IsNearTap (length s.images)) s.taps) (x y : ℕ) (column : x < r.columns) (row : y < r.rows) where
+  pub lies_inside : All (LiesInside s.taps planes x y) s.taps
+  lies_inside = All-from_get_or (LiesInside s.taps planes x y) s.taps no_tap (λ k inside.
       let t = get_or s.taps k no_tap in
       let tap = All-get_or (IsNearTap (length s.images)) s.taps k no_tap inside near in
-      let known : t.image < length pictures = subst (λ n. t.image < n) (sym keeps.count) tap.image in
-      let size = size_at t.image known in
+      let known : t.image < length planes = subst (λ n. t.image < n) (sym keeps.count) tap.image in
+      let across = place_inside (left_reach s.taps) (right_reach s.taps) t.dx (width_of planes) r.columns x (least_low Columns s.taps)
+          (All-get_or (λ u. least_offset Columns s.taps ≤ℤ offset_along Columns u) s.taps k no_tap inside (least_each Columns s.taps)) (All-get_or (λ u. offset_along Columns u ≤ℤ greatest_offset Columns s.taps) s.taps k no_tap inside (greatest_each Columns s.taps)) of.columns column in
+      let down = place_inside (up_reach s.taps) (down_reach s.taps) t.dy (height_of planes) r.rows y (least_low Rows s.taps)
+          (All-get_or (λ u. least_offset Rows s.taps ≤ℤ offset_along Rows u) s.taps k no_tap inside (least_each Rows s.taps)) (All-get_or (λ u. offset_along Rows u ≤ℤ greatest_offset Rows s.taps) s.taps k no_tap inside (greatest_each Rows s.taps)) of.rows row in
       record {
         image = known;
-        column = subst (λ n. tap_column s.taps x t < n) (sym size.0) (place_inside (left_reach s.taps) (right_reach s.taps) t.dx (width_of pictures) r.columns x (least_low Columns s.taps)
-            (All-get_or (λ u. least_offset Columns s.taps ≤ℤ offset_along Columns u) s.taps k no_tap inside (least_each Columns s.taps)) (All-get_or (λ u. offset_along Columns u ≤ℤ greatest_offset Columns s.taps) s.taps k no_tap inside (greatest_each Columns s.taps)) of.columns column);
-        row = subst (λ n. tap_row s.taps y t < n) (sym size.1) (place_inside (up_reach s.taps) (down_reach s.taps) t.dy (height_of pictures) r.rows y (least_low Rows s.taps)
-            (All-get_or (λ u. least_offset Rows s.taps ≤ℤ offset_along Rows u) s.taps k no_tap inside (least_each Rows s.taps)) (All-get_or (λ u. offset_along Rows u ≤ℤ greatest_offset Rows s.taps) s.taps k no_tap inside (greatest_each Rows s.taps)) of.rows row);
+        place = has_place (get_or planes t.image no_plane) (width_of planes) (height_of planes) (tap_column s.taps x t) (tap_row s.taps y t) (All-get_or (IsSized (width_of planes) (height_of planes)) planes t.image no_plane known keeps.sizes) across down;
       })
 
-  value_inside : (t : TapOf) → LiesInside s.taps pictures x y t → is_in (get_or (map image_name s.images) t.image no_image).ty (tap_value s.taps pictures x y t) ≡ true
+  value_inside : (t : TapOf) → LiesInside s.taps planes x y t → is_in (get_or (map image_name s.images) t.image no_image).ty (tap_value s.taps planes x y t) ≡ true
   value_inside t lies =
-      let p = get_or pictures t.image no_picture in
+      let p = get_or planes t.image no_plane in
+      let d = get_or s.images t.image no_decl in
       let declared : t.image < length s.images = subst (λ n. t.image < n) keeps.count lies.image in
-      let picture : IsPicture p = All-get_or IsPicture pictures t.image no_picture lies.image keeps.limits in
-      let pair : get_or (zip s.images pictures) t.image (no_decl, no_picture) ≡ (get_or s.images t.image no_decl, p) = get_or-zip s.images pictures t.image (no_decl, no_picture) declared lies.image in
-      let both_long : t.image < length (zip s.images pictures) = omega (arith, length-zip s.images pictures) in
-      let kept : KeepsRange (get_or s.images t.image no_decl) p = subst (λ q. KeepsRange q.0 q.1) pair (All-get_or (λ q. KeepsRange q.0 q.1) (zip s.images pictures) t.image (no_decl, no_picture) both_long keeps.each) in
-      let fits : p.width * tap_row s.taps y t + p.width ≤ p.width * p.height = column_fits p.width (tap_row s.taps y t) p.width p.height lies.row (omega arith) in
-      let first = lies.column in
-      let count = picture.count in
-      let place : p.width * tap_row s.taps y t + tap_column s.taps x t < length p.pixels = omega arith in
-      let member : IsIn p.ty (tap_value s.taps pictures x y t) = All-get_or (λ n. IsIn p.ty (pos n)) p.pixels (p.width * tap_row s.taps y t + tap_column s.taps x t) 0 place picture.each in
-      let same : (get_or (map image_name s.images) t.image no_image).ty ≡ p.ty = ap (λ i. i.ty) (get_or-map image_name s.images t.image no_decl no_image declared) ∙ sym kept.ty in
-      rw same (is_in_from p.ty (tap_value s.taps pictures x y t) member)
+      let pair : get_or (zip s.images planes) t.image (no_decl, no_plane) ≡ (d, p) = get_or-zip s.images planes t.image (no_decl, no_plane) declared lies.image in
+      let both_long : t.image < length (zip s.images planes) = omega (arith, length-zip s.images planes) in
+      let kept : KeepsRange d p = subst (λ q. KeepsRange q.0 q.1) pair (All-get_or (λ q. KeepsRange q.0 q.1) (zip s.images planes) t.image (no_decl, no_plane) both_long keeps.each) in
+      let member = number_inside d p (tap_column s.taps x t) (tap_row s.taps y t) (All-get_or IsDeclaredRange s.images t.image no_decl declared decls) (All-get_or IsPlane planes t.image no_plane lies.image keeps.limits) kept lies.place in
+      let same : (get_or (map image_name s.images) t.image no_image).ty ≡ d.ty = ap (λ i. i.ty) (get_or-map image_name s.images t.image no_decl no_image declared) in
+      rw same (is_in_from d.ty (tap_value s.taps planes x y t) member)
 
-  pub taps_are : (numbers : List ℤ) → numbers ≡ tap_values s.taps pictures x y → AreTapNumbers (map image_name s.images) s.taps numbers
+  pub taps_are : (numbers : List ℤ) → numbers ≡ tap_values s.taps planes x y → AreTapNumbers (map image_name s.images) s.taps numbers
   taps_are numbers same = record {
-    count = ap (λ (l : List ℤ). length l) same ∙ length-map s.taps (tap_value s.taps pictures x y);
+    count = ap (λ (l : List ℤ). length l) same ∙ length-map s.taps (tap_value s.taps planes x y);
     each = λ n inside.
         let t = get_or s.taps n no_tap in
-        let here : get_or numbers n (pos 0) ≡ tap_value s.taps pictures x y t = ap (λ l. get_or l n (pos 0)) same ∙ get_or-map (tap_value s.taps pictures x y) s.taps n no_tap (pos 0) inside in
-        subst (λ v. is_in (get_or (map image_name s.images) t.image no_image).ty v ≡ true) (sym here) (value_inside t (All-get_or (LiesInside s.taps pictures x y) s.taps n no_tap inside lies_inside));
+        let here : get_or numbers n (pos 0) ≡ tap_value s.taps planes x y t = ap (λ l. get_or l n (pos 0)) same ∙ get_or-map (tap_value s.taps planes x y) s.taps n no_tap (pos 0) inside in
+        subst (λ v. is_in (get_or (map image_name s.images) t.image no_image).ty v ≡ true) (sym here) (value_inside t (All-get_or (LiesInside s.taps planes x y) s.taps n no_tap inside lies_inside));
   }

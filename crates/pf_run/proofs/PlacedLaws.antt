@@ -13,17 +13,17 @@ use Rattle.pf_ints.specs.declared.lane.LaneType.{LaneType}
 use Rattle.pf_ints.specs.declared.lane.Bits.{Bits}
 use Rattle.pf_ints.specs.declared.lane.Bits.TheVariants.{Eight, Sixteen, ThirtyTwo}
 use Rattle.pf_values.specs.declared.names.Tap.{Tap}
-use Rattle.pf_values.specs.Meaning.Kernels.{lowest, highest, left_reach, right_reach, up_reach, down_reach, width_of, height_of, out_width, out_height}
+use Rattle.pf_values.specs.Meaning.Kernels.{Plane, Image, Flat, plane_ty, lowest, highest, left_reach, right_reach, up_reach, down_reach, width_of, height_of, out_width, out_height}
 use Rattle.pf_machine.specs.declared.program.Head.{Head}
 use Rattle.pf_machine.specs.declared.memory.Region.{Region}
 use Rattle.pf_machine.specs.Meaning.Memory.{Apart}
 use Rattle.pf_machine.specs.Meaning.Heads.{IsHead}
-use Rattle.pf_machine.specs.Meaning.Runs.{IsPlaced, IsAligned, pixel_bytes, pixels_in_memory, region, image_regions, memory, columns, rows, table_size, output_size}
+use Rattle.pf_machine.specs.Meaning.Runs.{IsPlaced, IsAligned, pixel_bytes, pixels_in_memory, plane_bytes, region, image_regions, memory, columns, rows, table_size, output_size}
 use Rattle.pf_machine.proofs.ByteLaws.{length-packed}
 use Rattle.pf_values.specs.declared.reach.Axis.{Axis}
 use Rattle.pf_values.specs.Meaning.Reach.{offset_along, least_offset, greatest_offset, extent}
 use Rattle.pf_machine.proofs.FileLaws.{zeros_are}
-use Rattle.pf_run.specs.Meaning.Placement.{start_behind, image_size, starts_from, start_after, run_places, blank_scratch, blank_output}
+use Rattle.pf_run.specs.Meaning.Placement.{start_behind, plane_size, starts_from, start_after, run_places, blank_scratch, blank_output}
 
 -- the regions lie one behind the other, from an address on and up to another
 abbrev Between : ℕ → ℕ → List Region → Type 0
@@ -60,9 +60,15 @@ behind_above end = omega arith
 pub behind_below : (end : ℕ) → start_behind end ≤ end + 8191
 behind_below end = omega arith
 
--- the bytes of an image
-length-pixels : (p : Picture) → IsPicture p → length (pixels_in_memory p.ty p.pixels) ≡ image_size p
-length-pixels p is = length-packed (pixel_bytes p.ty) p.pixels ∙ ap (λ n. pixel_bytes p.ty * n) is.count
+-- a plane within the limits
+abbrev pub IsLaid : Plane → Type 0
+IsLaid (Image p) = IsPicture p
+IsLaid (Flat ty v) = IsPixelType ty
+
+-- the bytes of a plane
+length-plane : (n : ℕ) (p : Plane) → IsLaid p → length (plane_bytes n p) ≡ plane_size n p
+length-plane n (Image p) is = length-packed (pixel_bytes p.ty) p.pixels ∙ ap (λ k. pixel_bytes p.ty * k) is.count
+length-plane n (Flat ty v) is = length-packed (pixel_bytes ty) (replicate n (unsigned_abs v)) ∙ ap (λ k. pixel_bytes ty * k) (length-replicate n (unsigned_abs v))
 
 at_most_two : (b : Bits) → bit_count b ≤ 16 → bit_count b / 8 ≤ 2
 at_most_two Eight low = omega arith
@@ -72,28 +78,29 @@ at_most_two ThirtyTwo low = absurd (omega arith)
 pub pixel_at_most_two : (ty : LaneType) → IsPixelType ty → pixel_bytes ty ≤ 2
 pixel_at_most_two ty is = at_most_two ty.bits is.narrow
 
-image_small : (p : Picture) → IsPicture p → image_size p ≤ 2 * 16777216
-image_small p is = mul-le (pixel_bytes p.ty) (p.width * p.height) 2 16777216 (pixel_at_most_two p.ty is.ty) is.most
+plane_small : (n : ℕ) (p : Plane) → n ≤ 8192 → IsLaid p → plane_size n p ≤ 2 * 16777216
+plane_small n (Image p) narrow is = mul-le (pixel_bytes p.ty) (p.width * p.height) 2 16777216 (pixel_at_most_two p.ty is.ty) is.most
+plane_small n (Flat ty v) narrow is = mul-le (pixel_bytes ty) n 2 16777216 (pixel_at_most_two ty is) (omega arith)
 
-images_between : (low start top : ℕ) (ps : List Picture) (out : Region) → low ≤ start → All IsPicture ps → out.start ≡ start_after start (map image_size ps) → out.start + length out.bytes ≤ top
-    → Between low top (image_regions (starts_from start (map image_size ps)) ps ++ out ∷ [])
-images_between low start top [] out behind are here ends = (omega arith, ends)
-images_between low start top (p ∷ ps) out behind are here ends =
-    let size : length (pixels_in_memory p.ty p.pixels) ≡ image_size p = length-pixels p (All-head IsPicture p ps are) in
-    let next : start + image_size p ≤ start_behind (start + image_size p) = behind_above (start + image_size p) in
-    (behind, images_between (start + length (pixels_in_memory p.ty p.pixels)) (start_behind (start + image_size p)) top ps out (rw size next) (All-tail IsPicture p ps are) here ends)
+planes_between : (n low start top : ℕ) (ps : List Plane) (out : Region) → low ≤ start → All IsLaid ps → out.start ≡ start_after start (map (plane_size n) ps) → out.start + length out.bytes ≤ top
+    → Between low top (image_regions n (starts_from start (map (plane_size n) ps)) ps ++ out ∷ [])
+planes_between n low start top [] out behind are here ends = (omega arith, ends)
+planes_between n low start top (p ∷ ps) out behind are here ends =
+    let size : length (plane_bytes n p) ≡ plane_size n p = length-plane n p (All-head IsLaid p ps are) in
+    let next : start + plane_size n p ≤ start_behind (start + plane_size n p) = behind_above (start + plane_size n p) in
+    (behind, planes_between n (start + length (plane_bytes n p)) (start_behind (start + plane_size n p)) top ps out (rw size next) (All-tail IsLaid p ps are) here ends)
 
-pub after_below : (start : ℕ) (ps : List Picture) → All IsPicture ps → start_after start (map image_size ps) ≤ start + 33562623 * length ps
-after_below start [] are = omega arith
-after_below start (p ∷ ps) are =
-    let small = image_small p (All-head IsPicture p ps are) in
-    let next : start_behind (start + image_size p) ≤ start + image_size p + 8191 = behind_below (start + image_size p) in
-    let rest = after_below (start_behind (start + image_size p)) ps (All-tail IsPicture p ps are) in
+pub after_below : (n start : ℕ) (ps : List Plane) → n ≤ 8192 → All IsLaid ps → start_after start (map (plane_size n) ps) ≤ start + 33562623 * length ps
+after_below n start [] narrow are = omega arith
+after_below n start (p ∷ ps) narrow are =
+    let small = plane_small n p narrow (All-head IsLaid p ps are) in
+    let next = behind_below (start + plane_size n p) in
+    let rest = after_below n (start_behind (start + plane_size n p)) ps narrow (All-tail IsLaid p ps are) in
     omega arith
 
-pub length-starts : (start : ℕ) (ps : List Picture) → length (starts_from start (map image_size ps)) ≡ length ps
-length-starts start [] = refl
-length-starts start (p ∷ ps) = ap suc (length-starts (start_behind (start + image_size p)) ps)
+length-starts : (n start : ℕ) (ps : List Plane) → length (starts_from start (map (plane_size n) ps)) ≡ length ps
+length-starts n start [] = refl
+length-starts n start (p ∷ ps) = ap suc (length-starts n (start_behind (start + plane_size n p)) ps)
 
 -- the size of the output
 lowest_low : (ns : List ℤ) → lowest ns ≤ℤ pos 0
@@ -114,33 +121,33 @@ within_size low high size below above some = omega (arith, ints)
 pub extent_within : (axis : Axis) (taps : List Tap) (size : ℕ) → pos 1 ≤ℤ extent axis taps size → unsigned_abs (extent axis taps size) ≤ size
 extent_within axis taps size some = within_size (least_offset axis taps) (greatest_offset axis taps) size (lowest_low (map (offset_along axis) taps)) (highest_high (map (offset_along axis) taps)) some
 
-module _ (taps : List Tap) (pictures : List Picture) where
-  pub columns_within : pos 1 ≤ℤ out_width taps pictures → unsigned_abs (out_width taps pictures) ≤ width_of pictures
-  columns_within some = within_size (left_reach taps) (right_reach taps) (width_of pictures) (lowest_low (map (λ t. t.dx) taps)) (highest_high (map (λ t. t.dx) taps)) some
+module _ (taps : List Tap) (planes : List Plane) where
+  pub columns_within : pos 1 ≤ℤ out_width taps planes → unsigned_abs (out_width taps planes) ≤ width_of planes
+  columns_within some = within_size (left_reach taps) (right_reach taps) (width_of planes) (lowest_low (map (λ t. t.dx) taps)) (highest_high (map (λ t. t.dx) taps)) some
 
-  pub rows_within : pos 1 ≤ℤ out_height taps pictures → unsigned_abs (out_height taps pictures) ≤ height_of pictures
-  rows_within some = within_size (up_reach taps) (down_reach taps) (height_of pictures) (lowest_low (map (λ t. t.dy) taps)) (highest_high (map (λ t. t.dy) taps)) some
+  pub rows_within : pos 1 ≤ℤ out_height taps planes → unsigned_abs (out_height taps planes) ≤ height_of planes
+  rows_within some = within_size (up_reach taps) (down_reach taps) (height_of planes) (lowest_low (map (λ t. t.dy) taps)) (highest_high (map (λ t. t.dy) taps)) some
 
-after_above : (start : ℕ) (ps : List Picture) → start ≤ start_after start (map image_size ps)
-after_above start [] = omega arith
-after_above start (p ∷ ps) =
-    let next : start + image_size p ≤ start_behind (start + image_size p) = behind_above (start + image_size p) in
-    let rest = after_above (start_behind (start + image_size p)) ps in
+after_above : (n start : ℕ) (ps : List Plane) → start ≤ start_after start (map (plane_size n) ps)
+after_above n start [] = omega arith
+after_above n start (p ∷ ps) =
+    let next : start + plane_size n p ≤ start_behind (start + plane_size n p) = behind_above (start + plane_size n p) in
+    let rest = after_above n (start_behind (start + plane_size n p)) ps in
     omega arith
 
-starts_below : (start top : ℕ) (ps : List Picture) → start_after start (map image_size ps) < top → All (λ a. a < top) (starts_from start (map image_size ps))
-starts_below start top [] below = All-nil (λ a. a < top)
-starts_below start top (p ∷ ps) below =
-    let next : start + image_size p ≤ start_behind (start + image_size p) = behind_above (start + image_size p) in
-    let rest = after_above (start_behind (start + image_size p)) ps in
+starts_below : (n start top : ℕ) (ps : List Plane) → start_after start (map (plane_size n) ps) < top → All (λ a. a < top) (starts_from start (map (plane_size n) ps))
+starts_below n start top [] below = All-nil (λ a. a < top)
+starts_below n start top (p ∷ ps) below =
+    let next : start + plane_size n p ≤ start_behind (start + plane_size n p) = behind_above (start + plane_size n p) in
+    let rest = after_above n (start_behind (start + plane_size n p)) ps in
     let here : start < top = omega arith in
-    All-cons (λ a. a < top) start (starts_from (start_behind (start + image_size p)) (map image_size ps)) here (starts_below (start_behind (start + image_size p)) top ps below)
+    All-cons (λ a. a < top) start (starts_from (start_behind (start + plane_size n p)) (map (plane_size n) ps)) here (starts_below n (start_behind (start + plane_size n p)) top ps below)
 
--- no images have no regions
-pub no_regions : (starts : List ℕ) (ps : List Picture) (rs : List Region) → length ps ≡ 0 → rs ≡ rs ++ image_regions starts ps
-no_regions [] ps rs none = sym (append-nil rs)
-no_regions (start ∷ starts) [] rs none = sym (append-nil rs)
-no_regions (start ∷ starts) (p ∷ ps) rs none = absurd (omega arith)
+-- no planes have no regions
+pub no_regions : (n : ℕ) (starts : List ℕ) (ps : List Plane) (rs : List Region) → length ps ≡ 0 → rs ≡ rs ++ image_regions n starts ps
+no_regions n [] ps rs none = sym (append-nil rs)
+no_regions n (start ∷ starts) [] rs none = sym (append-nil rs)
+no_regions n (start ∷ starts) (p ∷ ps) rs none = absurd (omega arith)
 
 -- aligned starts
 divides : (b : Bits) (n : ℕ) → n % 4096 ≡ 0 → n % (bit_count b / 8) ≡ 0
@@ -151,20 +158,20 @@ divides ThirtyTwo n whole = omega arith
 whole_behind : (end : ℕ) → start_behind end % 4096 ≡ 0
 whole_behind end = omega arith
 
-images_aligned : (start : ℕ) (ps : List Picture) → start % 4096 ≡ 0 → All (λ p. IsAligned p.1.ty p.0) (zip (starts_from start (map image_size ps)) ps)
-images_aligned start [] whole = All-nil (λ p. IsAligned p.1.ty p.0)
-images_aligned start (p ∷ ps) whole =
-    All-cons (λ p. IsAligned p.1.ty p.0) (start, p) (zip (starts_from (start_behind (start + image_size p)) (map image_size ps)) ps) (divides p.ty.bits start whole)
-    (images_aligned (start_behind (start + image_size p)) ps (whole_behind (start + image_size p)))
+images_aligned : (n start : ℕ) (ps : List Plane) → start % 4096 ≡ 0 → All (λ p. IsAligned (plane_ty p.1) p.0) (zip (starts_from start (map (plane_size n) ps)) ps)
+images_aligned n start [] whole = All-nil (λ p. IsAligned (plane_ty p.1) p.0)
+images_aligned n start (p ∷ ps) whole =
+    All-cons (λ p. IsAligned (plane_ty p.1) p.0) (start, p) (zip (starts_from (start_behind (start + plane_size n p)) (map (plane_size n) ps)) ps) (divides (plane_ty p).bits start whole)
+    (images_aligned n (start_behind (start + plane_size n p)) ps (whole_behind (start + plane_size n p)))
 
-after_aligned : (start : ℕ) (ps : List Picture) → start % 4096 ≡ 0 → start_after start (map image_size ps) % 4096 ≡ 0
-after_aligned start [] whole = whole
-after_aligned start (p ∷ ps) whole = after_aligned (start_behind (start + image_size p)) ps (whole_behind (start + image_size p))
+after_aligned : (n start : ℕ) (ps : List Plane) → start % 4096 ≡ 0 → start_after start (map (plane_size n) ps) % 4096 ≡ 0
+after_aligned n start [] whole = whole
+after_aligned n start (p ∷ ps) whole = after_aligned n (start_behind (start + plane_size n p)) ps (whole_behind (start + plane_size n p))
 
 -- the whole
-module _ (h : Head) (is : IsHead h) (pictures : List Picture) (are : All IsPicture pictures) (few : length pictures ≤ 8) (small : columns h pictures * rows h pictures ≤ 16777216) where
-  pub output_small : output_size h pictures ≤ 2 * 16777216
-  output_small = mul-le (pixel_bytes h.out_ty) (columns h pictures * rows h pictures) 2 16777216 (pixel_at_most_two h.out_ty is.out_ty) small
+module _ (h : Head) (is : IsHead h) (planes : List Plane) (are : All IsLaid planes) (few : length planes ≤ 8) (narrow : columns h planes ≤ 8192) (small : columns h planes * rows h planes ≤ 16777216) where
+  pub output_small : output_size h planes ≤ 2 * 16777216
+  output_small = mul-le (pixel_bytes h.out_ty) (columns h planes * rows h planes) 2 16777216 (pixel_at_most_two h.out_ty is.out_ty) small
 
   abbrev second : ℕ
   second = start_behind (65536 + table_size h)
@@ -173,12 +180,12 @@ module _ (h : Head) (is : IsHead h) (pictures : List Picture) (are : All IsPictu
   third = start_behind (second + h.scratch)
 
   abbrev begun : List Region
-  begun = memory pictures (run_places h pictures) (replicate (table_size h) 0) (blank_scratch h) (blank_output h pictures)
+  begun = memory (columns h planes) planes (run_places h planes) (replicate (table_size h) 0) (blank_scratch h) (blank_output h planes)
 
-  pub output_end : start_after third (map image_size pictures) + length (blank_output h pictures) ≤ 2147483647
+  pub output_end : start_after third (map (plane_size (columns h planes)) planes) + length (blank_output h planes) ≤ 2147483647
   output_end =
-      let after : start_after third (map image_size pictures) ≤ third + 33562623 * length pictures = after_below third pictures are in
-      let output : length (blank_output h pictures) ≡ output_size h pictures = length-replicate (output_size h pictures) 0 in
+      let after : start_after third (map (plane_size (columns h planes)) planes) ≤ third + 33562623 * length planes = after_below (columns h planes) third planes narrow are in
+      let output : length (blank_output h planes) ≡ output_size h planes = length-replicate (output_size h planes) 0 in
       let some_taps = is.few_taps in
       let some_scratch = is.scratch in
       let high_second : second ≤ 65536 + table_size h + 8191 = behind_below (65536 + table_size h) in
@@ -188,27 +195,27 @@ module _ (h : Head) (is : IsHead h) (pictures : List Picture) (are : All IsPictu
 
   between : Between 65536 2147483647 begun
   between =
-      let out = region (start_after third (map image_size pictures)) (blank_output h pictures) true in
+      let out = region (start_after third (map (plane_size (columns h planes)) planes)) (blank_output h planes) true in
       let table : length (replicate {A = ℕ} (table_size h) 0) ≡ table_size h = length-replicate (table_size h) 0 in
       let scratch : length (blank_scratch h) ≡ h.scratch = length-replicate h.scratch 0 in
       let low_second : 65536 + table_size h ≤ second = behind_above (65536 + table_size h) in
       let low_third : second + h.scratch ≤ third = behind_above (second + h.scratch) in
-      (omega arith, (rw table low_second, images_between (second + length (blank_scratch h)) third 2147483647 pictures out (rw scratch low_third) are refl output_end))
+      (omega arith, (rw table low_second, planes_between (columns h planes) (second + length (blank_scratch h)) third 2147483647 planes out (rw scratch low_third) are refl output_end))
 
-  pub output_low : (run_places h pictures).output < 2 ^ 31
+  pub output_low : (run_places h planes).output < 2 ^ 31
   output_low = let end = output_end in omega arith
 
-  pub images_low : All (λ start. start < 2 ^ 31) (run_places h pictures).images
-  images_low = starts_below third (2 ^ 31) pictures output_low
+  pub images_low : All (λ start. start < 2 ^ 31) (run_places h planes).images
+  images_low = starts_below (columns h planes) third (2 ^ 31) planes output_low
 
-  pub placed : IsPlaced h pictures (run_places h pictures) (blank_scratch h) (blank_output h pictures)
+  pub placed : IsPlaced h planes (run_places h planes) (blank_scratch h) (blank_output h planes)
   placed = record {
-    image_count = length-starts third pictures;
+    image_count = length-starts (columns h planes) third planes;
     scratch_bytes = zeros_are h.scratch;
-    output_bytes = zeros_are (output_size h pictures);
+    output_bytes = zeros_are (output_size h planes);
     apart = apart 65536 2147483647 begun between;
     low = All-weaker (λ r. r.start + length r.bytes ≤ 2147483647) (λ r. r.start + length r.bytes < 2 ^ 31) (λ r below. omega arith) begun (ends_below 65536 2147483647 begun between);
-    aligned = images_aligned third pictures (whole_behind (second + h.scratch));
-    aligned_output = divides h.out_ty.bits (start_after third (map image_size pictures)) (after_aligned third pictures (whole_behind (second + h.scratch)));
+    aligned = images_aligned (columns h planes) third planes (whole_behind (second + h.scratch));
+    aligned_output = divides h.out_ty.bits (start_after third (map (plane_size (columns h planes)) planes)) (after_aligned (columns h planes) third planes (whole_behind (second + h.scratch)));
     aligned_table = omega arith;
   }

@@ -1,2 +1,3 @@
+pub mod Planes
 pub mod Rows
 pub mod Pixels

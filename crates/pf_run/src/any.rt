@@ -12,7 +12,7 @@ use crate::fault::RunFault;
 use crate::program::run_program;
 use pf_avx2::Avx2;
 use pf_hvx::Hvx;
-use pf_ints::{Image, ImageSet, Target};
+use pf_ints::{Image, ImageSet, NumberList, Target};
 use pf_isa::{Head, Program, TextFault, TextKind, read_text, target_of};
 use pf_neon::Neon;
 use std::alloc::Global;
@@ -102,14 +102,19 @@ pub fn read_any(alloc: Global, text: &[u8]) -> Result<AnyProgram, TextFault>
     }
 }
 
-/// Runs the program on the images, as `run_program` does. It has less than 2^31 instructions.
-pub fn run_any(alloc: Global, program: AnyProgram, images: &ImageSet) -> Result<Image, RunFault>
+/// Runs the program on images and values of its parameters, as `run_program` does. It has less than 2^31 instructions.
+pub fn run_any(
+    alloc: Global,
+    program: AnyProgram,
+    images: &ImageSet,
+    values: &NumberList,
+) -> Result<Image, RunFault>
     requires { IsShort program }
-    ensures { RanAny program images.now result }
+    ensures { RanAny program images.now values.now result }
 {
     match program {
-        AnyProgram::Neon(program) => run_program::<Neon>(alloc, program, images),
-        AnyProgram::Avx2(program) => run_program::<Avx2>(alloc, program, images),
-        AnyProgram::Hvx(program) => run_program::<Hvx>(alloc, program, images),
+        AnyProgram::Neon(program) => run_program::<Neon>(alloc, program, images, values),
+        AnyProgram::Avx2(program) => run_program::<Avx2>(alloc, program, images, values),
+        AnyProgram::Hvx(program) => run_program::<Hvx>(alloc, program, images, values),
     }
 }

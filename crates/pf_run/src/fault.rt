@@ -1,17 +1,27 @@
-//! Why images are no input of a kernel, and why a run gives no image.
+//! Why images and values are no input of a kernel, and why a run gives no image.
 
 ghost use Rattle.std.specs.Prelude.{◌≡◌};
 
 use pf_isa::TextKind;
 use std::alloc::{AllocError, AllocFailed};
 
-/// What is wrong with a set of images. Images are counted from 0.
+/// What is wrong with images and values of parameters. Both are counted from 0.
 #[derive(Clone, Copy, Debug, PartialEq, Eq)]
 pub enum SetFault {
     /// How many images are declared, and how many there are, up to 2^32 - 1.
     Count {
         want: u32,
         got: u32,
+    },
+    /// How many parameters are declared, and how many values there are, up to 2^32 - 1.
+    Values {
+        want: u32,
+        got: u32,
+    },
+    /// The first value that is out of the range of its parameter.
+    Value {
+        param: u32,
+        value: i128,
     },
     /// The image isn't of the declared type.
     Kind {
@@ -40,7 +50,7 @@ pub enum SetFault {
 pub enum RunFault {
     /// What is wrong with the text, and in which line, counted from 1.
     Text { line: u64, kind: TextKind },
-    /// The images aren't such as the program asks for.
+    /// Images and values aren't such as the program asks for.
     Set(SetFault),
     /// The instruction of this number, counted from 1, loads or stores so many bytes at the
     /// address, which don't all lie in one region that allows it.
@@ -74,7 +84,7 @@ impl<T: Drop> From<AllocFailed<T>> for RunFault {
 /// Why an evaluation gives no image.
 #[derive(Clone, Copy, Debug, PartialEq, Eq)]
 pub enum EvalFault {
-    /// The images aren't such as the kernel asks for.
+    /// Images and values aren't such as the kernel asks for.
     Set(SetFault),
     /// Memory ran out.
     Memory,

@@ -7,8 +7,9 @@ ghost use Rattle.pf_run.specs.Steps.Rows.{IsPlan, IsPlanOf};
 ghost use Rattle.pf_values.specs.Meaning.Kernels.{KeepsSet};
 
 use crate::places::{Starts, run_starts};
+use crate::planes::Plane;
 use crate::reach::{Reach, reach_of};
-use pf_ints::{Duplicate, Image, LaneType, Memory};
+use pf_ints::{Duplicate, LaneType, Memory};
 use pf_isa::Head;
 use pf_terms::TapList;
 use std::alloc::Global;
@@ -36,23 +37,23 @@ pub fn row_budget(instructions: u64, taps: u64, pixels: u64) -> u64
     (instructions + 1) * (pixels + 8) + 4096 * (taps + 2)
 }
 
-/// The plan of the rows of a program of this head and so many instructions, on these images.
+/// The plan of the rows of a program of this head and so many instructions, on these planes.
 pub fn plan_of(
     alloc: Global,
     head: &Head,
     instructions: u64,
-    images: &[Image],
+    planes: &[Plane<'_>],
 ) -> Result<Plan, Memory>
     requires head { IsHead head.now }
     requires short { instructions < 2 ^ 31 }
-    requires keeps { KeepsSet head.now.images head.now.taps images.now }
-    ensures plan { IfOk result (λ plan. IsPlan images.now plan) }
-    ensures program { IfOk result (λ plan. IsPlanOf head.now instructions images.now plan) }
+    requires keeps { KeepsSet head.now.images head.now.taps planes.now }
+    ensures plan { IfOk result (λ plan. IsPlan planes.now plan) }
+    ensures program { IfOk result (λ plan. IsPlanOf head.now instructions planes.now plan) }
 {
     let taps = head.taps.as_slice();
-    let reach = reach_of(taps, images);
+    let reach = reach_of(taps, planes);
     let budget = row_budget(instructions, taps.len() as u64, u64::from(reach.columns));
-    let starts = run_starts(alloc, head, images)?;
+    let starts = run_starts(alloc, head, reach.columns, planes)?;
     let taps = head.taps.copy(alloc)?;
     Ok(Plan {
         taps,

@@ -1,10 +1,10 @@
-//! Runs of programs on images.
+//! Runs of programs on images and values of parameters.
 
 ghost use Rattle.std.specs.Prelude.{◌≡◌, ◌+◌, ◌*◌, ◌<◌, ◌≤◌, ◌^◌, length, slice_index_or, IfOk};
 ghost use Rattle.pf_ints.specs.Meaning.Images.{IsPicture, IsPixelType};
 ghost use Rattle.pf_machine.specs.Meaning.Memory.{nowhere};
 ghost use Rattle.pf_machine.specs.Meaning.Runs.{pixel_bytes, pixels_in_memory};
-ghost use Rattle.pf_run.specs.Meaning.Answers.{Ran};
+ghost use Rattle.pf_run.specs.Meaning.Answers.{Ran, RanOn};
 ghost use Rattle.pf_run.specs.Meaning.Placement.{blank_memory, run_places};
 ghost use Rattle.pf_run.specs.Steps.Rows.{HasOutputAt, IsPlan, IsPlanOf};
 ghost use Rattle.pf_values.specs.Meaning.Kernels.{KeepsSet};
@@ -13,9 +13,10 @@ use crate::fault::RunFault;
 use crate::output::image_in_memory;
 use crate::places::run_regions;
 use crate::plan::{Plan, plan_of};
+use crate::planes::{Plane, planes_of};
 use crate::rows::run_rows;
 use crate::set::judge_set;
-use pf_ints::{Image, ImageSet, Memory};
+use pf_ints::{Image, ImageSet, Memory, NumberList};
 use pf_isa::{Isa, Machine, Program};
 use std::alloc::Global;
 
@@ -61,58 +62,67 @@ fn machine_of<I: Isa>(
     alloc: Global,
     program: Program<I>,
     plan: &Plan,
-    images: &[Image],
+    planes: &[Plane<'_>],
 ) -> Result<Machine<I>, Memory>
-    requires keeps { KeepsSet program.head.images program.head.taps images.now }
-    requires plan { IsPlan images.now plan.now }
-    requires program { IsPlanOf program.head (length program.code) images.now plan.now }
+    requires keeps { KeepsSet program.head.images program.head.taps planes.now }
+    requires plan { IsPlan planes.now plan.now }
+    requires program { IsPlanOf program.head (length program.code) planes.now plan.now }
     ensures text { IfOk result (λ m. m.text ≡ program) }
-    ensures regions { IfOk result (λ m. m.state.regions ≡ blank_memory program.head images.now (run_places program.head images.now)) }
+    ensures regions { IfOk result (λ m. m.state.regions ≡ blank_memory program.head planes.now (run_places program.head planes.now)) }
 {
     let regions = run_regions(
         alloc,
         program.head(),
-        images,
+        planes,
         &plan.starts,
+        plan.reach.columns,
         output_size(plan),
     )?;
     Machine::new(alloc, program, regions)
 }
 
-/// Runs the program on images that are such as it asks for.
-fn run_kept<I: Isa>(alloc: Global, program: Program<I>, images: &[Image]) -> Result<Image, RunFault>
-    requires keeps { KeepsSet program.head.images program.head.taps images.now }
-    requires few { length images.now ≤ 8 }
+/// Runs the program on planes that are such as it asks for.
+fn run_kept<I: Isa>(
+    alloc: Global,
+    program: Program<I>,
+    planes: &[Plane<'_>],
+) -> Result<Image, RunFault>
+    requires keeps { KeepsSet program.head.images program.head.taps planes.now }
+    requires few { length planes.now ≤ 8 }
     requires short { length program.code < 2 ^ 31 }
-    ensures { Ran I.table program images.now result }
+    ensures { RanOn I.table program planes.now result }
 {
     let instructions = program.code().len() as u64;
-    let plan = plan_of(alloc, program.head(), instructions, images)?;
-    let mut machine = machine_of(alloc, program, &plan, images)?;
-    if let Err(fault) = run_rows(alloc, &mut machine, &plan, images) {
+    let plan = plan_of(alloc, program.head(), instructions, planes)?;
+    let mut machine = machine_of(alloc, program, &plan, planes)?;
+    if let Err(fault) = run_rows(alloc, &mut machine, &plan, planes) {
         return Err(fault);
     }
-    let image = output_image(alloc, &machine, &plan, images.len() as u32 + 2)?;
+    let image = output_image(alloc, &machine, &plan, planes.len() as u32 + 2)?;
     Ok(image)
 }
 
-/// Runs the program on the images, row by row, and gives the output.
+/// Runs the program on images and values of its parameters, row by row, and gives the output.
 ///
-/// The regions are the table, the scratch, the images in order and the output. The first starts at
-/// 65536, and each further one at the least multiple of 4096 that is at least 4096 past the end of
-/// the one before. Scratch and output start as zeros. A row has a budget of
-/// `(I+1)*(n+8) + 4096*(T+2)` steps, for I instructions, n pixels of a row and T taps.
+/// The regions are the table, the scratch, the images in order, for each parameter a row of the
+/// output's width that holds its value at each pixel, and the output. The first starts at 65536, and
+/// each further one at the least multiple of 4096 that is at least 4096 past the end of the one
+/// before. Scratch and output start as zeros. A row has a budget of `(I+1)*(n+8) + 4096*(T+2)`
+/// steps, for I instructions, n pixels of a row and T taps.
 pub fn run_program<I: Isa>(
     alloc: Global,
     program: Program<I>,
     images: &ImageSet,
+    values: &NumberList,
 ) -> Result<Image, RunFault>
     requires { length program.code < 2 ^ 31 }
-    ensures { Ran I.table program images.now result }
+    ensures { Ran I.table program images.now values.now result }
 {
     let head = program.head();
-    if let Some(fault) = judge_set(head.images.as_slice(), head.taps.as_slice(), images) {
+    let decls = head.images.as_slice();
+    if let Some(fault) = judge_set(decls, head.taps.as_slice(), images, values) {
         return Err(RunFault::Set(fault));
     }
-    run_kept(alloc, program, images.as_slice())
+    let planes = planes_of(alloc, decls, images.as_slice(), values.as_slice())?;
+    run_kept(alloc, program, &planes)
 }

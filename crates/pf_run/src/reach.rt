@@ -1,12 +1,10 @@
 //! How far taps reach, and where their pixels stand.
 
 ghost use Rattle.std.specs.Prelude.{◌≡◌, ◌+◌, ◌*◌, ◌<◌, ◌≤◌, ◌^◌, ◌+ℤ◌, ◌-ℤ◌, ◌≤ℤ◌, pos, unsigned_abs, All};
-ghost use Rattle.pf_ints.specs.Meaning.Images.{IsPicture};
-ghost use Rattle.pf_values.specs.Meaning.Kernels.{out_width, out_height};
+ghost use Rattle.pf_values.specs.Meaning.Kernels.{IsPlane, out_width, out_height};
 ghost use Rattle.pf_run.specs.Steps.Pixels.{IsReach};
 
-use crate::set::size_of;
-use pf_ints::Image;
+use crate::planes::{Plane, size_of};
 use pf_terms::{Axis, Tap, extent, least_offset};
 
 /// How far taps reach, and the size of the output.
@@ -22,14 +20,14 @@ pub struct Reach {
     pub rows: u32,
 }
 
-/// The reach of the taps on images of one size, where the output has a pixel.
-pub fn reach_of(taps: &[Tap], images: &[Image]) -> Reach
-    requires limits { All IsPicture images.now }
-    requires wide { pos 1 ≤ℤ out_width taps.now images.now }
-    requires high { pos 1 ≤ℤ out_height taps.now images.now }
-    ensures { IsReach taps.now images.now result }
+/// The reach of the taps on planes of one size, where the output has a pixel.
+pub fn reach_of(taps: &[Tap], planes: &[Plane<'_>]) -> Reach
+    requires limits { All IsPlane planes.now }
+    requires wide { pos 1 ≤ℤ out_width taps.now planes.now }
+    requires high { pos 1 ≤ℤ out_height taps.now planes.now }
+    ensures { IsReach taps.now planes.now result }
 {
-    let (width, height) = size_of(images);
+    let (width, height) = size_of(planes);
     let columns = extent(Axis::Columns, taps, width) as u32;
     let rows = extent(Axis::Rows, taps, height) as u32;
     let left = least_offset(Axis::Columns, taps);

@@ -11,8 +11,9 @@ ghost use Rattle.pf_run.specs.Steps.Rows.{IsPlan, IsPlanOf, RowAnswers, RowsAnsw
 use crate::fault::RunFault;
 use crate::places::TABLE;
 use crate::plan::Plan;
+use crate::planes::{Kind, Plane};
 use crate::reach::{distance, pixel_number};
-use pf_ints::{Image, Memory};
+use pf_ints::Memory;
 use pf_isa::{Isa, Machine, Trap};
 use pf_terms::Tap;
 use std::alloc::Global;
@@ -27,35 +28,41 @@ fn pixel_address(start: u64, bytes: u64, n: u64) -> u64
     start + bytes * n
 }
 
-/// The address of the tap's pixel at column 0 of row y of the output.
-fn tap_address(plan: &Plan, images: &[Image], y: u32, tap: &Tap) -> u64
-    requires plan { IsPlan images.now plan.now }
-    requires image { tap.now.image < length images.now }
+/// The address of the tap's pixel at column 0 of row y of the output, or of its parameter's row.
+fn tap_address(plan: &Plan, planes: &[Plane<'_>], y: u32, tap: &Tap) -> u64
+    requires plan { IsPlan planes.now plan.now }
+    requires image { tap.now.image < length planes.now }
     requires row { y < 8192 }
-    ensures { result ≡ tap_address plan.now.taps images.now (places_of plan.now.starts).images y tap.now }
+    ensures { result ≡ tap_address plan.now.taps planes.now (places_of plan.now.starts).images y tap.now }
 {
     let number = usize::from(tap.image);
-    let image = &images[number];
-    let column = distance(0, plan.reach.left, tap.dx);
-    let row = distance(y, plan.reach.up, tap.dy);
-    let n = pixel_number(image.width(), row, column);
-    pixel_address(plan.starts.images[number], u64::from(image.ty().bytes()), n)
+    let start = plan.starts.images[number];
+    let plane = &planes[number];
+    match &plane.kind {
+        Kind::Image(image) => {
+            let column = distance(0, plan.reach.left, tap.dx);
+            let row = distance(y, plan.reach.up, tap.dy);
+            let n = pixel_number(image.width(), row, column);
+            pixel_address(start, u64::from(image.ty().bytes()), n)
+        }
+        Kind::Flat { .. } => start,
+    }
 }
 
 /// Puts the table of row y in place of the entries.
 fn write_entries(
     plan: &Plan,
-    images: &[Image],
+    planes: &[Plane<'_>],
     y: u32,
     entries: &mut Vec<u64>,
 ) -> Result<(), Memory>
-    requires plan { IsPlan images.now plan.now }
+    requires plan { IsPlan planes.now plan.now }
     requires row { y < 8192 }
-    ensures { OnOk result (entries.new.items ≡ entries_of plan.now.taps plan.now.out_ty images.now (places_of plan.now.starts) y) }
+    ensures { OnOk result (entries.new.items ≡ entries_of plan.now.taps plan.now.out_ty planes.now (places_of plan.now.starts) y) }
 {
     entries.clear();
     'taps: for tap in plan.taps.as_slice() {
-        entries.push(tap_address(plan, images, y, tap))?;
+        entries.push(tap_address(plan, planes, y, tap))?;
     }
     let n = pixel_number(plan.reach.columns, y, 0);
     entries.push(pixel_address(plan.starts.output, u64::from(plan.out_ty.bytes()), n))?;
@@ -93,18 +100,18 @@ pub fn run_rows<I: Isa>(
     alloc: Global,
     machine: &mut Machine<I>,
     plan: &Plan,
-    images: &[Image],
+    planes: &[Plane<'_>],
 ) -> Result<(), RunFault>
-    requires plan { IsPlan images.now plan.now }
-    requires program { IsPlanOf machine.old.text.head (length machine.old.text.code) images.now plan.now }
-    requires ready { MayRun machine.old.text images.now }
-    requires begun { machine.old.state.regions ≡ blank_memory machine.old.text.head images.now (run_places machine.old.text.head images.now) }
-    ensures value { RowsAnswer (run_end I.table machine.old.text images.now) plan.now.budget result machine.new.state.regions }
+    requires plan { IsPlan planes.now plan.now }
+    requires program { IsPlanOf machine.old.text.head (length machine.old.text.code) planes.now plan.now }
+    requires ready { MayRun machine.old.text planes.now }
+    requires begun { machine.old.state.regions ≡ blank_memory machine.old.text.head planes.now (run_places machine.old.text.head planes.now) }
+    ensures value { RowsAnswer (run_end I.table machine.old.text planes.now) plan.now.budget result machine.new.state.regions }
     ensures text { machine.new.text ≡ machine.old.text }
 {
     let mut entries = Vec::with_capacity(alloc, plan.taps.len() + 3)?;
     'rows: for y in 0..plan.reach.rows {
-        write_entries(plan, images, y, &mut entries)?;
+        write_entries(plan, planes, y, &mut entries)?;
         if let Err(fault) = run_row(machine, &entries, plan.budget) {
             return Err(fault);
         }

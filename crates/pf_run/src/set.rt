@@ -1,12 +1,14 @@
-//! What is wrong with a set of images.
+//! What is wrong with images and values of parameters.
 
-ghost use Rattle.std.specs.Prelude.{◌≡◌, ◌+◌, ◌≤◌, ◌<◌, ◌^◌, ◌↔◌, length, zip, All, IsTrue, MatchOption, IfSome};
+ghost use Rattle.std.specs.Prelude.{◌≡◌, ◌≢◌, ◌+◌, ◌≤◌, ◌<◌, ◌^◌, ◌↔◌, min, ℕ, ℤ, ◌-◌, length, map, zip, All, IsTrue, MatchOption, IfSome};
 ghost use Rattle.pf_ints.specs.Meaning.Images.{IsPicture};
-ghost use Rattle.pf_values.specs.Meaning.Kernels.{KeepsRange, KeepsSet, width_of, height_of};
-ghost use Rattle.pf_run.specs.Meaning.Sets.{HasOutput, IsFirstBadImage, IsImageFault, IsInRange, IsSetFault, Suits};
+ghost use Rattle.pf_machine.specs.Meaning.Heads.{flats};
+ghost use Rattle.pf_values.specs.Meaning.Kernels.{Image as ImagePlane, AreInOrder, KeepsSet, flat_decls, planes_of, width_of, height_of};
+ghost use Rattle.pf_run.specs.Meaning.Sets.{AllSuit, HasOutput, IsFirstBadImage, IsFirstBadValue, IsImageFault, IsInRange, IsSetFault, IsValueOf, IsValuesFault, KeepsValues, Suits};
 
 use crate::fault::SetFault;
-use pf_ints::{Image, ImageSet};
+use crate::planes::split_decls;
+use pf_ints::{Image, ImageSet, NumberList};
 use pf_terms::{Axis, ImageDecl, Tap, extent};
 
 /// The fault of the first pixel, row by row, that is out of the declared range, where the image
@@ -79,9 +81,9 @@ fn judge_each(
 }
 
 /// The size of the first image, or 0 by 0 where there is none.
-pub fn size_of(set: &[Image]) -> (u32, u32)
-    ensures width { result.0 ≡ width_of set.now }
-    ensures height { result.1 ≡ height_of set.now }
+fn size_of(set: &[Image]) -> (u32, u32)
+    ensures width { result.0 ≡ width_of (map (λ p. ImagePlane p) set.now) }
+    ensures height { result.1 ≡ height_of (map (λ p. ImagePlane p) set.now) }
 {
     match set {
         [] => (0, 0),
@@ -91,30 +93,85 @@ pub fn size_of(set: &[Image]) -> (u32, u32)
 
 /// Whether the output has a pixel.
 fn has_output(taps: &[Tap], set: &[Image]) -> bool
-    ensures { IsTrue result ↔ HasOutput taps.now set.now }
+    ensures { IsTrue result ↔ HasOutput taps.now (map (λ p. ImagePlane p) set.now) }
 {
     let (width, height) = size_of(set);
     extent(Axis::Columns, taps, width) >= 1 && extent(Axis::Rows, taps, height) >= 1
 }
 
-/// What is wrong with a set of images for a kernel of these images and taps, or None where nothing
-/// is: another number of images; then, image by image, another type than the declared one, another
-/// size than the first image's, or the first pixel, row by row, out of the declared range; then that
-/// the output has no pixel.
-pub fn judge_set(images: &[ImageDecl], taps: &[Tap], set: &ImageSet) -> Option<SetFault>
-    requires { length images.now ≤ 8 }
-    ensures judged { MatchOption result (KeepsSet images.now taps.now set.now) (IsSetFault images.now taps.now set.now) }
-    ensures refused { IfSome result (λ _. KeepsSet images.now taps.now set.now → ⊥) }
+/// The first value that is out of the range of its parameter.
+fn first_bad(decls: &[ImageDecl], values: &[i128]) -> Option<SetFault>
+    requires few { length decls.now ≤ 8 }
+    requires count { length values.now ≡ length decls.now }
+    ensures { MatchOption result (All (λ q. IsValueOf q.0 q.1) (zip decls.now values.now))
+        (λ fault. (param : ℕ) × (value : ℤ) × (fault ≡ SetFault.Value param value) × IsFirstBadValue decls.now values.now param value) }
 {
-    let set = set.as_slice();
-    if set.len() != images.len() {
+    for (param, decl) in decls.iter().enumerate() {
+        let value = values[param];
+        if value < i128::from(decl.lo) || i128::from(decl.hi) < value {
+            return Some(SetFault::Value {
+                param: param as u32,
+                value,
+            });
+        }
+    }
+    None
+}
+
+/// A number of things, up to 2^32 - 1.
+fn told(count: usize) -> u32
+    ensures { result ≡ min count (2 ^ 32 - 1) }
+{
+    u32::try_from(count).unwrap_or(u32::MAX)
+}
+
+/// What is wrong with so many images and these values for a kernel of these images and parameters,
+/// or None where nothing is: another number of images, another number of values, or the first value
+/// that is out of the range of its parameter.
+pub fn judge_values(images: &[ImageDecl], count: usize, values: &NumberList) -> Option<SetFault>
+    requires few { length images.now ≤ 8 }
+    requires order { AreInOrder (flats images.now) }
+    ensures { MatchOption result (KeepsValues images.now count values.now) (IsValuesFault images.now count values.now) }
+{
+    let (pictures, parameters) = split_decls(images);
+    let values = values.as_slice();
+    if count != pictures.len() {
         return Some(SetFault::Count {
-            want: images.len() as u32,
-            got: u32::try_from(set.len()).unwrap_or(u32::MAX),
+            want: pictures.len() as u32,
+            got: told(count),
         });
     }
+    if values.len() != parameters.len() {
+        return Some(SetFault::Values {
+            want: parameters.len() as u32,
+            got: told(values.len()),
+        });
+    }
+    first_bad(parameters, values)
+}
+
+/// What is wrong with images and values for a kernel of these images, parameters and taps, or None
+/// where nothing is: what `judge_values` tells; then, image by image, another type than the declared
+/// one, another size than the first image's, or the first pixel, row by row, out of the declared
+/// range; then that the output has no pixel.
+pub fn judge_set(
+    images: &[ImageDecl],
+    taps: &[Tap],
+    set: &ImageSet,
+    values: &NumberList,
+) -> Option<SetFault>
+    requires few { length images.now ≤ 8 }
+    requires order { AreInOrder (flats images.now) }
+    ensures judged { MatchOption result (KeepsSet images.now taps.now (planes_of images.now set.now values.now)) (IsSetFault images.now taps.now set.now values.now) }
+    ensures refused { IfSome result (λ _. KeepsSet images.now taps.now (planes_of images.now set.now values.now) → ⊥) }
+{
+    let set = set.as_slice();
+    if let Some(fault) = judge_values(images, set.len(), values) {
+        return Some(fault);
+    }
+    let (pictures, _) = split_decls(images);
     let (width, height) = size_of(set);
-    if let Some(fault) = judge_each(width, height, 0, images, set) {
+    if let Some(fault) = judge_each(width, height, 0, pictures, set) {
         return Some(fault);
     }
     if has_output(taps, set) {

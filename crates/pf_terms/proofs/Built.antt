@@ -1,16 +1,17 @@
 -- A node that is built over its operands.
-use Rattle.std.proofs.Common.{◌≡◌, sym, ap, ◌∙◌, subst, ℕ, ◌+◌, ◌<◌, ◌≤◌, Bool, false, ℤ, pos, List, [], ◌∷◌, ◌++◌, length, map, get_or, drop, take, arith}
-use Rattle.std.specs.Prelude.{Option, Some, None, Result, Ok, Err, unsigned_abs, slice_index_or}
+use Rattle.std.proofs.Common.{◌≡◌, sym, ap, ◌∙◌, subst, ℕ, ◌+◌, ◌<◌, ◌≤◌, Bool, true, false, ℤ, pos, List, [], ◌∷◌, ◌++◌, length, map, get_or, drop, take, arith}
+use Rattle.std.specs.Prelude.{if◌then◌else◌, Option, Some, None, Result, Ok, Err, unsigned_abs, slice_index_or}
 use Rattle.std.proofs.lemmas.List.{length-map, drop_all, take_more, take_all}
 use Rattle.pf_ints.specs.declared.lane.LaneType.{LaneType}
 use Rattle.pf_ints.specs.Meaning.Lanes.{lane_width}
 use Rattle.pf_terms.specs.declared.parse.syntax_tree.SyntaxTree.{SyntaxTree}
-use Rattle.pf_terms.specs.declared.parse.syntax_tree.SyntaxTree.TheVariants.{Node, Tap}
+use Rattle.pf_terms.specs.declared.parse.syntax_tree.SyntaxTree.TheVariants.{Node, Tap, Name}
 use Rattle.pf_values.specs.declared.fault.TermFault.{TermFault}
 use Rattle.pf_values.specs.declared.fault.TermFault.TheVariants.{Types as TypesAt, Amount as AmountAt}
 use Rattle.pf_terms.specs.declared.resolve.NodeFault.{NodeFault}
 use Rattle.pf_terms.specs.declared.resolve.NodeFault.TheVariants.{Types, Amount, Memory}
 use Rattle.pf_values.specs.declared.names.Names.{Names}
+use Rattle.pf_values.specs.declared.names.Tap.{Tap as TapIs}
 use Rattle.pf_values.specs.declared.op.Op.{Op}
 use Rattle.pf_values.specs.declared.row.Operands.{Operands}
 use Rattle.pf_values.specs.declared.row.Operands.TheVariants.{One, OneSigned, Alike, Narrow, WideFirst, Choice}
@@ -18,14 +19,14 @@ use Rattle.pf_values.specs.declared.term.Leaf.TheVariants.{Tap as TapOf}
 use Rattle.pf_values.specs.declared.term.Term.{Term}
 use Rattle.pf_values.specs.declared.term.Term.TheVariants.{Leaf, Node as NodeTerm}
 use Rattle.pf_values.specs.Meaning.Operators.{Row, row_of}
-use Rattle.pf_terms.specs.Steps.Building.{IsNodeFault, IsFound, place_in_order}
-use Rattle.pf_terms.specs.Meaning.Meanings.{in_order, term_of, node_over, written_type, tap_at, tap_number, image_number}
+use Rattle.pf_terms.specs.Steps.Building.{IsNodeFault, IsFound, place_in_order, with_these}
+use Rattle.pf_terms.specs.Meaning.Meanings.{in_order, term_of, node_over, written_type, tap_at, tap_number, image_number, is_param, tap_leaf, def_leaf, name_leaf}
 use Rattle.pf_values.specs.Meaning.Terms.{node_type, type_fault, is_amount, first_width, unless_differs, operand_count, typing, types_from, then_node, fault_below, result_type, stated_type}
 use Rattle.pf_values.specs.Meaning.NamedTerms.{no_image}
-use Rattle.pf_terms.proofs.TreeForms.{term_placed}
+use Rattle.pf_terms.proofs.TreeForms.{term_named, term_placed}
 use Rattle.pf_values.proofs.NodeParts.{typing_is}
 use Rattle.pf_values.proofs.Typing.{behind, stopped, gather, gathered}
-use Rattle.pf_values.proofs.TermRanges.{typing_stated, gathered_types, first_type}
+use Rattle.pf_values.proofs.TermRanges.{stated_leaf, typing_leaf, typing_stated, gathered_types, first_type}
 use Rattle.pf_terms.proofs.Lookups.{HasPair, length_in_order}
 use Rattle.pf_terms.proofs.TreeParts.{term_is, operand_at, get_operand}
 
@@ -150,6 +151,16 @@ made_more names less xs n x before now t pair below at is so_far more =
     let all = in_order less (map (term_of names) xs) in
     let long : length all ≡ length xs = length_in_order less (map (term_of names) xs) ∙ length-map xs (term_of names) in
     more ∙ ap (λ ys. ys ++ t ∷ []) so_far ∙ ap (λ y. take n all ++ y ∷ []) (is ∙ sym (get_operand (term_of names) less xs n x (term_of names x) pair below at)) ∙ sym (take_more all n (term_of names x) (omega (arith, long)))
+
+-- the leaf of a bare name has its type, whatever the taps are
+pub named_typed : (names : Names) (taps others : List TapIs) (d : SyntaxTree) (s : List ℕ) (t : Term) → d ≡ Name s → t ≡ name_leaf (with_these names taps) s →
+    typing (term_of (with_these names others) d) ≡ Ok (stated_type t)
+named_typed names taps others d s t is made =
+    ap (λ x. typing (term_of (with_these names others) x)) is ∙ ap typing (term_named (with_these names others) s) ∙ by (is_param names.images s) ∙ ap (λ u. Ok (stated_type u)) (sym made) where
+      by : (b : Bool) → typing (if b then tap_leaf (with_these names others) s (pos 0) (pos 0) else def_leaf (with_these names others) s)
+          ≡ Ok (stated_type (if b then tap_leaf (with_these names taps) s (pos 0) (pos 0) else def_leaf (with_these names taps) s))
+      by true = typing_leaf _ _ ∙ ap (λ ty. Ok ty) (sym (stated_leaf _ _))
+      by false = typing_leaf _ _ ∙ ap (λ ty. Ok ty) (sym (stated_leaf _ _))
 
 -- a tap as it is made
 pub placed_made : (names : Names) (d : SyntaxTree) (s : List ℕ) (dx dy a b : ℤ) (t : Term) → d ≡ Tap s dx dy → a ≡ dx → b ≡ dy →

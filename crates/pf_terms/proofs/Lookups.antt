@@ -1,12 +1,15 @@
 -- Places in lists, and operands in the order of the term.
-use Rattle.std.proofs.Common.{◌≡◌, refl, sym, ap, ◌∙◌, ℕ, ◌<◌, ◌≤◌, zero, suc, arith, Bool, true, false, List, [], ◌∷◌, length, map, get_or, nat_lt}
+use Rattle.std.proofs.Common.{◌≡◌, refl, sym, ap, ◌∙◌, ℕ, ◌<◌, ◌≤◌, zero, suc, arith, Bool, true, false, List, [], ◌∷◌, length, map, get_or, nat_lt, ltb-true}
 use Rattle.std.specs.Prelude.{slice_get, Option, Some, None, cond}
 use Rattle.std.specs.List.{position, position_or_len}
 use Rattle.std.specs.Option.{unwrap_or}
 use Rattle.std.proofs.lemmas.Option.{unwrap_or-slice_get}
 use Rattle.std.proofs.lemmas.List.Sums.{prefix_len-le-length}
 use Rattle.std.proofs.lemmas.Bool.Decides.{nat_tests}
-use Rattle.pf_terms.specs.Meaning.Meanings.{in_order}
+use Rattle.std.proofs.lemmas.List.{get_or_past}
+use Rattle.pf_values.specs.declared.names.ImageName.{ImageName}
+use Rattle.pf_values.specs.Meaning.NamedTerms.{no_image}
+use Rattle.pf_terms.specs.Meaning.Meanings.{in_order, image_number, is_param}
 use Rattle.pf_terms.specs.Steps.Building.{place_in_order}
 
 not_below : (n m : ℕ) → nat_lt n m ≡ false → m ≤ n
@@ -26,6 +29,15 @@ place_told p xs o m r found count told =
 -- behind the end of a list stands what was given for it
 pub past_end : {X : Type 0} (xs : List X) (n : ℕ) (d : X) → None ≡ slice_get xs n → get_or xs n d ≡ d
 past_end xs n d h = sym (unwrap_or-slice_get xs n d) ∙ ap (λ o. unwrap_or o d) (sym h)
+
+-- a parameter's name is that of an image
+pub param_below : (images : List ImageName) (s : List ℕ) → is_param images s ≡ true → image_number images s < length images
+param_below images s h = by (nat_lt (image_number images s) (length images)) refl where
+  by : (b : Bool) → nat_lt (image_number images s) (length images) ≡ b → image_number images s < length images
+  by true e = ltb-true (image_number images s) (length images) e
+  by false e =
+      let none : get_or images (image_number images s) no_image ≡ no_image = get_or_past images (image_number images s) no_image (not_below _ _ e) in
+      absurd (let no : true ≡ false = sym h ∙ ap (λ (i : ImageName). i.flat) none in cc)
 
 pub map_in_order : {A B : Type 0} (f : A → B) (less : Bool) (xs : List A) → map f (in_order less xs) ≡ in_order less (map f xs)
 map_in_order f true [] = refl

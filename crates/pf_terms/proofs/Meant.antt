@@ -1,5 +1,5 @@
 -- What follows where a syntax tree has a meaning, and where it has none.
-use Rattle.std.proofs.Common.{◌≡◌, refl, sym, ap, ◌∙◌, subst, ℕ, ◌+◌, ◌-◌, ◌<◌, ◌≤◌, arith, Bool, true, false, ltb-true, ltb-false, List, [], ◌∷◌, length, get_or, drop, take, length-drop, inl, inr}
+use Rattle.std.proofs.Common.{◌≡◌, refl, sym, ap, ◌∙◌, subst, ℕ, ◌+◌, ◌-◌, ◌<◌, ◌≤◌, arith, Bool, true, false, ltb-true, ltb-false, List, [], ◌∷◌, length, map, get_or, drop, take, length-drop, inl, inr}
 use Rattle.std.specs.Prelude.{◌⊎◌, ℤ, pos, if◌then◌else◌, nat_lt, All, Option, Some, None, Result, Ok, Err, IfOk, IfErr, OnOk, OnErr, slice_get}
 use Rattle.std.proofs.lemmas.Option.{slice_get_cases}
 use Rattle.pf_terms.specs.declared.parse.syntax_tree.SyntaxTree.{SyntaxTree}
@@ -23,8 +23,10 @@ use Rattle.pf_terms.specs.Meaning.Meanings.{Means, IsTermOr, IsTermText, IsTyped
 use Rattle.pf_terms.specs.Meaning.Tokens.{token_place_by, token_place, IsLexed, IsFront, at_end, blank, token}
 use Rattle.pf_values.specs.Meaning.Terms.{IsWellTyped, typing, stated_type}
 use Rattle.pf_values.specs.Meaning.NamedTerms.{is_named}
+use Rattle.pf_values.specs.declared.names.ImageName.{ImageName}
+use Rattle.pf_values.specs.Meaning.Kernels.{IsStill}
 use Rattle.pf_terms.proofs.TapLists.{Each, all_of_each, each_of_all, each_with_taps, all_among, distinct_taps}
-use Rattle.pf_terms.proofs.TermUses.{near_uses, image_uses}
+use Rattle.pf_terms.proofs.TermUses.{near_uses, image_uses, still_uses}
 use Rattle.pf_terms.proofs.TermNames.{named_term}
 use Rattle.pf_values.proofs.TermRanges.{typing_stated}
 use Rattle.pf_terms.proofs.TreeForms.{term_formed}
@@ -46,6 +48,7 @@ near_both count (t ∷ ts) h k = (record { image = k.0; across = h.0.across; dow
 pub names_kept : (names : Names) (d : SyntaxTree) → IsNames names → first_unknown names d ≡ None → length (names_after names d).taps ≤ 64 → first_far d ≡ None → IsNames (names_after names d)
 names_kept names d n known few near =
     let count = length names.images in
+    let flats = map (λ (i : ImageName). i.flat) names.images in
     record {
       few_images = n.few_images;
       few_taps = few;
@@ -56,6 +59,9 @@ names_kept names d n known few near =
       near = all_of_each (IsNearTap count) (with_taps names.taps (tap_uses names.images d))
           (each_with_taps (IsNearTap count) names.taps (tap_uses names.images d) (each_of_all (IsNearTap count) names.taps n.near) (near_both count (tap_uses names.images d) (near_uses names.images d near) (image_uses names d known)));
       distinct_taps = distinct_taps names.taps (tap_uses names.images d) n.distinct_taps;
+      order = n.order;
+      still = all_of_each (IsStill flats) (with_taps names.taps (tap_uses names.images d))
+          (each_with_taps (IsStill flats) names.taps (tap_uses names.images d) (each_of_all (IsStill flats) names.taps n.still) (still_uses names d known));
     }
 
 pub meant_names : (names : Names) (d : SyntaxTree) (t : Term) (after : Names) → IsNames names → Means names d t after → IsNames after

@@ -11,7 +11,7 @@ use Rattle.pf_values.specs.declared.op.Op.TheVariants.{Min, Max, Abs, WideningAd
 use Rattle.pf_terms.specs.declared.token.TokenKind.{TokenKind}
 use Rattle.pf_terms.specs.declared.token.TokenKind.TheVariants.{Name, TypeWord, Number, Typed, Long, Word, Choose, Line, Open, Close, OpenSquare, CloseSquare, Comma, Plus, Minus, Times, ShiftLeft, ShiftRight, Less, Greater, Same, Equals, Other}
 use Rattle.pf_terms.specs.declared.token.LineWord.{LineWord}
-use Rattle.pf_terms.specs.declared.token.LineWord.TheVariants.{Kernel, Image, Def, Out}
+use Rattle.pf_terms.specs.declared.token.LineWord.TheVariants.{Kernel, Image, Param, Def, Out}
 use Rattle.pf_terms.specs.declared.token.Token.{Token}
 use Rattle.pf_values.specs.Meaning.Terms.{typed_as}
 use Rattle.pf_terms.specs.Meaning.TermTexts.{type_word}
@@ -29,7 +29,7 @@ words =
     ∷ (codes "widening_add", Word WideningAdd) ∷ (codes "widening_sub", Word WideningSub) ∷ (codes "widening_mul", Word WideningMul) ∷ (codes "extending_add", Word ExtendingAdd) ∷ (codes "halving_add", Word HalvingAdd)
     ∷ (codes "rounding_halving_add", Word RoundingHalvingAdd) ∷ (codes "halving_sub", Word HalvingSub) ∷ (codes "saturating_add", Word SaturatingAdd) ∷ (codes "saturating_sub", Word SaturatingSub)
     ∷ (codes "saturating_cast", Word SaturatingCast) ∷ (codes "absd", Word Absd) ∷ (codes "rounding_shr", Word RoundingShr) ∷ (codes "mul_shr", Word MulShr) ∷ (codes "rounding_mul_shr", Word RoundingMulShr)
-    ∷ (codes "select", Choose) ∷ (codes "kernel", Line Kernel) ∷ (codes "image", Line Image) ∷ (codes "def", Line Def) ∷ (codes "out", Line Out) ∷ []
+    ∷ (codes "select", Choose) ∷ (codes "kernel", Line Kernel) ∷ (codes "image", Line Image) ∷ (codes "param", Line Param) ∷ (codes "def", Line Def) ∷ (codes "out", Line Out) ∷ []
 
 abbrev look : List (List ℕ × TokenKind) → List ℕ → Option TokenKind
 look [] w = None
@@ -77,6 +77,7 @@ listed_line : (l : LineWord) → IsListed (line_word l) (Line l)
 unfolding is_name is_reserved
 listed_line Kernel = (refl, refl, refl)
 listed_line Image = (refl, refl, refl)
+listed_line Param = (refl, refl, refl)
 listed_line Def = (refl, refl, refl)
 listed_line Out = (refl, refl, refl)
 

@@ -1,5 +1,5 @@
 -- The expression that a term's printed text spells.
-use Rattle.std.specs.Prelude.{pos, false, List, Option, Some, None, slice_index_or}
+use Rattle.std.specs.Prelude.{if◌then◌else◌, pos, false, List, Option, Some, None, slice_index_or}
 use Rattle.pf_ints.specs.declared.lane.LaneType.{LaneType}
 use Rattle.pf_terms.specs.declared.parse.syntax_tree.SyntaxTree.{SyntaxTree}
 use Rattle.pf_terms.specs.declared.parse.syntax_tree.SyntaxTree.TheVariants.{Number, Name, Tap as TapTree, Node as TreeNode}
@@ -23,8 +23,11 @@ type_beside TypeCall ty = Some ty
 type_beside CallWithType ty = Some ty
 type_beside _ ty = None
 
+abbrev pub tap_tree_of : ImageName → TapOf → SyntaxTree
+tap_tree_of image t = if image.flat then Name image.name else TapTree image.name t.dx t.dy
+
 abbrev pub tap_tree : List ImageName → TapOf → SyntaxTree
-tap_tree images t = TapTree (slice_index_or images t.image no_image).name t.dx t.dy
+tap_tree images t = tap_tree_of (slice_index_or images t.image no_image) t
 
 abbrev pub leaf_tree : Names → LeafOf → LaneType → SyntaxTree
 leaf_tree names (Tap n) ty = tap_tree names.images (slice_index_or names.taps n no_tap)

@@ -1,6 +1,6 @@
 -- A leaf's printed text is the spelling of an atom.
-use Rattle.std.proofs.Common.{◌≡◌, refl, sym, ap, ◌∙◌, ℕ, suc, ◌+◌, ◌<◌, ℤ, pos, negsuc, true, List, [], ◌∷◌, ◌++◌, length, get_or, map, arith, append_assoc}
-use Rattle.std.specs.Prelude.{codes, int_le, ◌≤ℤ◌}
+use Rattle.std.proofs.Common.{◌≡◌, refl, sym, ap, ◌∙◌, ℕ, suc, ◌+◌, ◌<◌, ℤ, pos, negsuc, Bool, true, false, List, [], ◌∷◌, ◌++◌, length, get_or, map, arith, append_assoc}
+use Rattle.std.specs.Prelude.{if◌then◌else◌, codes, int_le, ◌≤ℤ◌}
 use Rattle.std.specs.Fmt.{signed_decimal}
 use Rattle.std.proofs.lemmas.Int.{ints}
 use Rattle.std.proofs.lemmas.List.{get_or-map, get_or_append_left, get_or-append-add, length-append, length-map}
@@ -101,6 +101,12 @@ def_printed s name =
       shallow = λ n ls few k. k;
     }
 
+-- a tap as it is printed, of a parameter or of another image
+image_printed : (s : List ℕ) (t : TapOf) (flat : Bool) → is_name s ≡ true → IsTapOffset t.dx → IsTapOffset t.dy →
+    IsPrinted (if flat then s else placed_text s t) (if flat then NameTree s else TapTree s t.dx t.dy) 1
+image_printed s t true name across down = def_printed s name
+image_printed s t false name across down = tap_printed s t name across down
+
 -- where the names of images and of definitions stand among all
 pub names_long : (names : Names) → length (all_names names) ≡ length names.images + length names.defs
 names_long names =
@@ -135,6 +141,7 @@ leaf_printed names (Tap n) ty all formed has =
     let t = get_or names.taps n no_tap in
     let below : n < length names.taps = ltb-true n (length names.taps) (and_left _ (is_named_tap names.images t ty) has) in
     let near = all.near n no_tap below in
-    tap_printed (get_or names.images t.image no_image).name t (image_named names all t.image near.image) near.across near.down
+    let image = get_or names.images t.image no_image in
+    image_printed image.name t image.flat (image_named names all t.image near.image) near.across near.down
 leaf_printed names (Const n) ty all formed has = constant n ty formed (small_member ty n (member ty n formed))
 leaf_printed names (Def n) ty all formed has = def_printed (get_or names.defs n no_def).name (def_named names all n (ltb-true n (length names.defs) (and_left _ _ has)))

@@ -1,6 +1,6 @@
 -- What a well-typed term's printed text spells means the term.
-use Rattle.std.proofs.Common.{◌≡◌, refl, sym, ap, ◌∙◌, subst, ℕ, ◌+◌, ◌≤◌, ◌<◌, ℤ, pos, Bool, true, false, ◌&&◌, List, [], ◌∷◌, ◌++◌, length, get_or, map, arith, eqb-true}
-use Rattle.std.specs.Prelude.{Option, None, Result, Ok, int_le, ◌≤ℤ◌, ◌==◌, bytes_eq, nat_lt}
+use Rattle.std.proofs.Common.{◌≡◌, refl, sym, ap, ◌∙◌, subst, ℕ, ◌+◌, ◌≤◌, ◌<◌, ℤ, pos, Bool, true, false, ◌&&◌, ◌||◌, List, [], ◌∷◌, ◌++◌, length, get_or, map, arith, eqb-true}
+use Rattle.std.specs.Prelude.{if◌then◌else◌, Option, Some, None, Result, Ok, int_le, ◌≤ℤ◌, ◌==◌, bytes_eq, nat_lt}
 use Rattle.std.specs.List.{flat_map, position_or_len}
 use Rattle.std.proofs.lemmas.Bool.Decides.{Decides-eqb}
 use Rattle.std.proofs.lemmas.Int.{ints}
@@ -31,7 +31,7 @@ use Rattle.pf_values.specs.declared.term.Term.TheOpen.Term-F.{Leaf as LeafLayer,
 use Rattle.pf_values.specs.declared.term.Term.TheViews.{roll-Term}
 use Rattle.pf_values.specs.declared.term.Term.TheFolds.{ind-Term, map-Term}
 use Rattle.pf_terms.specs.Meaning.KernelNames.{IsNames, IsTapOffset}
-use Rattle.pf_terms.specs.Meaning.Meanings.{first_some, unknown_step, first_unknown, is_tap_offset, far_step, first_far, tap_at, uses_step, tap_uses, same_tap, with_tap, with_taps, names_after, image_number, def_number, is_image, is_def, tap_number, written_type, node_over, term_step, term_of, Means, IsTermText, IsTermOr}
+use Rattle.pf_terms.specs.Meaning.Meanings.{first_some, unknown_step, first_unknown, is_tap_offset, far_step, first_far, tap_at, uses_step, tap_uses, same_tap, with_tap, with_taps, names_after, image_number, def_number, is_image, is_param, is_def, tap_leaf, def_leaf, tap_number, written_type, node_over, term_step, term_of, Means, IsTermText, IsTermOr}
 use Rattle.pf_values.specs.Meaning.Operators.{row_of, int_same}
 use Rattle.pf_terms.proofs.ReadBack.{tree_of_term, leaf_tree, type_beside}
 use Rattle.pf_values.specs.Meaning.Terms.{all_true, result_type, stated_type, typing, operand_count, depth_of, IsWellTyped}
@@ -40,6 +40,11 @@ use Rattle.pf_values.specs.Meaning.Spellings.{spelling_of}
 use Rattle.pf_values.specs.Meaning.NamedTerms.{is_named, is_named_leaf, is_named_tap, no_image, no_tap, no_def}
 use Rattle.pf_values.proofs.NodeRanges.{judged, same_type_is}
 use Rattle.pf_values.proofs.OperandLists.{by_one, by_two, by_four}
+use Rattle.std.proofs.lemmas.List.Sums.{passes_at_first}
+use Rattle.std.proofs.Math.ListN.{get_or-map}
+use Rattle.pf_terms.proofs.Lookups.{param_below}
+use Rattle.pf_terms.proofs.TermUses.{uses_named}
+use Rattle.pf_terms.proofs.TreeForms.{term_named, or_true}
 use Rattle.pf_terms.proofs.ReadBackLeaves.{names_long, image_at, def_at}
 use Rattle.pf_terms.proofs.ReadBackTerms.{tree_node, tree_leaf, named_node, named_leaf, printed_is_tree}
 use Rattle.pf_values.proofs.TermRanges.{AreTyped, typed_node}
@@ -132,23 +137,23 @@ meant_number names n ty =
       term = ap (term_of names) (sym (rolls-Number n ty)) ∙ fold-roll-SyntaxTree Term (term_step names) (NumberLayer n ty);
     }
 
-meant_named : (names : Names) (s : List ℕ) (n : ℕ) (ty : LaneType) → is_def names.defs s ≡ true → def_number names.defs s ≡ n → (get_or names.defs n no_def).ty ≡ ty → IsMeant names (Name s) (Leaf (Def n) ty)
-meant_named names s n ty is number type =
+meant_named : (names : Names) (s : List ℕ) (n : ℕ) (ty : LaneType) → is_def names.defs s ≡ true → is_param names.images s ≡ false → def_number names.defs s ≡ n → (get_or names.defs n no_def).ty ≡ ty → IsMeant names (Name s) (Leaf (Def n) ty)
+meant_named names s n ty is solid number type =
     record {
       known = ap (first_unknown names) (sym (rolls-Name s)) ∙ fold-roll-SyntaxTree (Option (List ℕ)) (unknown_step names) (NamedLayer s) ∙ rw is;
       near = ap first_far (sym (rolls-Name s)) ∙ fold-roll-SyntaxTree (Option ℤ) far_step (NamedLayer s);
-      used = ap (with_taps names.taps) (ap (tap_uses names.images) (sym (rolls-Name s)) ∙ fold-roll-SyntaxTree (List TapOf) (uses_step names.images) (NamedLayer s));
+      used = ap (with_taps names.taps) (uses_named names.images s ∙ ap (λ b. if b then tap_at names.images s (pos 0) (pos 0) ∷ [] else []) solid);
       term =
-          ap (term_of names) (sym (rolls-Name s)) ∙ fold-roll-SyntaxTree Term (term_step names) (NamedLayer s)
+          term_named names s ∙ ap (λ b. if b then tap_leaf names s (pos 0) (pos 0) else def_leaf names s) solid
           ∙ ap (λ m. Leaf (Def m) (get_or names.defs m no_def).ty) number ∙ ap (λ t. Leaf (Def n) t) type;
     }
 
-meant_placed : (names : Names) (s : List ℕ) (t : TapOf) (n : ℕ) (ty : LaneType) → is_image names.images s ≡ true → image_number names.images s ≡ t.image → is_tap_offset t.dx ≡ true → is_tap_offset t.dy ≡ true →
+meant_placed : (names : Names) (s : List ℕ) (t : TapOf) (n : ℕ) (ty : LaneType) → is_image names.images s ≡ true → is_param names.images s ≡ false → image_number names.images s ≡ t.image → is_tap_offset t.dx ≡ true → is_tap_offset t.dy ≡ true →
     with_tap names.taps t ≡ names.taps → tap_number names.taps t ≡ n → (get_or names.images t.image no_image).ty ≡ ty → IsMeant names (TapTree s t.dx t.dy) (Leaf (Tap n) ty)
-meant_placed names s t n ty is image across down taps number type =
+meant_placed names s t n ty is solid image across down taps number type =
     let tap : tap_at names.images s t.dx t.dy ≡ t = ap (λ i. record { image = i; dx = t.dx; dy = t.dy }) image in
     record {
-      known = ap (first_unknown names) (sym (rolls-Tap s t.dx t.dy)) ∙ fold-roll-SyntaxTree (Option (List ℕ)) (unknown_step names) (PlacedLayer s t.dx t.dy) ∙ rw is;
+      known = ap (first_unknown names) (sym (rolls-Tap s t.dx t.dy)) ∙ fold-roll-SyntaxTree (Option (List ℕ)) (unknown_step names) (PlacedLayer s t.dx t.dy) ∙ rw (is, solid);
       near = ap first_far (sym (rolls-Tap s t.dx t.dy)) ∙ fold-roll-SyntaxTree (Option ℤ) far_step (PlacedLayer s t.dx t.dy) ∙ rw (across, down);
       used =
           ap (with_taps names.taps) (ap (tap_uses names.images) (sym (rolls-Tap s t.dx t.dy)) ∙ fold-roll-SyntaxTree (List TapOf) (uses_step names.images) (PlacedLayer s t.dx t.dy) ∙ ap (λ x. x ∷ []) tap)
@@ -160,18 +165,69 @@ meant_placed names s t n ty is image across down taps number type =
           ∙ ap (λ i. Leaf (Tap n) (get_or names.images i no_image).ty) image ∙ ap (λ u. Leaf (Tap n) u) type;
     }
 
+-- a parameter's tap has no offsets, and is its bare name
+meant_param : (names : Names) (s : List ℕ) (t : TapOf) (n : ℕ) (ty : LaneType) → is_param names.images s ≡ true → image_number names.images s ≡ t.image → (t.dx ≡ pos 0) × (t.dy ≡ pos 0) →
+    with_tap names.taps t ≡ names.taps → tap_number names.taps t ≡ n → (get_or names.images t.image no_image).ty ≡ ty → IsMeant names (Name s) (Leaf (Tap n) ty)
+meant_param names s t n ty flat image zeros taps number type =
+    let make : ℕ → ℤ → ℤ → TapOf = λ i x y. record { image = i; dx = x; dy = y } in
+    let tap : tap_at names.images s (pos 0) (pos 0) ≡ t = ap (λ i. make i (pos 0) (pos 0)) image ∙ ap (λ x. make t.image x (pos 0)) (sym zeros.0) ∙ ap (λ y. make t.image t.dx y) (sym zeros.1) in
+    record {
+      known =
+          ap (first_unknown names) (sym (rolls-Name s)) ∙ fold-roll-SyntaxTree (Option (List ℕ)) (unknown_step names) (NamedLayer s)
+          ∙ ap (λ b. if b then None else Some s) (ap (λ b. is_def names.defs s || b) flat ∙ or_true (is_def names.defs s));
+      near = ap first_far (sym (rolls-Name s)) ∙ fold-roll-SyntaxTree (Option ℤ) far_step (NamedLayer s);
+      used = ap (with_taps names.taps) (uses_named names.images s ∙ ap (λ b. if b then tap_at names.images s (pos 0) (pos 0) ∷ [] else []) flat ∙ ap (λ x. x ∷ []) tap) ∙ taps;
+      term =
+          term_named names s ∙ ap (λ b. if b then tap_leaf names s (pos 0) (pos 0) else def_leaf names s) flat
+          ∙ ap (λ x. Leaf (Tap (tap_number names.taps x)) (get_or names.images (image_number names.images s) no_image).ty) tap
+          ∙ ap (λ m. Leaf (Tap m) (get_or names.images (image_number names.images s) no_image).ty) number
+          ∙ ap (λ i. Leaf (Tap n) (get_or names.images i no_image).ty) image ∙ ap (λ u. Leaf (Tap n) u) type;
+    }
+
+-- a tap of the names means itself, whether its image is a parameter or not
+meant_tap : (names : Names) (n : ℕ) (ty : LaneType) → IsNames names → n < length names.taps → (flat : Bool) → let t = get_or names.taps n no_tap in
+    (get_or names.images t.image no_image).flat ≡ flat → (get_or names.images t.image no_image).ty ≡ ty →
+    IsMeant names (if flat then Name (get_or names.images t.image no_image).name else TapTree (get_or names.images t.image no_image).name t.dx t.dy) (Leaf (Tap n) ty)
+meant_tap names n ty all below flat is type =
+    let t = get_or names.taps n no_tap in
+    let s = (get_or names.images t.image no_image).name in
+    let near = all.near n no_tap below in
+    let image : image_number names.images s ≡ t.image = image_place names all t.image near.image in
+    let param : is_param names.images s ≡ flat = ap (λ i. (get_or names.images i no_image).flat) image ∙ is in
+    by flat param is where
+      by : (b : Bool) → let t = get_or names.taps n no_tap in let s = (get_or names.images t.image no_image).name in is_param names.images s ≡ b → (get_or names.images t.image no_image).flat ≡ b →
+          IsMeant names (if b then Name s else TapTree s t.dx t.dy) (Leaf (Tap n) ty)
+      by true param here =
+          let t = get_or names.taps n no_tap in
+          let near = all.near n no_tap below in
+          meant_param names (get_or names.images t.image no_image).name t n ty param (image_place names all t.image near.image)
+          (all.still n no_tap below (get_or-map (λ (i : ImageName). i.flat) names.images t.image no_image ∙ here)) (tap_known names n below) (tap_place names all n below) type
+      by false param here =
+          let t = get_or names.taps n no_tap in
+          let near = all.near n no_tap below in
+          meant_placed names (get_or names.images t.image no_image).name t n ty (image_known names t.image near.image) param (image_place names all t.image near.image) (near_test t.dx near.across) (near_test t.dy near.down)
+          (tap_known names n below) (tap_place names all n below) type
+
+-- no parameter has a definition's name
+def_solid : (names : Names) → IsNames names → (i : ℕ) → i < length names.defs → is_param names.images (get_or names.defs i no_def).name ≡ false
+def_solid names all i below =
+    let s = (get_or names.defs i no_def).name in
+    fails (is_param names.images s) (λ h.
+    let under = param_below names.images s h in
+    let named = passes_at_first (λ (x : ImageName). bytes_eq x.name s) names.images no_image under in
+    all.distinct_names (image_number names.images s) (length names.images + i) [] (omega arith) (omega (arith, names_long names))
+    (image_at names (image_number names.images s) under ∙ (bytes_eq-Decides _ s).0 named ∙ sym (def_at names i below)))
+
 meant_leaf : (names : Names) (leaf : LeafOf) (ty : LaneType) → IsNames names → is_named_leaf names leaf ty ≡ true → IsMeant names (leaf_tree names leaf ty) (Leaf leaf ty)
 meant_leaf names (Tap n) ty all has =
     let t = get_or names.taps n no_tap in
     let below : n < length names.taps = ltb-true n (length names.taps) (and_left _ (is_named_tap names.images t ty) has) in
     let type : (get_or names.images t.image no_image).ty ≡ ty = same_type_is _ _ (and_right (nat_lt t.image (length names.images)) _ (and_right (nat_lt n (length names.taps)) _ has)) in
-    let near = all.near n no_tap below in
-    meant_placed names (get_or names.images t.image no_image).name t n ty (image_known names t.image near.image) (image_place names all t.image near.image) (near_test t.dx near.across) (near_test t.dy near.down)
-    (tap_known names n below) (tap_place names all n below) type
+    meant_tap names n ty all below (get_or names.images t.image no_image).flat refl type
 meant_leaf names (Const n) ty all has = meant_number names n ty
 meant_leaf names (Def n) ty all has =
     let below : n < length names.defs = ltb-true n (length names.defs) (and_left _ _ has) in
-    meant_named names (get_or names.defs n no_def).name n ty (def_known names n below) (def_place names all n below) (same_type_is _ _ (and_right (nat_lt n (length names.defs)) _ has))
+    meant_named names (get_or names.defs n no_def).name n ty (def_known names n below) (def_solid names all n below) (def_place names all n below) (same_type_is _ _ (and_right (nat_lt n (length names.defs)) _ has))
 
 -- ---- nodes
 abbrev AllMeant : Names → List Term → Type 0

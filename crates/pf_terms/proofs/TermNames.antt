@@ -1,6 +1,6 @@
 -- The term of a syntax tree is named, where its names are known and its taps are among the taps.
 use Rattle.std.proofs.Common.{◌≡◌, refl, sym, ap, ◌∙◌, subst, ℕ, ◌<◌, Bool, true, false, ◌&&◌, List, [], ◌∷◌, length, map, arith, nat_lt}
-use Rattle.std.specs.Prelude.{None, slice_index_or, unsigned_abs}
+use Rattle.std.specs.Prelude.{if◌then◌else◌, pos, None, slice_index_or, unsigned_abs}
 use Rattle.std.specs.List.{flat_map}
 use Rattle.std.specs.Str.{bytes_eq}
 use Rattle.std.proofs.lemmas.Bool.Decides.{nat_tests}
@@ -25,13 +25,13 @@ use Rattle.pf_values.specs.declared.term.Term.TheFolds.{fold-roll-Term}
 use Rattle.pf_values.specs.Meaning.Operators.{row_of}
 use Rattle.pf_values.specs.Meaning.Terms.{all_true, result_type, stated_type}
 use Rattle.pf_values.specs.Meaning.NamedTerms.{is_named, named_step, is_named_leaf, is_named_tap, no_def, no_image, no_tap}
-use Rattle.pf_terms.specs.Meaning.Meanings.{in_order, first_unknown, tap_uses, tap_at, term_of, def_number, tap_number, same_tap, written_type}
+use Rattle.pf_terms.specs.Meaning.Meanings.{in_order, first_unknown, tap_uses, tap_at, term_of, is_param, tap_leaf, def_leaf, def_number, tap_number, same_tap, written_type}
 use Rattle.pf_values.proofs.Typing.{same_self}
-use Rattle.pf_terms.proofs.Lookups.{map_in_order}
+use Rattle.pf_terms.proofs.Lookups.{map_in_order, param_below}
 use Rattle.pf_terms.proofs.TapLists.{Each, each_front, each_behind, IsAmong, place_of_any, same_tap_is}
 use Rattle.pf_terms.proofs.TreeParts.{term_is, uses_is}
 use Rattle.pf_terms.proofs.TreeForms.{term_number, term_named, term_placed, in_order_true}
-use Rattle.pf_terms.proofs.TermUses.{uses_placed, each_out_of_order, unknown_node, known_image, known_def}
+use Rattle.pf_terms.proofs.TermUses.{uses_named, uses_placed, each_out_of_order, unknown_node, known_image, known_def}
 
 named_node : (names : Names) (op : Op) (ty : LaneType) (k : ℕ) (args : List Term) → is_named names (NodeTerm op ty k args) ≡ all_true (map (is_named names) args)
 named_node names op ty k args = ap (is_named names) (sym (rolls-NodeTerm op ty k args)) ∙ fold-roll-Term Bool (named_step names) (NodeTermLayer op ty k args)
@@ -56,9 +56,9 @@ placed_named names t h among =
     both_true _ _ (below_true (tap_number names.taps t) (length names.taps) below)
     (ap (λ u. is_named_tap names.images u (slice_index_or names.images t.image no_image).ty) (sym same) ∙ tap_named names.images t h)
 
-def_named : (names : Names) (s : List ℕ) → first_unknown names (Name s) ≡ None → is_named_leaf names (Def (def_number names.defs s)) (slice_index_or names.defs (def_number names.defs s) no_def).ty ≡ true
-def_named names s h =
-    both_true _ _ (below_true (def_number names.defs s) (length names.defs) (place_of_any (λ d. bytes_eq d.name s) names.defs (known_def names s h))) (same_self _)
+def_named : (names : Names) (s : List ℕ) → first_unknown names (Name s) ≡ None → is_param names.images s ≡ false → is_named_leaf names (Def (def_number names.defs s)) (slice_index_or names.defs (def_number names.defs s) no_def).ty ≡ true
+def_named names s h solid =
+    both_true _ _ (below_true (def_number names.defs s) (length names.defs) (place_of_any (λ d. bytes_eq d.name s) names.defs (known_def names s h solid))) (same_self _)
 
 -- what is asked of a syntax tree, and what is said of it
 abbrev pub IsGiven : Names → SyntaxTree → Type 0
@@ -76,9 +76,18 @@ operands_named : (names : Names) (ps : List ((d : SyntaxTree) × IsNamedTerm nam
 operands_named names [] known among = refl
 operands_named names (p ∷ ps) known among = both_true _ _ (p.1 (known.0, among.0)) (operands_named names ps known.1 among.1)
 
+name_named : (names : Names) (s : List ℕ) (b : Bool) → is_param names.images s ≡ b → first_unknown names (Name s) ≡ None →
+    Each (IsAmong names.taps) (if b then tap_at names.images s (pos 0) (pos 0) ∷ [] else []) → is_named names (if b then tap_leaf names s (pos 0) (pos 0) else def_leaf names s) ≡ true
+name_named names s true is known among =
+    let t = tap_at names.images s (pos 0) (pos 0) in
+    named_leaf names (TapOf (tap_number names.taps t)) _ ∙ placed_named names t (param_below names.images s is) among.0
+name_named names s false is known among = named_leaf names (Def (def_number names.defs s)) _ ∙ def_named names s known is
+
 layer_named : (names : Names) (y : SyntaxTree-F ((d : SyntaxTree) × IsNamedTerm names d)) → IsNamedTerm names (roll-SyntaxTree (map-SyntaxTree ((d : SyntaxTree) × IsNamedTerm names d) SyntaxTree (λ e. e.0) y))
 layer_named names (NumberLayer n t) = subst (IsNamedTerm names) (sym (rolls-Number n t)) (λ h. ap (is_named names) (term_number names n t) ∙ named_leaf names (Const n) t)
-layer_named names (NamedLayer s) = subst (IsNamedTerm names) (sym (rolls-Name s)) (λ h. ap (is_named names) (term_named names s) ∙ named_leaf names (Def (def_number names.defs s)) _ ∙ def_named names s h.0)
+layer_named names (NamedLayer s) =
+    subst (IsNamedTerm names) (sym (rolls-Name s)) (λ h.
+    ap (is_named names) (term_named names s) ∙ name_named names s (is_param names.images s) refl h.0 (subst (Each (IsAmong names.taps)) (uses_named names.images s) h.1))
 layer_named names (PlacedLayer s dx dy) =
     subst (IsNamedTerm names) (sym (rolls-Tap s dx dy)) (λ h.
     let t = tap_at names.images s dx dy in

@@ -1,6 +1,6 @@
 -- What is spelled is formed, and the term of it well-formed.
 use Rattle.std.proofs.Common.{◌≡◌, refl, sym, ap, ◌∙◌, subst, ℕ, Bool, true, false, ◌&&◌, ◌||◌, ◌==◌, ℤ, pos, List, [], ◌∷◌, length, map}
-use Rattle.std.specs.Prelude.{Option, Some, None, not, nat_le, unsigned_abs, slice_index_or}
+use Rattle.std.specs.Prelude.{if◌then◌else◌, Option, Some, None, not, nat_le, unsigned_abs, slice_index_or}
 use Rattle.std.proofs.lemmas.List.{length-map}
 use Rattle.pf_ints.specs.declared.lane.LaneType.{LaneType}
 use Rattle.pf_terms.specs.declared.parse.syntax_tree.SyntaxTree.{SyntaxTree}
@@ -23,7 +23,7 @@ use Rattle.pf_values.specs.Meaning.Terms.{all_true, is_formed_node, is_well_form
 use Rattle.pf_values.specs.Meaning.NamedTerms.{no_def, no_image}
 use Rattle.pf_terms.specs.Meaning.Grammar.{Spells, Rank, call_shape, IsComparison, literal, negated, plain_name, placed, in_brackets, cast, one, two, one_by, two_by, typed_call, chosen, alone, product, term, sum, difference, unshifted, left, right, greater, less as less_sign, equal_sign}
 use Rattle.pf_terms.specs.Meaning.SyntaxTrees.{IsTreeText}
-use Rattle.pf_terms.specs.Meaning.Meanings.{in_order, term_of, term_step, node_over, def_number, image_number, tap_number, tap_at, written_type}
+use Rattle.pf_terms.specs.Meaning.Meanings.{in_order, term_of, term_step, node_over, def_number, image_number, is_param, tap_leaf, def_leaf, name_leaf, tap_number, tap_at, written_type}
 use Rattle.pf_terms.specs.Steps.Building.{is_formed_tree, formed_tree_step}
 use Rattle.pf_values.proofs.Typing.{and_left, and_right}
 use Rattle.pf_values.proofs.NodeParts.{formed_is as well_formed_is}
@@ -36,7 +36,7 @@ all_and true true c a b h = h
 all_and true false c a b h = absurd (cc)
 all_and false b c a h k = absurd (cc)
 
-or_true : (b : Bool) → b || true ≡ true
+pub or_true : (b : Bool) → b || true ≡ true
 or_true true = refl
 or_true false = refl
 
@@ -140,7 +140,7 @@ IsFormedTerm names d = is_formed_tree d ≡ true → is_well_formed (term_of nam
 pub term_number : (names : Names) (n : ℤ) (t : LaneType) → term_of names (Number n t) ≡ Leaf (Const n) t
 term_number names n t = ap (term_of names) (sym (rolls-Number n t)) ∙ fold-roll-SyntaxTree Term (term_step names) (NumberLayer n t)
 
-pub term_named : (names : Names) (s : List ℕ) → term_of names (Name s) ≡ Leaf (Def (def_number names.defs s)) (slice_index_or names.defs (def_number names.defs s) no_def).ty
+pub term_named : (names : Names) (s : List ℕ) → term_of names (Name s) ≡ name_leaf names s
 term_named names s = ap (term_of names) (sym (rolls-Name s)) ∙ fold-roll-SyntaxTree Term (term_step names) (NamedLayer s)
 
 pub term_placed : (names : Names) (s : List ℕ) (dx dy : ℤ) →
@@ -166,9 +166,13 @@ node_formed_term names op less ty k args parts each =
     ∙ ap (λ n. is_formed_node (row_of op) (unsigned_abs k) n && all_true (map is_well_formed operands)) count
     ∙ ap (λ b. b && all_true (map is_well_formed operands)) parts.own ∙ all
 
+name_formed : (names : Names) (s : List ℕ) (b : Bool) → is_well_formed (if b then tap_leaf names s (pos 0) (pos 0) else def_leaf names s) ≡ true
+name_formed names s true = formed_leaf (TapOf (tap_number names.taps (tap_at names.images s (pos 0) (pos 0)))) _
+name_formed names s false = formed_leaf (Def (def_number names.defs s)) _
+
 layer_formed : (names : Names) (y : SyntaxTree-F ((d : SyntaxTree) × IsFormedTerm names d)) → IsFormedTerm names (roll-SyntaxTree (map-SyntaxTree ((d : SyntaxTree) × IsFormedTerm names d) SyntaxTree (λ e. e.0) y))
 layer_formed names (NumberLayer n t) = subst (IsFormedTerm names) (sym (rolls-Number n t)) (λ h. ap is_well_formed (term_number names n t) ∙ formed_leaf (Const n) t ∙ sym (number_is n t) ∙ h)
-layer_formed names (NamedLayer s) = subst (IsFormedTerm names) (sym (rolls-Name s)) (λ h. ap is_well_formed (term_named names s) ∙ formed_leaf (Def (def_number names.defs s)) _)
+layer_formed names (NamedLayer s) = subst (IsFormedTerm names) (sym (rolls-Name s)) (λ h. ap is_well_formed (term_named names s) ∙ name_formed names s (is_param names.images s))
 layer_formed names (PlacedLayer s dx dy) =
     subst (IsFormedTerm names) (sym (rolls-Tap s dx dy)) (λ h. ap is_well_formed (term_placed names s dx dy) ∙ formed_leaf (TapOf (tap_number names.taps (tap_at names.images s dx dy))) _)
 layer_formed names (NodeLayer op less ty k ps) =

@@ -155,8 +155,8 @@ fn name_of(run: &[u8]) -> Option<Name>
     if is_name(run) { Name::new(run) } else { None }
 }
 
-// The number that one to ten digits stand for.
-fn number_of(digits: &[u8]) -> Option<i64>
+/// The number that one to ten digits stand for, or None for another word.
+pub fn number_of(digits: &[u8]) -> Option<i64>
     ensures { MatchOption result ((n : ℤ) → IsNumber digits.now n → ⊥) (λ n. IsNumber digits.now n) }
 {
     if digits.len() < 1 {
@@ -280,6 +280,8 @@ fn line_of_word(word: &[u8]) -> Option<LineWord>
         Some(LineWord::Kernel)
     } else if word == b"image".as_slice() {
         Some(LineWord::Image)
+    } else if word == b"param".as_slice() {
+        Some(LineWord::Param)
     } else if word == b"def".as_slice() {
         Some(LineWord::Def)
     } else if word == b"out".as_slice() {

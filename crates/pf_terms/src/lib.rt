@@ -10,8 +10,8 @@ mod resolve;
 mod token;
 mod wide_taps;
 
-pub use lexer::{tokens, type_of_word};
-pub use lookup::{def_number, image_number, is_def, is_image};
+pub use lexer::{number_of, tokens, type_of_word};
+pub use lookup::{def_number, image_number, is_def, is_image, is_param};
 pub use meaning::{ReadFault, read_term};
 pub use parse::read::read_draft;
 pub use parse::syntax_tree::{SyntaxTree, SyntaxTrees, TreeFault};

@@ -1,7 +1,8 @@
-ghost use Rattle.std.specs.Prelude.{◌≡◌, ◌≤◌, ◌<◌, length, IfSome, option_copied};
+ghost use Rattle.std.specs.Prelude.{◌≡◌, ◌≤◌, ◌<◌, length, slice_index_or, IfSome, option_copied};
 ghost use Rattle.std.specs.List.{position};
 ghost use Rattle.std.specs.Str.{bytes_eq};
-ghost use Rattle.pf_terms.specs.Meaning.Meanings.{image_number, def_number, is_image, is_def, first_unknown, first_far, is_tap_offset};
+ghost use Rattle.pf_values.specs.Meaning.NamedTerms.{no_image};
+ghost use Rattle.pf_terms.specs.Meaning.Meanings.{image_number, def_number, is_image, is_param, is_def, first_unknown, first_far, is_tap_offset};
 
 use crate::parse::syntax_tree::SyntaxTree;
 use pf_ints::Name;
@@ -50,6 +51,24 @@ pub fn is_image(images: &ImageNames, name: &Name) -> bool
         .any(|image| image.name.as_slice() == name.as_slice())
 }
 
+/// Whether a parameter has this name.
+pub fn is_param(images: &ImageNames, name: &Name) -> bool
+    ensures { result ≡ is_param images.now name.now }
+{
+    is_flat(images, image_number(images, name))
+}
+
+// Whether image n is flat: not where there is none.
+#[tactic(auto, using(crate::proofs::Lookups::past_end))]
+fn is_flat(images: &ImageNames, n: usize) -> bool
+    ensures { result ≡ (slice_index_or images.now n no_image).flat }
+{
+    match images.get(n) {
+        Some(image) => image.flat,
+        None => false,
+    }
+}
+
 /// Whether a definition has this name.
 pub fn is_def(defs: &DefNames, name: &Name) -> bool
     ensures { result ≡ is_def defs.now name.now }
@@ -73,14 +92,14 @@ fn unknown_name<'a>(tree: &'a SyntaxTree, names: &Names) -> Option<&'a Name>
     match tree {
         SyntaxTree::Number(..) => None,
         SyntaxTree::Name(name) => {
-            if is_def(&names.defs, name) {
+            if is_def(&names.defs, name) || is_param(&names.images, name) {
                 None
             } else {
                 Some(name)
             }
         }
         SyntaxTree::Tap(name, ..) => {
-            if is_image(&names.images, name) {
+            if is_image(&names.images, name) && !is_param(&names.images, name) {
                 None
             } else {
                 Some(name)

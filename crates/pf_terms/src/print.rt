@@ -1,14 +1,14 @@
 ghost use Rattle.std.specs.Prelude.{◌≡◌, ◌++◌, ◌<◌, length, true, IfOk, OnOk, decimal, codes};
 ghost use Rattle.std.specs.Fmt.{signed_decimal};
 ghost use Rattle.pf_values.specs.Meaning.Terms.{is_well_formed};
-ghost use Rattle.pf_terms.specs.Meaning.TermTexts.{term_text, leaf_text, tap_text, placed_text, type_word, sign_letter};
+ghost use Rattle.pf_terms.specs.Meaning.TermTexts.{term_text, leaf_text, tap_text, tap_text_of, placed_text, type_word, sign_letter};
 ghost use Rattle.pf_values.specs.Meaning.Spellings.{op_word, spelling_of};
 ghost use Rattle.pf_values.specs.Meaning.NamedTerms.{is_named, is_named_leaf};
 ghost use Rattle.pf_terms.specs.Steps.Pieces.{opening, before, closing, spaced};
 
 use pf_ints::{LaneType, Name};
 use pf_text::{push_number, push_whole};
-use pf_values::{Leaf, Names, Op, Spelling, Tap, Term};
+use pf_values::{ImageName, Leaf, Names, Op, Spelling, Tap, Term};
 use std::alloc::{AllocError, Global};
 
 /// The printed text of a term.
@@ -59,7 +59,17 @@ fn write_tap(text: &mut Vec<u8>, tap: Tap, names: &Names) -> Result<(), AllocErr
     requires { tap.image < length names.now.images }
     ensures { OnOk result (text.new.items ≡ text.old.items ++ tap_text names.now.images tap) }
 {
-    write_placed(text, &names.images.as_slice()[tap.image as usize].name, tap)
+    write_of_image(text, &names.images.as_slice()[tap.image as usize], tap)
+}
+
+fn write_of_image(text: &mut Vec<u8>, image: &ImageName, tap: Tap) -> Result<(), AllocError>
+    ensures { OnOk result (text.new.items ≡ text.old.items ++ tap_text_of image.now tap) }
+{
+    if image.flat {
+        text.extend_from_slice(image.name.as_slice())
+    } else {
+        write_placed(text, &image.name, tap)
+    }
 }
 
 fn write_placed(text: &mut Vec<u8>, name: &Name, tap: Tap) -> Result<(), AllocError>

@@ -1,14 +1,12 @@
 ghost use Rattle.std.specs.Prelude.{◌≡◌, ◌≤◌, ◌+◌, length, true, unsigned_abs, slice_index_or, List, IfOk, Ok, MatchOption, IsTrue, ◌<◌};
 ghost use Rattle.pf_values.specs.declared.names.Tap.{Tap};
-ghost use Rattle.pf_values.specs.declared.term.Leaf.TheVariants.{Tap as TapOf, Def};
-ghost use Rattle.pf_values.specs.declared.term.Term.TheVariants.{Leaf as LeafTerm};
 ghost use Rattle.pf_terms.specs.Steps.Building.{is_formed_tree, with_these, IsLeaf, IsFirst, IsResolvedFirst, IsFound, IsBuilt};
-ghost use Rattle.pf_terms.specs.Meaning.Meanings.{term_of, image_number, def_number, tap_at, tap_number, written_type};
+ghost use Rattle.pf_terms.specs.Meaning.Meanings.{term_of, tap_leaf, def_leaf, name_leaf, written_type};
 ghost use Rattle.pf_values.specs.Meaning.Operators.{row_of};
 ghost use Rattle.pf_values.specs.Meaning.Terms.{operand_count, node_type, result_type, typing, stated_type, is_amount};
 ghost use Rattle.pf_values.specs.Meaning.NamedTerms.{no_image, no_def};
 
-use crate::lookup::{def_number, image_number};
+use crate::lookup::{def_number, image_number, is_param};
 use crate::parse::syntax_tree::SyntaxTree;
 use crate::wide_taps::{WideTap, place_in_order, wide_tap_number};
 use pf_ints::{LaneType, Name};
@@ -102,8 +100,8 @@ fn leaf(tree: &SyntaxTree, names: &Names, taps: &[WideTap]) -> Term
             leaf: Leaf::Const(*n),
             ty: *ty,
         },
-        SyntaxTree::Name(name) => definition(&names.defs, name),
-        SyntaxTree::Tap(name, dx, dy) => tap(&names.images, taps, name, *dx, *dy),
+        SyntaxTree::Name(name) => named(names, taps, name),
+        SyntaxTree::Tap(name, dx, dy) => tap(names, taps, name, *dx, *dy),
         SyntaxTree::Node { .. } => unreachable!(),
     }
 }
@@ -154,27 +152,41 @@ fn resolved_over(
     })
 }
 
-fn definition(defs: &DefNames, name: &Name) -> Term
-    requires few { length defs.now ≤ 64 }
-    ensures { result ≡ LeafTerm (Def (def_number defs.now name.now)) (slice_index_or defs.now (def_number defs.now name.now) no_def).ty }
+// A bare name is a parameter's or a definition's.
+fn named(names: &Names, taps: &[WideTap], name: &Name) -> Term
+    requires few_defs { length names.now.defs ≤ 64 }
+    requires few_taps { length taps.now ≤ 64 }
+    requires few_images { length names.now.images ≤ 8 }
+    ensures { result ≡ name_leaf (with_these names.now taps.now) name.now }
 {
-    let n = def_number(defs, name);
-    Term::Leaf {
-        leaf: Leaf::Def(n as u8),
-        ty: def_type(defs, n),
+    if is_param(&names.images, name) {
+        tap(names, taps, name, 0, 0)
+    } else {
+        definition(names, name)
     }
 }
 
-fn tap(images: &ImageNames, taps: &[WideTap], name: &Name, dx: i64, dy: i64) -> Term
-    requires few_images { length images.now ≤ 8 }
-    requires few_taps { length taps.now ≤ 64 }
-    ensures { result ≡ LeafTerm (TapOf (tap_number taps.now (tap_at images.now name.now dx dy))) (slice_index_or images.now (image_number images.now name.now) no_image).ty }
+fn definition(names: &Names, name: &Name) -> Term
+    requires few { length names.now.defs ≤ 64 }
+    ensures { result ≡ def_leaf names.now name.now }
 {
-    let image = image_number(images, name);
+    let n = def_number(&names.defs, name);
+    Term::Leaf {
+        leaf: Leaf::Def(n as u8),
+        ty: def_type(&names.defs, n),
+    }
+}
+
+fn tap(names: &Names, taps: &[WideTap], name: &Name, dx: i64, dy: i64) -> Term
+    requires few_images { length names.now.images ≤ 8 }
+    requires few_taps { length taps.now ≤ 64 }
+    ensures { result ≡ tap_leaf (with_these names.now taps.now) name.now dx dy }
+{
+    let image = image_number(&names.images, name);
     let wide_tap = WideTap::new(image as u8, dx, dy);
     Term::Leaf {
         leaf: Leaf::Tap(wide_tap_number(taps, wide_tap) as u8),
-        ty: image_type(images, image),
+        ty: image_type(&names.images, image),
     }
 }
 

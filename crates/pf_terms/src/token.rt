@@ -6,6 +6,7 @@ use pf_values::Op;
 pub enum LineWord {
     Kernel,
     Image,
+    Param,
     Def,
     Out,
 }

@@ -1,11 +1,11 @@
 ghost use Rattle.std.specs.Prelude.{◌≡◌, ◌≤◌, ◌<◌, length, true, All, OnOk, IfOk, IfSome};
 ghost use Rattle.std.specs.List.{position, list_any};
-ghost use Rattle.pf_terms.specs.Meaning.Meanings.{with_tap, with_taps, tap_uses, tap_number, same_tap};
+ghost use Rattle.pf_terms.specs.Meaning.Meanings.{with_tap, with_taps, tap_uses, tap_at, tap_number, same_tap};
 ghost use Rattle.pf_terms.specs.Steps.Building.{place_in_order, HasNearOffsets, is_formed_tree};
 
-use crate::lookup::image_number;
+use crate::lookup::{image_number, is_param};
 use crate::parse::syntax_tree::SyntaxTree;
-use pf_ints::Sequence;
+use pf_ints::{Name, Sequence};
 use pf_values::{ImageNames, Tap, TapList};
 use std::alloc::{AllocError, Global};
 use std::marker::Model;
@@ -118,6 +118,20 @@ fn has(wide_taps: &[WideTap], wide_tap: WideTap) -> bool
     wide_taps.iter().any(|other| wide_tap.is_same(*other))
 }
 
+fn add_use(
+    wide_taps: &mut WideTaps,
+    images: &ImageNames,
+    name: &Name,
+    dx: i64,
+    dy: i64,
+) -> Result<(), AllocError>
+    requires few { length images.now ≤ 8 }
+    ensures { OnOk result (wide_taps.new ≡ with_tap wide_taps.old (tap_at images.now name.now dx dy)) }
+{
+    let image = image_number(images, name) as u8;
+    add(wide_taps, WideTap::new(image, dx, dy))
+}
+
 /// Adds the taps of a syntax tree that aren't among the wide taps, in the order of the term.
 pub fn add_uses(
     wide_taps: &mut WideTaps,
@@ -129,11 +143,15 @@ pub fn add_uses(
     ensures { OnOk result (wide_taps.new ≡ with_taps wide_taps.old (tap_uses images.now tree.now)) }
 {
     match tree {
-        SyntaxTree::Number(..) | SyntaxTree::Name(_) => Ok(()),
-        SyntaxTree::Tap(name, dx, dy) => {
-            let image = image_number(images, name) as u8;
-            add(wide_taps, WideTap::new(image, *dx, *dy))
+        SyntaxTree::Number(..) => Ok(()),
+        SyntaxTree::Name(name) => {
+            if is_param(images, name) {
+                add_use(wide_taps, images, name, 0, 0)
+            } else {
+                Ok(())
+            }
         }
+        SyntaxTree::Tap(name, dx, dy) => add_use(wide_taps, images, name, *dx, *dy),
         SyntaxTree::Node { less, args, .. } => {
             let args = args.as_slice();
             for n in 0..args.len() {

@@ -1,5 +1,5 @@
 -- A term over no names stands on numbers alone.
-use Rattle.std.proofs.Common.{◌≡◌, sym, ap, ◌∙◌, subst, ℕ, ◌<◌, true, List, [], ◌∷◌, length, map, arith}
+use Rattle.std.proofs.Common.{◌≡◌, refl, sym, ap, ◌∙◌, subst, ℕ, ◌<◌, true, List, [], ◌∷◌, length, map, arith}
 use Rattle.std.specs.Prelude.{All}
 use borrow.Author.Tests.{ltb-true}
 use Rattle.pf_ints.specs.declared.lane.LaneType.{LaneType}
@@ -34,6 +34,8 @@ no_names names images taps defs =
       distinct_names = λ i j d under below. absurd (omega arith);
       near = λ n d below. absurd (omega arith);
       distinct_taps = λ i j d under below. absurd (omega arith);
+      order = record { first = refl; order = λ i j d under below. absurd (omega arith) };
+      still = λ n d below. absurd (omega arith);
     }
     )
 

@@ -14,12 +14,14 @@ const TEXTS: &str = "\
 1 syntax 8 | kernel 3
 1 syntax 8 | kernel min
 1 syntax 8 | kernel u8
+1 syntax 8 | kernel param
 1 syntax 8 | kernel K
 1 syntax 8 | kernel abcdefghijklmnopqrstuvwxyz0123456
 1 syntax 10 | kernel k k
 1 syntax 12 |  \tkernel\tk $
 2 syntax 6 | kernel k;image
 2 syntax 7 | kernel k;image u8
+2 syntax 7 | kernel k;image param u8
 2 syntax 8 | kernel k;image a
 2 syntax 9 | kernel k;image a i8
 2 syntax 9 | kernel k;image a u32
@@ -40,6 +42,11 @@ const TEXTS: &str = "\
 2 syntax 1 | kernel k;kernel k
 2 syntax 1 | kernel k;def d u8 = 1u8
 2 syntax 1 | kernel k;out u8 = 1u8
+1 syntax 1 | param g u8
+2 syntax 1 | kernel k;param g u8
+2 syntax 1 | kernel k;param g u8;image a u8
+4 syntax 1 | kernel k;image a u8;param g u8;image b u8
+4 syntax 1 | kernel k;image a u8;param g u8;
 3 syntax 1 | kernel k;image a u8;
 4 syntax 1 | kernel k;image a u8;def d u8 = 1u8;image b u8
 4 syntax 1 | kernel k;image a u8;def d u8 = 1u8;
@@ -54,6 +61,25 @@ const FRONT: &[u8] = b"kernel k\nimage a u8\n";
 const LINES: &str = "\
 3 syntax 1 | kernel k
 3 syntax 1 | d u8 = 1u8
+3 syntax 6 | param
+3 syntax 7 | param u8
+3 syntax 7 | param param u8
+3 syntax 8 | param g
+3 syntax 8 | param g[0,0] u8
+3 syntax 9 | param g i8
+3 syntax 9 | param g u32
+3 syntax 12 | param g u8 x
+3 syntax 12 | param g u8 -5 6
+3 syntax 12 | param g u8 256
+3 syntax 13 | param g u8 5
+3 syntax 12 | param g u8 5 4
+3 syntax 12 | param g u8 5 256
+3 syntax 12 | param g u8 5 4294967301
+3 syntax 14 | param g u8 5 12345678901
+3 syntax 16 | param g u8 5 6 7
+4 syntax 1 | param g u8;image b u8
+4 syntax 1 | def d u8 = 1u8;param g u8
+4 syntax 1 | out u8 = 1u8;param g u8
 3 syntax 4 | def
 3 syntax 5 | def 1 u8 = 1u8
 3 syntax 5 | def max u8 = 1u8
@@ -97,6 +123,7 @@ const LINES: &str = "\
 3 syntax 12 | out u8 = - a[0,0]
 3 syntax 11 | out u8 = -
 3 syntax 10 | out u8 = A[0,0]
+3 syntax 10 | out u8 = param
 3 syntax 10 | out u8 = abcdefghijklmnopqrstuvwxyz0123456
 3 syntax 12 | out u8 = a[
 3 syntax 12 | out u8 = a[x,0]
@@ -152,6 +179,13 @@ const LINES: &str = "\
 4 name d | def d u8 = 1u8;out u8 = d[0,0]
 3 name d | def d u8 = d
 3 name e | def d u8 = e;def e u8 = 1u8
+4 name g | param g u8;out u8 = g[0,0]
+4 name h | param g u8;out u8 = g + h
+4 name a | param g u8;out u8 = g + a
+3 name g | def d u8 = g;param g u8
+3 name a | param a u8
+4 name g | param g u8;param g u8
+4 name g | param g u8;def g u8 = 1u8
 3 name a | image a u8
 3 name a | def a u8 = 1u8
 4 name d | def d u8 = 1u8;def d u8 = 1u8
@@ -160,6 +194,8 @@ const LINES: &str = "\
 3 name x | out u8 = select(x < y, a[0,0], a[0,0])
 4 types u8 u16 | image b u16;out u16 = a[0,0] + b[0,0]
 3 types u16 u8 | out u16 = a[0,0]
+4 types u16 u8 | param g u8;out u16 = g
+4 types u8 u16 | param g u16;out u8 = a[0,0] + g
 3 types i16 u16 | def d i16 = 1u16
 3 types u16 u32 | out u16 = widening_add(1u32, 1u32)
 3 types u8 u32 | out u16 = widening_mul(1u8, 1u32)
@@ -207,6 +243,8 @@ kernel | out u8 = a[64,-64] + a[-64,64]
 kernel | image k u8;out u8 = k[0,0]
 kernel | image abcdefghijklmnopqrstuvwxyz_12345 u8;out u8 = a[0,0]
 kernel | def d u8 = (a[0,0]);out u8 = ((d))
+kernel | param g u8;out u8 = g
+kernel | param g u16 5 5;param h u8;out u8 = u8(g) + h
 ";
 
 fn told(alloc: Global, text: &[u8]) -> Result<String, Fail> {
@@ -325,6 +363,25 @@ fn kernels_have_8_images(rt: HostRuntime) -> Result<(), Fail> {
 }
 
 #[test]
+fn parameters_count_as_images(rt: HostRuntime) -> Result<(), Fail> {
+    let lines =
+        b"image b u8\nimage c u8\nparam d u8\nparam e u8\nparam f u8\nparam g u8\nparam h u8\n";
+    try_limit(&rt, lines, [b"out u8 = h", b"param i u8"], "limit images 9")
+}
+
+#[test]
+fn parameters_count_as_taps(rt: HostRuntime) -> Result<(), Fail> {
+    let front = b"param g u8\nout u8 = 1u8";
+    let taps = with_64(rt.alloc(), front, b" + a[", b",", b"]")?;
+    try_limit(
+        &rt,
+        taps.as_slice(),
+        [b" + a[0,0]", b" + g"],
+        "limit taps 65",
+    )
+}
+
+#[test]
 fn kernels_have_64_taps(rt: HostRuntime) -> Result<(), Fail> {
     let taps = with_64(rt.alloc(), b"out u8 = 1u8", b" + a[", b",", b"]")?;
     // One that stands already isn't counted again.
@@ -391,6 +448,14 @@ const WRITTEN: &[(&[u8], &[u8])] = &[
         b"kernel k # c\r\n\n\timage k u16 7 09\ndef d i8=-3i8*-0i8\ndef e u16 = k [ -1 , 0 ]\nout u16=select(e<2u16,e,k[0,64])",
         b"kernel k\nimage k u16 7 9\ndef d i8 = (-3i8 * 0i8)\ndef e u16 = k[-1,0]\nout u16 = select(2u16 > e, e, k[0,64])\n",
     ),
+    (
+        b"kernel gain\nimage a u8\nparam g u8 0 16\nout u8 = saturating_add(a[0,0], g)\n",
+        b"kernel gain\nimage a u8 0 255\nparam g u8 0 16\nout u8 = saturating_add(a[0,0], g)\n",
+    ),
+    (
+        b"kernel k\nimage a u8 # c\n\tparam\tg\tu16 # c\n\nparam h u8 07 7\r\ndef d u16=g>>1\nout u8 = min(a[1,0],h)+u8(d)+ h",
+        b"kernel k\nimage a u8 0 255\nparam g u16 0 65535\nparam h u8 7 7\ndef d u16 = (g >> 1)\nout u8 = ((min(a[1,0], h) + u8(d)) + h)\n",
+    ),
 ];
 
 /// What is written of a text's kernel.
@@ -431,5 +496,8 @@ fn outputs_have_sizes(rt: HostRuntime) -> Result<(), Fail> {
     assert!(rt; size_of(rt.alloc(), text, 5, 3)? == Some((2, 1)));
     assert!(rt; size_of(rt.alloc(), text, 3, 3)?.is_none());
     assert!(rt; size_of(rt.alloc(), text, 5, 2)?.is_none());
+    // A parameter has no size.
+    let text = b"kernel k\nimage a u8\nparam g u8\nout u8 = min(a[1,-1], g)";
+    assert!(rt; size_of(rt.alloc(), text, 5, 3)? == Some((4, 2)));
     Ok(())
 }

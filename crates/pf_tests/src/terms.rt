@@ -144,11 +144,11 @@ fn expressions_have_values(rt: HostRuntime) -> Result<(), Fail> {
     Ok(())
 }
 
-/// The names of two u8 images a and b, and of an i16 definition d.
+/// The names of two u8 images a and b, of a u8 parameter p, and of an i16 definition d.
 fn some_names(alloc: Global) -> Result<Names, Fail>
     ensures { IfOk result IsNames }
 {
-    let text = b"kernel k\nimage a u8\nimage b u8\ndef d i16 = 1i16\nout u8 = 1u8";
+    let text = b"kernel k\nimage a u8\nimage b u8\nparam p u8 3 9\ndef d i16 = 1i16\nout u8 = 1u8";
     let kernel = read_kernel(alloc, text)?;
     Ok(kernel.names().copy(alloc)?)
 }
@@ -159,6 +159,8 @@ a[0,0] - b[0,0]-a[1,0] | ((a[0,0] - b[0,0]) - a[1,0])
 d >> 1 << 2 | ((d >> 1) << 2)
 d + -32768i16 * - 0i16 | (d + (-32768i16 * 0i16))
 select(a[0,0] < b[0,0], a[1,-1], b[0,0]) | select(b[0,0] > a[0,0], a[1,-1], b[0,0])
+p + a[0,0] * p | (p + (a[0,0] * p))
+select(p<a[0,0],( p ),p) | select(a[0,0] > p, p, p)
 ";
 
 fn printed(alloc: Global, text: &str) -> Result<Vec<u8>, Fail> {
@@ -192,6 +194,15 @@ fn taps_stand_in_their_order(rt: HostRuntime) -> Result<(), Fail> {
     Ok(())
 }
 
+#[test]
+fn parameters_are_taps_without_offsets(rt: HostRuntime) -> Result<(), Fail> {
+    let mut names = some_names(rt.alloc())?;
+    let _term = read_term(rt.alloc(), b"select(a[0,1] < p, b[2,0], p)", &mut names)?;
+    let wanted = [tap(2, 0, 0), tap(0, 0, 1), tap(1, 2, 0)];
+    assert!(rt; names.taps.as_slice() == wanted.as_slice());
+    Ok(())
+}
+
 /// What is told of expressions that are none.
 const REFUSED: &str = "\
 syntax 8 | min(a, 3 i16)
@@ -209,7 +220,11 @@ syntax 3 | a[-12345678901,0]
 syntax 3 | - foo
 name y | d + 1u8 + y[0,0] + a
 name a | select(a < b, -3i16, i16(y))
+name p | p + p[0,0]
+name p | p[1,0] + y
+name a | p - a
 types i16 u8 | mul_shr(d, a[65,0], 300)
+types i16 u8 | d + p
 amount 9999999999 | (d >> 9999999999) + 1u8
 limit offset -65 | select(a[0,-65] < b[99,0], a[0,0], b[0,0])
 limit offset 65 | a[1,2] * u8(d) + b[0,0] + a[65,0]

@@ -54,6 +54,7 @@ fn is_line_word(bytes: &[u8]) -> bool
 {
     bytes == b"kernel".as_slice()
         || bytes == b"image".as_slice()
+        || bytes == b"param".as_slice()
         || bytes == b"def".as_slice()
         || bytes == b"out".as_slice()
 }
@@ -96,7 +97,7 @@ fn is_reserved(bytes: &[u8]) -> bool
     is_type_word(bytes) || is_pair_word(bytes) || is_call_word(bytes) || is_line_word(bytes)
 }
 
-/// Whether the bytes may name an image, a definition, a kernel or a label: 1 to 32 bytes, a small
+/// Whether the bytes may name an image, a parameter, a definition, a kernel or a label: 1 to 32 bytes, a small
 /// letter and then small letters, digits or `_`, and none of the words that stand for themselves.
 #[tactic(auto, unfolding(crate::specs::Meaning::Words::is_name))]
 pub fn is_name(bytes: &[u8]) -> bool

@@ -7,17 +7,18 @@ use Rattle.pf_ints.specs.declared.target.Target.{Target}
 use Rattle.pf_ints.specs.declared.target.Target.TheVariants.{Neon as OnNeon, Avx2, Hvx}
 use Rattle.pf_ints.specs.Meaning.Images.{Picture, IsPicture}
 use Rattle.pf_values.specs.declared.kernel.ImageDecl.{ImageDecl}
-use Rattle.pf_values.specs.Meaning.Kernels.{Source, Keeps, Out}
+use Rattle.pf_values.specs.Meaning.Kernels.{Source, Keeps, Out, planes_of}
 use Rattle.pf_images.specs.Meaning.Outside.{Contents}
 use Rattle.pf_isa.specs.Meaning.Headline.{Headline}
 use Rattle.pf_neon.specs.Meaning.Neon.{Neon, table, IsNeonInstruction}
 use Rattle.pf_run.specs.declared.any.AnyProgram.{AnyProgram}
 use Rattle.pf_run.specs.declared.any.AnyProgram.TheVariants.{Neon as NeonProgram}
 use Rattle.pf_run.specs.Meaning.AnyPrograms.{RanAny}
+use Rattle.pf_run.specs.Meaning.Sets.{image_decls}
 use Rattle.pf_run.proofs.Agreeing.{returns, leaves_output}
 use Rattle.pf_select.specs.Meaning.Targets.{HeadlineOn, IsSelectedOn}
 use Rattle.pf_top.specs.Meaning.Files.{IsProgramText, text_limit}
-use Rattle.pf_top.specs.Meaning.Running.{Run, EndsIn, IsImageThere, IsRunnable, programs}
+use Rattle.pf_top.specs.Meaning.Running.{Run, EndsIn, IsImageThere, IsRunnable, programs, values_of}
 use Rattle.pf_top.proofs.Completing.{same_files}
 
 -- what is selected keeps the promise, on each target
@@ -35,8 +36,8 @@ abbrev pub Agrees : Run → Contents → Picture → Type 0
 Agrees r old o = IsRunnable programs r old × ((q : Picture) → EndsIn programs r (Ok q) old → q ≡ o)
 
 on_neon : (r : Run) (source : Source) (text : List ℕ) (h : Headline Neon table IsNeonInstruction source text) (pictures : List Picture) (o : Picture) (old : Contents)
-    → old r.text ≡ Some text → length text ≤ text_limit → length r.images ≡ length source.images → AllZip (IsImageThere old) (zip r.images source.images) pictures
-    → Keeps source pictures → Out source pictures o → IsPicture o → Agrees r old o
+    → old r.text ≡ Some text → length text ≤ text_limit → length r.images ≡ length (image_decls source.images) → AllZip (IsImageThere old) (zip r.images (image_decls source.images)) pictures
+    → Keeps source (planes_of source.images pictures (values_of r)) → Out source (planes_of source.images pictures (values_of r)) o → IsPicture o → Agrees r old o
 on_neon r source text h pictures o old there low count images keeps out picture = (runnable, left)
   where
     p : AnyProgram
@@ -47,20 +48,20 @@ on_neon r source text h pictures o old there low count images keeps out picture 
       meaning = p;
       pictures = pictures;
       text = whole_file (old r.text) text (text_limit + 1) (IsProgramText p) there (omega (arith, low)) (low, h.parses);
-      count = count ∙ ap (λ (ds : List ImageDecl). length ds) (sym h.images);
-      images = subst (λ ds. AllZip (IsImageThere old) (zip r.images ds) pictures) (sym h.images) images;
-      works = returns table IsNeonInstruction source text h pictures keeps;
+      count = count ∙ ap (λ (ds : List ImageDecl). length (image_decls ds)) (sym h.images);
+      images = subst (λ ds. AllZip (IsImageThere old) (zip r.images (image_decls ds)) pictures) (sym h.images) images;
+      works = returns table IsNeonInstruction source text h pictures (values_of r) keeps;
     }
 
     left : (q : Picture) → EndsIn programs r (Ok q) old → q ≡ o
     left q ends =
         let same = same_files programs r old runnable ends.0 ends.1 ends.2 in
-        let ran : RanAny p pictures (Ok q) = subst (λ ps. RanAny p ps (Ok q)) same.1 (subst (λ (x : AnyProgram). RanAny x ends.1 (Ok q)) same.0 ends.3) in
-        leaves_output table IsNeonInstruction source text h pictures keeps o q out picture ran
+        let ran : RanAny p pictures (values_of r) (Ok q) = subst (λ ps. RanAny p ps (values_of r) (Ok q)) same.1 (subst (λ (x : AnyProgram). RanAny x ends.1 (values_of r) (Ok q)) same.0 ends.3) in
+        leaves_output table IsNeonInstruction source text h pictures (values_of r) keeps o q out picture ran
 
 pub agreed : (r : Run) (target : Target) (source : Source) (text : List ℕ) (pictures : List Picture) (o : Picture) (old : Contents)
-    → old r.text ≡ Some text → length text ≤ text_limit → HeadlineOn target source text → length r.images ≡ length source.images → AllZip (IsImageThere old) (zip r.images source.images) pictures
-    → Keeps source pictures → Out source pictures o → IsPicture o → Agrees r old o
+    → old r.text ≡ Some text → length text ≤ text_limit → HeadlineOn target source text → length r.images ≡ length (image_decls source.images) → AllZip (IsImageThere old) (zip r.images (image_decls source.images)) pictures
+    → Keeps source (planes_of source.images pictures (values_of r)) → Out source (planes_of source.images pictures (values_of r)) o → IsPicture o → Agrees r old o
 agreed r OnNeon source text pictures o old there low h count images keeps out picture = on_neon r source text h pictures o old there low count images keeps out picture
 agreed r Avx2 source text pictures o old there low h count images keeps out picture = absurd h
 agreed r Hvx source text pictures o old there low h count images keeps out picture = absurd h

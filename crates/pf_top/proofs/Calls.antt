@@ -4,7 +4,7 @@ use Rattle.std.specs.Prelude.{codes}
 use Rattle.std.specs.List.{AllZip}
 use Rattle.pf_ints.specs.declared.target.Target.{Target}
 use Rattle.pf_ints.specs.Meaning.Images.{Picture, IsPicture}
-use Rattle.pf_values.specs.Meaning.Kernels.{Source, Keeps, Out}
+use Rattle.pf_values.specs.Meaning.Kernels.{Source, Keeps, Out, planes_of}
 use Rattle.pf_images.specs.Meaning.Outside.{Contents}
 use Rattle.pf_images.specs.Meaning.Pgm.{pgm_text}
 use Rattle.pf_kernel.specs.Meaning.Kernels.{Meaning}
@@ -12,10 +12,11 @@ use Rattle.pf_outside.specs.Meaning.Reports.{Output}
 use Rattle.pf_outside.specs.Meaning.StoreCalls.{Store}
 use Rattle.pf_outside.specs.Meaning.Tasks.{Effect, EndsWith}
 use Rattle.pf_outside.proofs.Tasks.{told_after, works}
+use Rattle.pf_run.specs.Meaning.Sets.{image_decls}
 use Rattle.pf_select.specs.Meaning.Targets.{HeadlineOn}
 use Rattle.pf_top.specs.Meaning.Commands.{Command, Selecting, Running, IsCommand, IsCalm, Does, CanDo, task_of}
 use Rattle.pf_top.specs.Meaning.Files.{kernel_file, text_limit}
-use Rattle.pf_top.specs.Meaning.Running.{Run, IsImageThere, IsRunCommand}
+use Rattle.pf_top.specs.Meaning.Running.{Run, IsImageThere, IsRunCommand, values_of}
 use Rattle.pf_top.specs.Meaning.Selections.{Select, IsSelect, Selects, SpellsKernel}
 use Rattle.pf_top.proofs.Agreement.{Agrees, agreed, headline_of}
 use Rattle.pf_top.proofs.Completing.{fits, same_held}
@@ -53,8 +54,8 @@ headline words c s k old b a ob n oa is also done told spelled nought =
 
 pub agrees : (words : List (List ℕ)) (c : Command) (r : Run) (target : Target) (source : Source) (text : List ℕ) (pictures : List Picture) (o : Picture) (old : Contents) (b a : Store) (ob : Output) (n : ℕ) (oa : Output)
     → IsCommand words c → IsRunCommand (codes "run") words r → Does c b a ob n oa
-    → b.held ≡ Some old → old r.text ≡ Some text → length text ≤ text_limit → HeadlineOn target source text → length r.images ≡ length source.images → AllZip (IsImageThere old) (zip r.images source.images) pictures
-    → Keeps source pictures → Out source pictures o → IsPicture o
+    → b.held ≡ Some old → old r.text ≡ Some text → length text ≤ text_limit → HeadlineOn target source text → length r.images ≡ length (image_decls source.images) → AllZip (IsImageThere old) (zip r.images (image_decls source.images)) pictures
+    → Keeps source (planes_of source.images pictures (values_of r)) → Out source (planes_of source.images pictures (values_of r)) o → IsPicture o
     → (IsCalm b.faults a.faults → IsCalm ob.faults oa.faults → (n ≡ 0) ⊎ (n ≡ 13)) × (n ≡ 0 → (new : Contents) × (a.held ≡ Some new) × (new r.out ≡ Some (pgm_text o)))
 agrees words c r target source text pictures o old b a ob n oa is also done told there low h count images keeps out picture =
     let this = does words c (Running r) b a ob n oa is also done in

@@ -1,6 +1,6 @@
 -- Each command does its work wherever it can.
 use Rattle.std.proofs.Common.{◌≡◌, ℕ, zero, suc, ◌+◌, ◌<◌, take, zip, length, List, [], ◌∷◌, Option, Some, None, Err, ◌∙◌, refl, sym, ap, subst, get_or, arith}
-use Rattle.std.specs.Prelude.{IsSomeAnd, slice_get, true, false, All, ◌++◌}
+use Rattle.std.specs.Prelude.{ℤ, IsSomeAnd, slice_get, true, false, All, ◌++◌}
 use Rattle.pf_check.specs.declared.checked.CheckedParts.{CheckedParts}
 use Rattle.pf_check.specs.declared.fault.RuleFault.{RuleFault}
 use Rattle.pf_check.specs.Meaning.Files.{AllAccepted, AreOutcomes, entry}
@@ -11,10 +11,10 @@ use Rattle.std.specs.List.{AllZip}
 use Rattle.std.proofs.lemmas.List.{take_all}
 use Rattle.std.proofs.lemmas.List.Elements.{All-nil, All-cons}
 use Rattle.std.proofs.lemmas.Option.{slice_get_within}
-use Rattle.std.proofs.lemmas.Slice.Zip.{length-zip}
+use Rattle.std.proofs.lemmas.Slice.Zip.{AllZip-long, length-zip}
 use Rattle.pf_ints.specs.Meaning.Images.{Picture}
 use Rattle.pf_values.specs.declared.kernel.ImageDecl.{ImageDecl}
-use Rattle.pf_values.specs.Meaning.Kernels.{Keeps}
+use Rattle.pf_values.specs.Meaning.Kernels.{Keeps, planes_of}
 use Rattle.pf_images.specs.Meaning.Outside.{Contents}
 use Rattle.pf_kernel.specs.Meaning.Kernels.{Meaning}
 use Rattle.pf_machine.specs.Meaning.Programs.{ProgramOf}
@@ -26,22 +26,24 @@ use Rattle.pf_run.specs.declared.any.AnyProgram.{AnyProgram}
 use Rattle.pf_run.specs.declared.any.AnyProgram.TheVariants.{Neon as NeonProgram, Avx2 as Avx2Program, Hvx as HvxProgram}
 use Rattle.pf_run.specs.declared.fault.RunFault.{RunFault}
 use Rattle.pf_run.specs.declared.fault.RunFault.TheVariants.{Text as TextAt, Set, Outside, Spent, Memory as RunMemory}
-use Rattle.pf_run.specs.Meaning.AnyPrograms.{Returns, ReturnsAny, RanAny}
+use Rattle.pf_run.specs.Meaning.AnyPrograms.{Returns, ReturnsAny, RanAny, head_of}
 use Rattle.pf_run.specs.Meaning.Answers.{Ran}
+use Rattle.pf_run.specs.Meaning.Sets.{KeepsValues, image_decls}
 use Rattle.pf_outside.specs.Meaning.Formats.{Format, Holds, HoldsNone, Means, IsRefused}
 use Rattle.pf_outside.specs.Meaning.StoreCalls.{FileStartsWith}
 use Rattle.pf_outside.specs.Meaning.Tasks.{file_name}
 use Rattle.pf_outside.proofs.Tasks.{IsFit}
 use Rattle.pf_top.specs.declared.fault.Failure.{Failure}
-use Rattle.pf_top.specs.declared.fault.Failure.TheVariants.{Target as NoTarget, NoText, Count, Run as RunFailure, RulesRefused}
+use Rattle.pf_top.specs.declared.fault.Failure.TheVariants.{Target as NoTarget, NoText, Count, Values, Value, RulesRefused, Run as RunFailure}
 use Rattle.pf_top.specs.declared.fault.FileFault.{FileFault}
 use Rattle.pf_top.specs.Meaning.Checking.{Check, FailsCheck, HasAccepted, checking}
 use Rattle.pf_top.specs.Meaning.Migrating.{Migrate, IsMigratable, migrating}
 use Rattle.pf_top.specs.Meaning.Commands.{Command, Selecting, Checking, Migrating, Running, Evaluating, task_of}
 use Rattle.pf_top.specs.Meaning.Files.{image_file, image_limit, kernel_file, rule_file, IsImageFile}
-use Rattle.pf_top.specs.Meaning.Running.{Language, Run, FilesHold, HoldsImage, IsImageThere, IsRunnable, RefusesRun, FailsRun, RunsTo, Evaluates, kernels, programs, running}
+use Rattle.pf_top.specs.Meaning.Running.{Language, Run, FilesHold, HoldsImage, IsImageThere, IsRunnable, RefusesRun, FailsRun, Misfits, MisfitsText, RunsTo, Evaluates, declared, kernels, programs, running, values_of}
 use Rattle.pf_top.specs.Meaning.RuleFiles.{rules_for}
 use Rattle.pf_top.specs.Meaning.Selections.{Select, IsSelectable, RefusesSelect, FailsSelect, lift_text, lower_text, selecting}
+use Rattle.pf_top.proofs.ValueLaws.{keeps_values, no_misfit}
 use Rattle.pf_select.specs.Meaning.Targets.{IsBuilt}
 
 -- two facts of what a name holds
@@ -87,6 +89,8 @@ module _ (s : Select) where
       let same : fails.0 ≡ can.meaning = same_held kernel_file s.kernel fails.0 can.meaning m fails.1 can.kernel in
       fails.2 (subst (λ (k : Meaning). IsBuilt s.target k.source) (sym same) can.built)
   goes_on (Count want got) m can fails = fails
+  goes_on (Values want got) m can fails = fails
+  goes_on (Value name value) m can fails = fails
   goes_on (RunFailure e) m can fails = fails
   goes_on (RulesRefused lines) m can fails = fails
 
@@ -113,6 +117,8 @@ module _ (c : Check) where
   rules_go_on (NoTarget t) m can fails = fails
   rules_go_on NoText m can fails = fails
   rules_go_on (Count want got) m can fails = fails
+  rules_go_on (Values want got) m can fails = fails
+  rules_go_on (Value name value) m can fails = fails
   rules_go_on (RunFailure e) m can fails = fails
 
   file_there : (n : ℕ) (m : Contents) → HasAccepted c m → n < 1 → m (file_name (checking c) n) ≡ None → ⊥
@@ -162,16 +168,24 @@ module _ {P : Type 0} (l : Language P) (r : Run) (m : Contents) (can : IsRunnabl
   pub same_files : (p : P) (pictures : List Picture) → FilesHold l r (length r.images) p pictures m → (p ≡ can.meaning) × (pictures ≡ can.pictures)
   same_files p pictures holds =
       let same : p ≡ can.meaning = same_meaning p holds.text in
-      let zipped = length-zip r.images (l.decls p) in
-      let whole : take (length r.images) (zip r.images (l.decls p)) ≡ zip r.images (l.decls p) = take_all (length r.images) (zip r.images (l.decls p)) (omega (arith, zipped)) in
-      let held : AllZip (HoldsImage m) (zip r.images (l.decls p)) pictures = subst (λ ws. AllZip (HoldsImage m) ws pictures) whole holds.images in
-      let here : AllZip (HoldsImage m) (zip r.images (l.decls can.meaning)) pictures = subst (λ (q : P). AllZip (HoldsImage m) (zip r.images (l.decls q)) pictures) same held in
-      (same, same_pictures m (zip r.images (l.decls can.meaning)) pictures can.pictures here can.images)
+      let zipped = length-zip r.images (image_decls (l.decls p)) in
+      let whole : take (length r.images) (declared l r p) ≡ declared l r p = take_all (length r.images) (declared l r p) (omega (arith, zipped)) in
+      let held : AllZip (HoldsImage m) (declared l r p) pictures = subst (λ ws. AllZip (HoldsImage m) ws pictures) whole holds.images in
+      let here : AllZip (HoldsImage m) (declared l r can.meaning) pictures = subst (λ (q : P). AllZip (HoldsImage m) (declared l r q) pictures) same held in
+      (same, same_pictures m (declared l r can.meaning) pictures can.pictures here can.images)
+
+  -- there is a picture for each word
+  pictured : length can.pictures ≡ length r.images
+  pictured =
+      let long = AllZip-long (IsImageThere m) (declared l r can.meaning) can.pictures can.images in
+      let zipped = length-zip r.images (image_decls (l.decls can.meaning)) in
+      let count = can.count in
+      omega (arith, long, zipped, count)
 
   run_there : (n : ℕ) → n < suc (length r.images) → m (file_name (running l r) n) ≡ None → ⊥
   run_there zero low none = not_missing (m r.text) _ none can.text
   run_there (suc n) low none =
-      let there = image_at (IsImageThere m) r.images (l.decls can.meaning) can.pictures n (omega (arith, low)) can.count can.images in
+      let there = image_at (IsImageThere m) r.images (image_decls (l.decls can.meaning)) can.pictures n (omega (arith, low)) can.count can.images in
       not_missing (m there.0.0) (λ all. IsImageFile there.0.1.ty there.1 (take (image_limit + 1) all)) (ap m there.3 ∙ none) there.2
 
   run_accepted : (n : ℕ) (e : FileFault) → RefusesRun l r n e m → ⊥
@@ -179,63 +193,80 @@ module _ {P : Type 0} (l : Language P) (r : Run) (m : Contents) (can : IsRunnabl
   run_accepted (suc n) e refused =
       let same : refused.0 ≡ can.meaning = same_meaning refused.0 refused.2 in
       let d = refused.1 in
-      let declared : slice_get (l.decls can.meaning) n ≡ Some d = subst (λ (p : P). slice_get (l.decls p) n ≡ Some d) same refused.3 in
-      let within : n < length (l.decls can.meaning) = slice_get_within (l.decls can.meaning) n d declared in
+      let declared_here : slice_get (image_decls (l.decls can.meaning)) n ≡ Some d = subst (λ (p : P). slice_get (image_decls (l.decls p)) n ≡ Some d) same refused.3 in
+      let within : n < length (image_decls (l.decls can.meaning)) = slice_get_within (image_decls (l.decls can.meaning)) n d declared_here in
       let count = can.count in
-      let there = image_at (IsImageThere m) r.images (l.decls can.meaning) can.pictures n (omega (arith, within, count)) can.count can.images in
-      let of_type : there.0.1 ≡ d = let two : Some there.0.1 ≡ Some d = sym there.4 ∙ declared in cc in
+      let there = image_at (IsImageThere m) r.images (image_decls (l.decls can.meaning)) can.pictures n (omega (arith, within, count)) can.count can.images in
+      let of_type : there.0.1 ≡ d = let two : Some there.0.1 ≡ Some d = sym there.4 ∙ declared_here in cc in
       let none : HoldsNone (image_file there.0.1.ty) there.0.0 e m = subst (λ name. HoldsNone (image_file there.0.1.ty) name e m) (sym there.3) (subst (λ (x : ImageDecl). HoldsNone (image_file x.ty) (get_or r.images n []) e m) (sym of_type) refused.4) in
       not_refused (image_file there.0.1.ty) there.0.0 there.1 e m none there.2
 
-  run_goes_on : ((e : RunFault) (p : P) (pictures : List Picture) → l.Works p pictures → l.Ends p pictures (Err e) → ⊥) → (f : Failure) → FailsRun l r f m → ⊥
-  run_goes_on ends (NoTarget t) fails = fails
-  run_goes_on ends NoText fails = fails
-  run_goes_on ends (RulesRefused lines) fails = fails
-  run_goes_on ends (Count want got) fails =
-      let same : fails.0 ≡ can.meaning = same_meaning fails.0 fails.1 in
-      let heads : length (l.decls fails.0) ≡ length (l.decls can.meaning) = ap (λ (p : P). length (l.decls p)) same in
-      fails.4 (fails.2 ∙ heads ∙ sym can.count ∙ sym fails.3)
-  run_goes_on ends (RunFailure e) fails =
-      let same = same_files fails.0 fails.1 fails.2 in
-      ends e can.meaning can.pictures can.works (subst (λ (q : P). l.Ends q can.pictures (Err e)) same.0 (subst (λ ps. l.Ends fails.0 ps (Err e)) same.1 fails.3))
+  module _ (fit : (p : P) (pictures : List Picture) (values : List ℤ) → l.Works p pictures values → KeepsValues (l.decls p) (length pictures) values) where
+    no_misfitting : (f : Failure) → MisfitsText l r f m → ⊥
+    no_misfitting f fails =
+        let same : fails.0 ≡ can.meaning = same_meaning fails.0 fails.1 in
+        let kept : KeepsValues (l.decls can.meaning) (length r.images) (values_of r) = subst (λ n. KeepsValues (l.decls can.meaning) n (values_of r)) pictured (fit can.meaning can.pictures (values_of r) can.works) in
+        no_misfit (l.decls can.meaning) (length r.images) (values_of r) f kept (subst (λ (p : P). Misfits (l.decls p) (length r.images) (values_of r) f) same fails.2)
 
-run_fits : {P : Type 0} (l : Language P) (r : Run) → ((e : RunFault) (p : P) (pictures : List Picture) → l.Works p pictures → l.Ends p pictures (Err e) → ⊥) → IsFit (running l r)
-run_fits l r ends = record {
+    run_goes_on : ((e : RunFault) (p : P) (pictures : List Picture) (values : List ℤ) → l.Works p pictures values → l.Ends p pictures values (Err e) → ⊥) → (f : Failure) → FailsRun l r f m → ⊥
+    run_goes_on ends (NoTarget t) fails = no_misfitting (NoTarget t) fails
+    run_goes_on ends NoText fails = no_misfitting NoText fails
+    run_goes_on ends (RulesRefused lines) fails = no_misfitting (RulesRefused lines) fails
+    run_goes_on ends (Count want got) fails = no_misfitting (Count want got) fails
+    run_goes_on ends (Values want got) fails = no_misfitting (Values want got) fails
+    run_goes_on ends (Value name value) fails = no_misfitting (Value name value) fails
+    run_goes_on ends (RunFailure e) fails =
+        let same = same_files fails.0 fails.1 fails.2 in
+        ends e can.meaning can.pictures (values_of r) can.works
+        (subst (λ (q : P). l.Ends q can.pictures (values_of r) (Err e)) same.0 (subst (λ ps. l.Ends fails.0 ps (values_of r) (Err e)) same.1 fails.3))
+
+run_fits : {P : Type 0} (l : Language P) (r : Run) → ((p : P) (pictures : List Picture) (values : List ℤ) → l.Works p pictures values → KeepsValues (l.decls p) (length pictures) values)
+    → ((e : RunFault) (p : P) (pictures : List Picture) (values : List ℤ) → l.Works p pictures values → l.Ends p pictures values (Err e) → ⊥) → IsFit (running l r)
+run_fits l r fit ends = record {
   there = λ n m can _ low none. run_there l r m can n low none;
   accepted = λ n e m can _ none. run_accepted l r m can n e none;
-  goes_on = λ f m can fails. run_goes_on l r m can ends f fails;
+  goes_on = λ f m can fails. run_goes_on l r m can fit ends f fails;
 }
 
-returns_on : {I O : Type 0} (t : Table O) (e : RunFault) (p : ProgramOf I O) (pictures : List Picture) → (e ≡ RunMemory → ⊥) → Returns t p pictures → Ran t p pictures (Err e) → ⊥
-returns_on t (TextAt line kind) p pictures other works ran = ran
-returns_on t (Set fault) p pictures other works ran = ran.0 works.1
-returns_on t (Outside at address count) p pictures other works ran = let fails = ran.1.2 in let ends = works.2 in absurd (cc)
-returns_on t (Spent steps) p pictures other works ran = let fails = ran.1.2 in let ends = works.2 in absurd (cc)
-returns_on t RunMemory p pictures other works ran = other refl
+returns_on : {I O : Type 0} (t : Table O) (e : RunFault) (p : ProgramOf I O) (pictures : List Picture) (values : List ℤ) → (e ≡ RunMemory → ⊥) → Returns t p pictures values → Ran t p pictures values (Err e) → ⊥
+returns_on t (TextAt line kind) p pictures values other works ran = ran
+returns_on t (Set fault) p pictures values other works ran = ran.0 works.1
+returns_on t (Outside at address count) p pictures values other works ran = let fails = ran.1.2 in let ends = works.2 in absurd (cc)
+returns_on t (Spent steps) p pictures values other works ran = let fails = ran.1.2 in let ends = works.2 in absurd (cc)
+returns_on t RunMemory p pictures values other works ran = other refl
 
-any_returns : (e : RunFault) (p : AnyProgram) (pictures : List Picture) → (e ≡ RunMemory → ⊥) → ReturnsAny p pictures → RanAny p pictures (Err e) → ⊥
-any_returns e (NeonProgram p) pictures other works ran = returns_on neon_table e p pictures other works ran
-any_returns e (Avx2Program p) pictures other works ran = returns_on avx2_table e p pictures other works ran
-any_returns e (HvxProgram p) pictures other works ran = returns_on hvx_table e p pictures other works ran
+any_returns : (e : RunFault) (p : AnyProgram) (pictures : List Picture) (values : List ℤ) → (e ≡ RunMemory → ⊥) → ReturnsAny p pictures values → RanAny p pictures values (Err e) → ⊥
+any_returns e (NeonProgram p) pictures other works ran = returns_on neon_table e p pictures values other works ran
+any_returns e (Avx2Program p) pictures other works ran = returns_on avx2_table e p pictures values other works ran
+any_returns e (HvxProgram p) pictures other works ran = returns_on hvx_table e p pictures values other works ran
 
-returns : (e : RunFault) (p : AnyProgram) (pictures : List Picture) → ReturnsAny p pictures → RunsTo p pictures (Err e) → ⊥
-returns RunMemory p pictures works ran = ran
-returns (TextAt line kind) p pictures works ran = any_returns (TextAt line kind) p pictures (λ e. cc) works ran
-returns (Set fault) p pictures works ran = any_returns (Set fault) p pictures (λ e. cc) works ran
-returns (Outside at address count) p pictures works ran = any_returns (Outside at address count) p pictures (λ e. cc) works ran
-returns (Spent steps) p pictures works ran = any_returns (Spent steps) p pictures (λ e. cc) works ran
+returns : (e : RunFault) (p : AnyProgram) (pictures : List Picture) (values : List ℤ) → ReturnsAny p pictures values → RunsTo p pictures values (Err e) → ⊥
+returns RunMemory p pictures values works ran = ran
+returns (TextAt line kind) p pictures values works ran = any_returns (TextAt line kind) p pictures values (λ e. cc) works ran
+returns (Set fault) p pictures values works ran = any_returns (Set fault) p pictures values (λ e. cc) works ran
+returns (Outside at address count) p pictures values works ran = any_returns (Outside at address count) p pictures values (λ e. cc) works ran
+returns (Spent steps) p pictures values works ran = any_returns (Spent steps) p pictures values (λ e. cc) works ran
 
-evaluates : (e : RunFault) (k : Meaning) (pictures : List Picture) → Keeps k.source pictures → Evaluates k pictures (Err e) → ⊥
-evaluates (Set fault) k pictures keeps ends = ends.0 keeps
-evaluates (TextAt line kind) k pictures keeps ends = ends
-evaluates (Outside at address count) k pictures keeps ends = ends
-evaluates (Spent steps) k pictures keeps ends = ends
-evaluates RunMemory k pictures keeps ends = ends
+evaluates : (e : RunFault) (k : Meaning) (pictures : List Picture) (values : List ℤ) → Keeps k.source (planes_of k.source.images pictures values) → Evaluates k pictures values (Err e) → ⊥
+evaluates (Set fault) k pictures values keeps ends = ends.0 keeps
+evaluates (TextAt line kind) k pictures values keeps ends = ends
+evaluates (Outside at address count) k pictures values keeps ends = ends
+evaluates (Spent steps) k pictures values keeps ends = ends
+evaluates RunMemory k pictures values keeps ends = ends
+
+-- what works fits
+fits_program : (p : AnyProgram) (pictures : List Picture) (values : List ℤ) → ReturnsAny p pictures values → KeepsValues (head_of p).images (length pictures) values
+fits_program (NeonProgram p) pictures values works = keeps_values p.head.images p.head.taps pictures values works.1
+fits_program (Avx2Program p) pictures values works = keeps_values p.head.images p.head.taps pictures values works.1
+fits_program (HvxProgram p) pictures values works = keeps_values p.head.images p.head.taps pictures values works.1
+
+fits_kernel : (k : Meaning) (pictures : List Picture) (values : List ℤ) → Keeps k.source (planes_of k.source.images pictures values) → KeepsValues k.source.images (length pictures) values
+fits_kernel k pictures values keeps = keeps_values k.source.images k.source.taps pictures values keeps
 
 -- each command's task
 pub fits : (c : Command) → IsFit (task_of c)
 fits (Selecting s) = select_fits s
 fits (Checking c) = check_fits c
 fits (Migrating m) = migrate_fits m
-fits (Running r) = run_fits programs r returns
-fits (Evaluating e) = run_fits kernels e evaluates
+fits (Running r) = run_fits programs r fits_program returns
+fits (Evaluating e) = run_fits kernels e fits_kernel evaluates

@@ -9,7 +9,7 @@ use Rattle.pf_ints.specs.Meaning.Images.{Picture}
 use Rattle.pf_values.specs.declared.kernel.ImageDecl.{ImageDecl}
 use Rattle.pf_images.specs.Meaning.Outside.{Contents, SameContents}
 use Rattle.pf_outside.specs.declared.stop.Stop.{Stop}
-use Rattle.pf_outside.specs.declared.stop.Stop.TheVariants.{Missing, Unreadable, Refused, Failed, Unwritten, Memory}
+use Rattle.pf_outside.specs.declared.stop.Stop.TheVariants.{Memory}
 use Rattle.pf_outside.specs.Meaning.Formats.{Means, IsRefused}
 use Rattle.pf_outside.specs.Meaning.StoreCalls.{Store, StoreAfter, Well}
 use Rattle.pf_outside.proofs.StoreCalls.{judged_lost}
@@ -41,13 +41,10 @@ all_zip_next R xs ys n x y there all this =
 
 -- the next image is read, of a name and a declaration
 module _ {X : Type 0} (g : X → List ℕ) (names : List X) (decls : List ImageDecl) (n number : ℕ) (x : X) (d : ImageDecl) (name : List ℕ)
-    (count : length names ≡ length decls) (there : slice_get names n ≡ Some x) (here : slice_get decls n ≡ Some d) (is : name ≡ g x) (numbered : number ≡ n + 1)
+    (there : slice_get names n ≡ Some x) (here : slice_get decls n ≡ Some d) (is : name ≡ g x) (numbered : number ≡ n + 1)
     (pictures : List Picture) (b c e : Store) (before : HeldImages (zip (map g names) decls) n pictures b c) where
   named : slice_get (map g names) n ≡ Some name
   named = slice_get-map g names n ∙ ap (option_map g) there ∙ ap Some (sym is)
-
-  counted : length (map g names) ≡ length decls
-  counted = length-map names g ∙ count
 
   stops : (s : Stop FileFault Failure) → JudgedAs (image_file d.ty) number name c (Err s) e → StopsAtImage (map g names) decls b s e
   stops s step = record {
@@ -64,12 +61,7 @@ module _ {X : Type 0} (g : X → List ℕ) (names : List X) (decls : List ImageD
   }
 
   pub images_stop : (s : Stop FileFault Failure) → JudgedAs (image_file d.ty) number name c (Err s) e → ReadsImages (map g names) decls b (Err s) e
-  images_stop (Missing k) step = (counted, stops (Missing k) step)
-  images_stop (Unreadable k) step = (counted, stops (Unreadable k) step)
-  images_stop (Refused k fault) step = (counted, stops (Refused k fault) step)
-  images_stop (Failed f) step = absurd step.at
-  images_stop Unwritten step = (counted, stops Unwritten step)
-  images_stop Memory step = (counted, stops Memory step)
+  images_stop s step = stops s step
 
   pub images_next : (picture : Picture) → JudgedAs (image_file d.ty) number name c (Ok picture) e → HeldImages (zip (map g names) decls) (n + 1) (pictures ++ picture ∷ []) b e
   images_next picture step =
@@ -86,12 +78,12 @@ module _ {X : Type 0} (g : X → List ℕ) (names : List X) (decls : List ImageD
   images_lost picture step = images_stop Memory (judged_lost (Means (image_file d.ty)) (IsRefused (image_file d.ty)) number name (image_limit + 1) c e picture step)
 
 -- all images were read
-pub images_all : {X : Type 0} (g : X → List ℕ) (names : List X) (decls : List ImageDecl) (n : ℕ) (pictures : List Picture) (b c : Store) → length names ≡ length decls → n ≤ length names → length names ≤ n
+pub images_all : {X : Type 0} (g : X → List ℕ) (names : List X) (decls : List ImageDecl) (n : ℕ) (pictures : List Picture) (b c : Store) → n ≤ length names → length names ≤ n
     → HeldImages (zip (map g names) decls) n pictures b c → ReadsImages (map g names) decls b (Ok pictures) c
-images_all g names decls n pictures b c count most least read =
+images_all g names decls n pictures b c most least read =
     let mapped : length (map g names) ≡ length names = length-map names g in
     let same : n ≡ length (map g names) = omega (arith, mapped, most, least) in
-    (mapped ∙ count, subst (λ k. HeldImages (zip (map g names) decls) k pictures b c) same read)
+    subst (λ k. HeldImages (zip (map g names) decls) k pictures b c) same read
 
 pub types_all : (R : ImageDecl → Picture → Type 0) (decls : List ImageDecl) (n : ℕ) (pictures : List Picture) → length decls ≤ n → AllZip R (take n decls) pictures → AllZip R decls pictures
 types_all R decls n pictures least types = subst (λ ds. AllZip R ds pictures) (take_all n decls least) types

@@ -1,9 +1,11 @@
 pub mod SixWords
 pub mod ThreeWords
 pub mod RunLists
+pub mod PartedWords
 pub mod SameWords
 pub mod OneCommand
 pub mod Files
+pub mod ValueLaws
 pub mod KernelFiles
 pub mod ImageLists
 pub mod Running

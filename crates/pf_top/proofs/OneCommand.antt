@@ -1,5 +1,5 @@
 -- Words are those of one command at most.
-use Rattle.std.proofs.Common.{◌≡◌, ◌≢◌, ℕ, List, [], ◌∷◌, refl, sym, ap, ◌∙◌, get_or, arith}
+use Rattle.std.proofs.Common.{◌≡◌, ◌≢◌, ℕ, List, [], ◌∷◌, ◌++◌, refl, sym, ap, ◌∙◌, get_or, arith}
 use Rattle.std.specs.Prelude.{codes}
 use Rattle.pf_ints.specs.declared.target.Target.{Target}
 use Rattle.pf_ints.specs.declared.target.Target.TheVariants.{Neon, Avx2, Hvx}
@@ -7,7 +7,7 @@ use Rattle.pf_ints.specs.Meaning.Targets.{target_word}
 use Rattle.pf_top.specs.Meaning.Checking.{Check, IsCheck}
 use Rattle.pf_top.specs.Meaning.Migrating.{Migrate, IsMigrate}
 use Rattle.pf_top.specs.Meaning.Commands.{Command, Selecting, Checking, Migrating, Running, Evaluating, IsCommand}
-use Rattle.pf_top.specs.Meaning.Running.{Run, IsRunCommand}
+use Rattle.pf_top.specs.Meaning.Running.{Run, IsRunCommand, value_words}
 use Rattle.pf_top.specs.Meaning.Selections.{Select, IsSelect}
 use Rattle.pf_top.proofs.SameWords.{same_run}
 
@@ -68,35 +68,54 @@ abbrev first_letter : List (List ℕ) → ℕ
 first_letter [] = 0
 first_letter (word ∷ more) = get_or word 0 0
 
-other_words : (words v w : List (List ℕ)) → words ≡ v → words ≡ w → first_letter v ≢ first_letter w → ⊥
-other_words words v w first next other = other (ap first_letter (sym first ∙ next))
+-- the words of a run begin with its command
+run_letter : (command : List ℕ) (words : List (List ℕ)) (r : Run) → IsRunCommand command words r → first_letter words ≡ get_or command 0 0
+run_letter command words r is = ap first_letter (is.1.whole ∙ ap (λ files. files ++ value_words r.values) is.2.0)
+
+-- the first letter of a command's words
+abbrev command_letter : Command → ℕ
+command_letter (Selecting s) = get_or (codes "select") 0 0
+command_letter (Checking c) = get_or (codes "check") 0 0
+command_letter (Migrating m) = get_or (codes "migrate") 0 0
+command_letter (Running r) = get_or (codes "run") 0 0
+command_letter (Evaluating e) = get_or (codes "eval") 0 0
+
+letter : (words : List (List ℕ)) (c : Command) → IsCommand words c → first_letter words ≡ command_letter c
+letter words (Selecting s) is = ap first_letter is
+letter words (Checking c) is = ap first_letter is
+letter words (Migrating m) is = ap first_letter is
+letter words (Running r) is = run_letter (codes "run") words r is
+letter words (Evaluating e) is = run_letter (codes "eval") words e is
+
+other : (words : List (List ℕ)) (c d : Command) → IsCommand words c → IsCommand words d → command_letter c ≢ command_letter d → ⊥
+other words c d is also differ = differ (sym (letter words c is) ∙ letter words d also)
 
 pub one_command : (words : List (List ℕ)) (c d : Command) → IsCommand words c → IsCommand words d → c ≡ d
 one_command words (Selecting s) (Selecting t) is also = ap Selecting (same_select words s t is also)
-one_command words (Checking c) (Checking d) is also = ap Checking (same_check words c d is also)
-one_command words (Migrating m) (Migrating n) is also = ap Migrating (same_migration words m n is also)
+one_command words (Checking c) (Checking t) is also = ap Checking (same_check words c t is also)
+one_command words (Migrating m) (Migrating t) is also = ap Migrating (same_migration words m t is also)
 one_command words (Running r) (Running t) is also = ap Running (same_run (codes "run") words r t is also)
-one_command words (Evaluating r) (Evaluating t) is also = ap Evaluating (same_run (codes "eval") words r t is also)
-one_command words (Selecting s) (Checking c) is also = absurd (other_words words _ _ is also (omega arith))
-one_command words (Checking c) (Selecting s) is also = absurd (other_words words _ _ is also (omega arith))
-one_command words (Checking c) (Running r) is also = absurd (other_words words _ _ is also.0 (omega arith))
-one_command words (Checking c) (Evaluating r) is also = absurd (other_words words _ _ is also.0 (omega arith))
-one_command words (Running r) (Checking c) is also = absurd (other_words words _ _ is.0 also (omega arith))
-one_command words (Evaluating r) (Checking c) is also = absurd (other_words words _ _ is.0 also (omega arith))
-one_command words (Selecting s) (Migrating m) is also = absurd (other_words words _ _ is also (omega arith))
-one_command words (Migrating m) (Selecting s) is also = absurd (other_words words _ _ is also (omega arith))
-one_command words (Checking c) (Migrating m) is also = absurd (other_words words _ _ is also (omega arith))
-one_command words (Migrating m) (Checking c) is also = absurd (other_words words _ _ is also (omega arith))
-one_command words (Migrating m) (Running r) is also = absurd (other_words words _ _ is also.0 (omega arith))
-one_command words (Migrating m) (Evaluating r) is also = absurd (other_words words _ _ is also.0 (omega arith))
-one_command words (Running r) (Migrating m) is also = absurd (other_words words _ _ is.0 also (omega arith))
-one_command words (Evaluating r) (Migrating m) is also = absurd (other_words words _ _ is.0 also (omega arith))
-one_command words (Selecting s) (Running r) is also = absurd (other_words words _ _ is also.0 (omega arith))
-one_command words (Selecting s) (Evaluating r) is also = absurd (other_words words _ _ is also.0 (omega arith))
-one_command words (Running r) (Selecting s) is also = absurd (other_words words _ _ is.0 also (omega arith))
-one_command words (Running r) (Evaluating t) is also = absurd (other_words words _ _ is.0 also.0 (omega arith))
-one_command words (Evaluating r) (Selecting s) is also = absurd (other_words words _ _ is.0 also (omega arith))
-one_command words (Evaluating r) (Running t) is also = absurd (other_words words _ _ is.0 also.0 (omega arith))
+one_command words (Evaluating e) (Evaluating t) is also = ap Evaluating (same_run (codes "eval") words e t is also)
+one_command words (Selecting s) (Checking c) is also = absurd (other words (Selecting s) (Checking c) is also (omega arith))
+one_command words (Selecting s) (Migrating m) is also = absurd (other words (Selecting s) (Migrating m) is also (omega arith))
+one_command words (Selecting s) (Running r) is also = absurd (other words (Selecting s) (Running r) is also (omega arith))
+one_command words (Selecting s) (Evaluating e) is also = absurd (other words (Selecting s) (Evaluating e) is also (omega arith))
+one_command words (Checking c) (Selecting s) is also = absurd (other words (Checking c) (Selecting s) is also (omega arith))
+one_command words (Checking c) (Migrating m) is also = absurd (other words (Checking c) (Migrating m) is also (omega arith))
+one_command words (Checking c) (Running r) is also = absurd (other words (Checking c) (Running r) is also (omega arith))
+one_command words (Checking c) (Evaluating e) is also = absurd (other words (Checking c) (Evaluating e) is also (omega arith))
+one_command words (Migrating m) (Selecting s) is also = absurd (other words (Migrating m) (Selecting s) is also (omega arith))
+one_command words (Migrating m) (Checking c) is also = absurd (other words (Migrating m) (Checking c) is also (omega arith))
+one_command words (Migrating m) (Running r) is also = absurd (other words (Migrating m) (Running r) is also (omega arith))
+one_command words (Migrating m) (Evaluating e) is also = absurd (other words (Migrating m) (Evaluating e) is also (omega arith))
+one_command words (Running r) (Selecting s) is also = absurd (other words (Running r) (Selecting s) is also (omega arith))
+one_command words (Running r) (Checking c) is also = absurd (other words (Running r) (Checking c) is also (omega arith))
+one_command words (Running r) (Migrating m) is also = absurd (other words (Running r) (Migrating m) is also (omega arith))
+one_command words (Running r) (Evaluating e) is also = absurd (other words (Running r) (Evaluating e) is also (omega arith))
+one_command words (Evaluating e) (Selecting s) is also = absurd (other words (Evaluating e) (Selecting s) is also (omega arith))
+one_command words (Evaluating e) (Checking c) is also = absurd (other words (Evaluating e) (Checking c) is also (omega arith))
+one_command words (Evaluating e) (Migrating m) is also = absurd (other words (Evaluating e) (Migrating m) is also (omega arith))
+one_command words (Evaluating e) (Running r) is also = absurd (other words (Evaluating e) (Running r) is also (omega arith))
 
 pub no_command : (words : List (List ℕ)) → ((s : Select) → IsSelect words s → ⊥) → ((c : Check) → IsCheck words c → ⊥) → ((m : Migrate) → IsMigrate words m → ⊥) → ((r : Run) → IsRunCommand (codes "run") words r → ⊥) → ((r : Run) → IsRunCommand (codes "eval") words r → ⊥) → (c : Command) → IsCommand words c → ⊥
 no_command words none_select none_check none_migrate none_run none_eval (Selecting s) is = none_select s is

@@ -1,8 +1,8 @@
 -- The words of a run as lists.
-use Rattle.std.proofs.Common.{◌≡◌, subst, ℕ, zero, suc, true, false, not, ◌==◌, ◌+◌, ◌-◌, ◌≤◌, ◌<◌, List, [], ◌∷◌, ◌++◌, length, map, take, drop, get_or, sym, ap, ◌∙◌, arith}
+use Rattle.std.proofs.Common.{◌≡◌, subst, ℕ, zero, suc, true, false, not, ◌==◌, ◌+◌, ◌-◌, ◌≤◌, ◌<◌, List, [], ◌∷◌, ◌++◌, length, map, take, drop, get_or, sym, ap, ◌∙◌, arith, rules}
 use Rattle.std.proofs.lemmas.List.{take_more, take_all, length-map, map-append}
 use Rattle.std.specs.Str.{bytes_eq}
-use Rattle.pf_rows.proofs.Parts.{bytes_eq-same}
+use Rattle.std.proofs.lemmas.Slice.Eq.{bytes_eq-Decides}
 
 last_item : {X : Type 0} (xs : List X) (c : X) → 1 ≤ length xs → c ≡ get_or xs (length xs - 1) c → xs ≡ take (length xs - 1) xs ++ c ∷ []
 last_item xs c some is =
@@ -38,8 +38,11 @@ pub other_command : {X : Type 0} (g : X → List ℕ) (xs : List X) (a : X) (com
 other_command g [] a command some here differs rest e = absurd (omega arith)
 other_command g (x ∷ more) a command some here differs rest e = let first : g x ≡ command = cc in differs (sym (ap g here ∙ first))
 
+same_bytes : (word : List ℕ) → bytes_eq word word ≡ true
+same_bytes word = search (rules, bytes_eq-Decides)
+
 pub other_word : (u v : List ℕ) → true ≡ not (bytes_eq u v) → u ≡ v → ⊥
 other_word u v differ same =
     let other : true ≡ not (bytes_eq v v) = subst (λ w. true ≡ not (bytes_eq w v)) same differ in
-    let never : true ≡ false = subst (λ b. true ≡ not b) (bytes_eq-same v) other in
+    let never : true ≡ false = subst (λ b. true ≡ not b) (same_bytes v) other in
     absurd (cc)

@@ -1,5 +1,6 @@
 -- How the steps of `run` and `eval` make the whole call.
-use Rattle.std.proofs.Common.{◌≡◌, ◌≢◌, ℕ, suc, ◌+◌, ◌≤◌, ◌<◌, take, zip, length, List, [], ◌∷◌, Result, Ok, Err, ◌∙◌, refl, sym, subst, get_or, arith}
+use Rattle.std.proofs.Common.{◌≡◌, ℕ, suc, ◌+◌, ◌≤◌, ◌<◌, take, zip, length, List, [], ◌∷◌, Result, Ok, Err, ◌∙◌, refl, sym, subst, get_or, arith}
+use Rattle.std.specs.Prelude.{ℤ}
 use Rattle.std.specs.List.{AllZip}
 use Rattle.std.proofs.lemmas.Option.{get_or_from_slice_get}
 use Rattle.pf_ints.specs.Meaning.Images.{Picture}
@@ -15,12 +16,13 @@ use Rattle.pf_outside.specs.Steps.FileSteps.{Written}
 use Rattle.pf_outside.proofs.StoreCalls.{After, after_none, begins_before, went_then, same_then}
 use Rattle.pf_outside.proofs.Tasks.{after_judged, stopped, failed, wanted, written}
 use Rattle.pf_run.specs.declared.fault.RunFault.{RunFault}
+use Rattle.pf_run.specs.Meaning.Sets.{KeepsValues, image_decls}
 use Rattle.pf_top.specs.declared.fault.Failure.{Failure}
-use Rattle.pf_top.specs.declared.fault.Failure.TheVariants.{Target, NoText, Count, Run as RunFailure, RulesRefused}
+use Rattle.pf_top.specs.declared.fault.Failure.TheVariants.{Target, NoText, Count, Values, Value, RulesRefused, Run as RunFailure}
 use Rattle.pf_top.specs.declared.fault.FileFault.{FileFault}
 use Rattle.pf_top.specs.Meaning.Files.{image_file, image_limit}
-use Rattle.pf_top.specs.Meaning.Running.{Language, Run, FilesHold, HoldsImage, AllowsRun, running}
-use Rattle.pf_top.specs.Steps.RunSteps.{JudgedAs, HeldImages, StopsAtImage, ReadsImages, StopsAs}
+use Rattle.pf_top.specs.Meaning.Running.{Language, Run, FilesHold, HoldsImage, AllowsRun, Misfits, declared, running, values_of}
+use Rattle.pf_top.specs.Steps.RunSteps.{JudgedAs, JudgesValues, HeldImages, StopsAtImage, ReadsImages, StopsAs}
 
 never : (f : Failure) → ⊥ → ⊥
 never f bars = bars
@@ -42,57 +44,73 @@ module _ {P : Type 0} (l : Language P) (r : Run) (p : P) (b c : Store) (one : Ju
   has_text : After (Holds l.file r.text p) 1 b c
   has_text = after_judged (Means l.file) (IsRefused l.file) (λ _. Unit {0}) (Holds l.file r.text p) r.text (l.file.most + 1) 0 0 b b c p (λ m _ is. is) (after_none b) one
 
-  -- so many images were read
-  has_images : (count : length r.images ≡ length (l.decls p)) (n : ℕ) (pictures : List Picture) (d : Store) → HeldImages (zip r.images (l.decls p)) n pictures c d → After (FilesHold l r n p pictures) (n + 1) b d
-  has_images count n pictures d held =
-      went_then _ _ _ 1 (Well n) b c d (λ m o q f g. (record { text = f.0; count = count; images = all_before m o f.1 (take n (zip r.images (l.decls p))) pictures g.0 }, same_then m o q f.1 g.1)) has_text held
+  -- memory was wanting for the values
+  pub values_wanted : EndsWith (running l r) b (Err Memory) c
+  values_wanted = let most : 1 ≤ suc (length r.images) = omega arith in wanted (running l r) never (Holds l.file r.text p) 1 b c has_text most
 
-  module _ (d : Store) where
-    image_stop : (s : Stop FileFault Failure) → length r.images ≡ length (l.decls p) → StopsAtImage r.images (l.decls p) c s d → EndsWith (running l r) b (Err s) d
-    image_stop s count step =
+  misfits : (f : Failure) → AllowsRun r f → running l r .reads f ≡ 1 → ((m : Contents) → Holds l.file r.text p m → running l r .Fails f m) → EndsWith (running l r) b (Err (Failed f)) c
+  misfits f allowed count fails = failed (running l r) never (Holds l.file r.text p) 1 b c has_text f allowed count (omega arith) fails
+
+  misfit : (s : Stop FileFault Failure) → JudgesValues {A = List ImageDecl} (l.decls p) (length r.images) (values_of r) (Err s) → EndsWith (running l r) b (Err s) c
+  misfit (Failed (Count want got)) why = misfits (Count want got) tt refl (λ m text. (p, text, why))
+  misfit (Failed (Values want got)) why = misfits (Values want got) tt refl (λ m text. (p, text, why))
+  misfit (Failed (Value name value)) why = misfits (Value name value) tt refl (λ m text. (p, text, why))
+  misfit (Failed (Target t)) why = absurd why
+  misfit (Failed NoText) why = absurd why
+  misfit (Failed (RunFailure e)) why = absurd why
+  misfit (Missing n) why = absurd why
+  misfit (Unreadable n) why = absurd why
+  misfit (Refused n e) why = absurd why
+  misfit Unwritten why = absurd why
+  misfit Memory why = absurd why
+
+  -- the words don't fit the text
+  pub misfitted : (decls : List ImageDecl) (images : ℕ) (values : List ℤ) → decls ≡ l.decls p → images ≡ length r.images → values ≡ values_of r
+      → (s : Stop FileFault Failure) → JudgesValues {A = List ImageDecl} decls images values (Err s) → EndsWith (running l r) b (Err s) c
+  misfitted decls images values is count same s why =
+      misfit s (subst (λ ds. JudgesValues {A = List ImageDecl} ds (length r.images) (values_of r) (Err s)) is
+      (subst (λ n. JudgesValues {A = List ImageDecl} decls n (values_of r) (Err s)) count (subst (λ vs. JudgesValues {A = List ImageDecl} decls images vs (Err s)) same why)))
+
+  -- so many images were read
+  has_images : (kept : KeepsValues (l.decls p) (length r.images) (values_of r)) (n : ℕ) (pictures : List Picture) (d : Store) → HeldImages (declared l r p) n pictures c d → After (FilesHold l r n p pictures) (n + 1) b d
+  has_images kept n pictures d held =
+      went_then _ _ _ 1 (Well n) b c d (λ m o q f g. (record { text = f.0; values = kept; images = all_before m o f.1 (take n (declared l r p)) pictures g.0 }, same_then m o q f.1 g.1)) has_text held
+
+  module _ (kept : KeepsValues (l.decls p) (length r.images) (values_of r)) (d : Store) where
+    stop_at : (s : Stop FileFault Failure) → StopsAtImage r.images (image_decls (l.decls p)) c s d → EndsWith (running l r) b (Err s) d
+    stop_at s step =
         let low = step.within in
         let within : suc step.number < suc (length r.images) = omega (arith, low) in
         let up : step.number + 1 ≡ suc step.number = omega arith in
         let name : get_or r.images step.number [] ≡ step.name = get_or_from_slice_get r.images step.number step.name [] step.named in
-        stopped (running l r) never (FilesHold l r step.number p step.pictures) (suc step.number) b step.middle (subst (λ k. After (FilesHold l r step.number p step.pictures) k b step.middle) up (has_images count step.number step.pictures step.middle step.held))
+        stopped (running l r) never (FilesHold l r step.number p step.pictures) (suc step.number) b step.middle (subst (λ k. After (FilesHold l r step.number p step.pictures) k b step.middle) up (has_images kept step.number step.pictures step.middle step.held))
         (Means (image_file step.decl.ty)) (IsRefused (image_file step.decl.ty)) step.name (image_limit + 1) within name (λ m is. (p, step.pictures, is))
         (λ m e is none. (p, step.decl, is.text, step.declared, subst (λ w. HoldsNone (image_file step.decl.ty) w e m) (sym name) none)) d s step.judged
 
-    miscounted : (f : Failure) → f ≡ Count (length (l.decls p)) (length r.images) → length (l.decls p) ≢ length r.images → EndsWith (running l r) b (Err (Failed f)) c
-    miscounted f is differ =
-        subst (λ f. EndsWith (running l r) b (Err (Failed f)) c) (sym is)
-        (failed (running l r) never (Holds l.file r.text p) 1 b c has_text (Count (length (l.decls p)) (length r.images)) tt refl (omega arith) (λ m text. (p, text, refl, refl, differ)))
-
-    stop_at : (s : Stop FileFault Failure) → ReadsImages r.images (l.decls p) c (Err s) d → EndsWith (running l r) b (Err s) d
-    stop_at (Missing n) step = image_stop (Missing n) step.0 step.1
-    stop_at (Unreadable n) step = image_stop (Unreadable n) step.0 step.1
-    stop_at (Refused n e) step = image_stop (Refused n e) step.0 step.1
-    stop_at (Failed f) step = subst (λ e. EndsWith (running l r) b (Err (Failed f)) e) (sym step.2) (miscounted f step.0 step.1)
-    stop_at Unwritten step = image_stop Unwritten step.0 step.1
-    stop_at Memory step = image_stop Memory step.0 step.1
-
     -- the reading of the images stopped
-    pub images_stopped : (decls : List ImageDecl) → decls ≡ l.decls p → (s : Stop FileFault Failure) → ReadsImages r.images decls c (Err s) d → EndsWith (running l r) b (Err s) d
-    images_stopped decls is s step = stop_at s (subst (λ ds. ReadsImages r.images ds c (Err s) d) is step)
+    pub images_stopped : (decls : List ImageDecl) → decls ≡ image_decls (l.decls p) → (s : Stop FileFault Failure) → ReadsImages r.images decls c (Err s) d → EndsWith (running l r) b (Err s) d
+    images_stopped decls is s step = stop_at s (subst (λ ds. StopsAtImage r.images ds c s d) is step)
 
-    module _ (decls : List ImageDecl) (same : decls ≡ l.decls p) (pictures : List Picture) (found : ReadsImages r.images decls c (Ok pictures) d) where
-      read : ReadsImages r.images (l.decls p) c (Ok pictures) d
-      read = subst (λ ds. ReadsImages r.images ds c (Ok pictures) d) same found
+    module _ (decls : List ImageDecl) (same : decls ≡ image_decls (l.decls p)) (pictures : List Picture) (found : ReadsImages r.images decls c (Ok pictures) d) where
+      read : HeldImages (declared l r p) (length r.images) pictures c d
+      read = subst (λ ds. HeldImages (zip r.images ds) (length r.images) pictures c d) same found
 
       abbrev All : Contents → Type 0
       All m = FilesHold l r (length r.images) p pictures m
 
       has_all : After All (length r.images + 1) b d
-      has_all = has_images read.0 (length r.images) pictures d read.1
+      has_all = has_images kept (length r.images) pictures d read
 
       -- the text makes no image, or memory was wanting
-      pub output_stopped : ((e : RunFault) → l.Ends p pictures (Err e) → AllowsRun r (RunFailure e)) → (s : Stop FileFault Failure) → StopsAs l p pictures s → EndsWith (running l r) b (Err s) d
+      pub output_stopped : ((e : RunFault) → l.Ends p pictures (values_of r) (Err e) → AllowsRun r (RunFailure e)) → (s : Stop FileFault Failure) → StopsAs l p pictures (values_of r) s → EndsWith (running l r) b (Err s) d
       output_stopped allowed (Failed (RunFailure e)) ends =
           failed (running l r) never All (length r.images + 1) b d has_all (RunFailure e) (allowed e ends) refl (omega arith) (λ m is. (p, pictures, is, ends))
       output_stopped allowed (Failed (Target t)) ends = absurd ends
       output_stopped allowed (Failed NoText) ends = absurd ends
       output_stopped allowed (Failed (RulesRefused lines)) ends = absurd ends
       output_stopped allowed (Failed (Count want got)) ends = absurd ends
+      output_stopped allowed (Failed (Values want got)) ends = absurd ends
+      output_stopped allowed (Failed (Value name value)) ends = absurd ends
       output_stopped allowed (Missing n) ends = absurd ends
       output_stopped allowed (Unreadable n) ends = absurd ends
       output_stopped allowed (Refused n e) ends = absurd ends
@@ -102,7 +120,7 @@ module _ {P : Type 0} (l : Language P) (r : Run) (p : P) (b c : Store) (one : Ju
           wanted (running l r) never All (length r.images + 1) b d has_all most
 
       -- its output was written, or not
-      module _ (text items : List ℕ) (is : text ≡ items) (output : (o : Picture) × l.Ends p pictures (Ok o) × (items ≡ pgm_text o)) (e : Store) where
+      module _ (text items : List ℕ) (is : text ≡ items) (output : (o : Picture) × l.Ends p pictures (values_of r) (Ok o) × (items ≡ pgm_text o)) (e : Store) where
         last : {A : Type 0} (w : Result A (Stop FileFault Failure)) (v : Verdict FileFault Failure) → Written r.out text d w e → ((x : A) → w ≡ Ok x → v ≡ Ok []) → ((s : Stop FileFault Failure) → w ≡ Err s → v ≡ Err s) → EndsWith (running l r) b v e
         last w v step done stop =
             let all : length r.images + 1 ≡ suc (length r.images) = omega arith in

@@ -16,7 +16,7 @@ use Rattle.pf_outside.proofs.StoreCalls.{After, after_none}
 use Rattle.pf_outside.proofs.Tasks.{after_judged, barred, stopped, failed, wanted, written}
 use Rattle.pf_select.specs.Meaning.Targets.{IsBuilt, IsSelectedOn}
 use Rattle.pf_top.specs.declared.fault.Failure.{Failure}
-use Rattle.pf_top.specs.declared.fault.Failure.TheVariants.{Target as NoTarget, NoText, Count, Run, RulesRefused}
+use Rattle.pf_top.specs.declared.fault.Failure.TheVariants.{Target as NoTarget, NoText, Count, Values, Value, RulesRefused, Run}
 use Rattle.pf_top.specs.declared.fault.FileFault.{FileFault}
 use Rattle.pf_top.specs.Meaning.Files.{kernel_file, rule_file, rule_limit}
 use Rattle.pf_top.specs.Meaning.Selections.{Select, IsUnbuilt, BarsSelect, Selects, HoldsLift, HoldsLower, lift_text, lower_text, selecting}
@@ -37,6 +37,8 @@ no_target s b none = barred (selecting s) (NoTarget s.target) b tt refl (refl, n
     only (NoTarget t) bars = ap NoTarget (sym bars.0)
     only NoText bars = absurd bars
     only (Count want got) bars = absurd bars
+    only (Values want got) bars = absurd bars
+    only (Value name value) bars = absurd bars
     only (Run e) bars = absurd bars
     only (RulesRefused lines) bars = absurd bars
 
@@ -45,6 +47,8 @@ module _ (s : Select) (some : (source : Source) × IsBuilt s.target source) wher
   free (NoTarget t) bars = bars.1 some.0 (subst (λ u. IsBuilt u some.0) (sym bars.0) some.1)
   free NoText bars = bars
   free (Count want got) bars = bars
+  free (Values want got) bars = bars
+  free (Value name value) bars = bars
   free (Run e) bars = bars
   free (RulesRefused lines) bars = bars
 
@@ -64,6 +68,8 @@ module _ (s : Select) (some : (source : Source) × IsBuilt s.target source) wher
     unselected (Failed NoText) none = failed (selecting s) free HasKernel 1 b c has_kernel NoText tt refl (omega arith) (λ m is. (k, is, none))
     unselected (Failed (NoTarget t)) why = absurd why
     unselected (Failed (Count want got)) why = absurd why
+    unselected (Failed (Values want got)) why = absurd why
+    unselected (Failed (Value name value)) why = absurd why
     unselected (Failed (Run e)) why = absurd why
     unselected (Failed (RulesRefused lines)) why = absurd why
     unselected (Missing n) why = absurd why

@@ -10,9 +10,9 @@ use Rattle.pf_outside.specs.Meaning.Reports.{Report, Output, Reports, wanting, w
 use Rattle.pf_outside.specs.Meaning.Tasks.{Task, Verdict}
 use Rattle.pf_run.specs.declared.fault.RunFault.TheVariants.{Text as RunText, Set, Outside, Spent, Memory as RunMemory}
 use Rattle.pf_rulefile.specs.declared.fault.RuleTextFault.TheVariants.{At as RulesAt, Memory as RulesMemory}
-use Rattle.pf_run.specs.declared.fault.SetFault.TheVariants.{Count as SetCount, Kind, Size, Pixel, NoOutput}
+use Rattle.pf_run.specs.declared.fault.SetFault.TheVariants.{Count as SetCount, Values as SetValues, Value as SetValue, Kind, Size, Pixel, NoOutput}
 use Rattle.pf_top.specs.declared.fault.Failure.{Failure}
-use Rattle.pf_top.specs.declared.fault.Failure.TheVariants.{Target, NoText, Count, Run, RulesRefused}
+use Rattle.pf_top.specs.declared.fault.Failure.TheVariants.{Target, NoText, Count, Values, Value, RulesRefused, Run}
 use Rattle.pf_top.specs.declared.fault.FileFault.{FileFault}
 use Rattle.pf_top.specs.declared.fault.FileFault.TheVariants.{Kernel, Rules, RuleKind, NotBuilt, Text, LongText, Image, LongImage}
 use Rattle.pf_top.specs.Meaning.Statuses.{report_of, report_of_file, report_of_failure}
@@ -45,7 +45,11 @@ failure_told t (Target target) = (omega arith, omega arith)
 failure_told t (RulesRefused lines) = (omega arith, omega arith)
 failure_told t NoText = (omega arith, omega arith)
 failure_told t (Count want got) = (omega arith, omega arith)
+failure_told t (Values want got) = (omega arith, omega arith)
+failure_told t (Value name value) = (omega arith, omega arith)
 failure_told t (Run (Set (SetCount want got))) = (omega arith, omega arith)
+failure_told t (Run (Set (SetValues want got))) = (omega arith, omega arith)
+failure_told t (Run (Set (SetValue n value))) = (omega arith, omega arith)
 failure_told t (Run (Set (Kind n))) = (omega arith, omega arith)
 failure_told t (Run (Set (Size n width height))) = (omega arith, omega arith)
 failure_told t (Run (Set (Pixel n x y value))) = (omega arith, omega arith)

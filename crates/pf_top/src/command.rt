@@ -1,14 +1,15 @@
-ghost use Rattle.std.specs.Prelude.{◌≡◌, MatchOption, map, string_bytes};
+ghost use Rattle.std.specs.Prelude.{◌≡◌, ◌↔◌, All, IsTrue, List, MatchOption, ℕ, ℤ, codes, map, string_bytes};
 ghost use Rattle.pf_top.specs.Meaning.Commands.{Command as CommandOf, IsCommand, task_of};
 ghost use Rattle.pf_top.specs.Meaning.Checking.{Check, IsCheck, checking};
 ghost use Rattle.pf_top.specs.Meaning.Migrating.{Migrate, IsMigrate, migrating};
-ghost use Rattle.pf_top.specs.Meaning.Running.{Run, IsRunCommand, programs, running};
+ghost use Rattle.pf_top.specs.Meaning.Running.{Run, AreFiles, AreParted, IsRunCommand, IsValueWord, programs, running};
 ghost use Rattle.pf_top.specs.Meaning.Selections.{Select, IsSelect, selecting};
 ghost use Rattle.pf_outside.specs.Meaning.Tasks.{file_name, out_name};
-ghost use Rattle.pf_top.specs.Steps.CommandSteps.{the_command, the_check, the_migration, the_words, the_run};
+ghost use Rattle.pf_top.specs.Steps.CommandSteps.{IsEndOfFiles, the_command, the_check, the_migration, the_words, the_run};
 
 use crate::targets::target_of;
 use pf_ints::Target;
+use pf_terms::number_of;
 
 /// The words of `select T KERNEL LIFT LOWER OUT`.
 #[derive(Clone, Copy)]
@@ -34,7 +35,7 @@ pub struct MigrateWords<'a> {
     pub out: &'a str,
 }
 
-/// The words of `run TEXT IMG.. OUT` or `eval KERNEL IMG.. OUT`.
+/// The words of `run TEXT IMG.. OUT [-- V..]` or `eval KERNEL IMG.. OUT [-- V..]`.
 #[derive(Clone, Copy)]
 pub struct RunWords<'a> {
     /// The file of a program's text or of a kernel's.
@@ -42,6 +43,8 @@ pub struct RunWords<'a> {
     /// One or more.
     pub images: &'a [String],
     pub out: &'a str,
+    /// The values of the parameters, each of one to ten decimal digits.
+    pub values: &'a [String],
 }
 
 /// A command with its words.
@@ -110,12 +113,54 @@ fn migration_of(words: &[String]) -> Option<MigrateWords<'_>>
     })
 }
 
-/// What the words ask of this command, or None where they are of another form.
-pub fn run_of<'a>(command: &str, words: &'a [String]) -> Option<RunWords<'a>>
-    ensures { MatchOption result ((r : Run) → IsRunCommand command.now (map string_bytes words.now) r → ⊥)
-        (λ r. IsRunCommand command.now (map string_bytes words.now) (the_run r)) }
+/// Whether each word is one to ten decimal digits.
+fn are_values(words: &[String]) -> bool
+    ensures { IsTrue result ↔ All IsValueWord (map string_bytes words.now) }
 {
-    let [run, text, images @ .., out] = words else {
+    for word in words {
+        if number_of(word.as_bytes()).is_none() {
+            return false;
+        }
+    }
+    true
+}
+
+/// Where the first `--` stands.
+fn end_of_files(words: &[String]) -> Option<usize>
+    ensures { IsEndOfFiles (map string_bytes words.now) result }
+{
+    for (n, word) in words.iter().enumerate() {
+        if word.as_str() == "--" {
+            return Some(n);
+        }
+    }
+    None
+}
+
+/// The words up to the first `--` and the values behind it, or None where none or others stand there.
+fn parted(words: &[String]) -> Option<(&[String], &[String])>
+    ensures { MatchOption result ((files values : List (List ℕ)) → AreParted (map string_bytes words.now) files values → ⊥)
+        (λ p. AreParted (map string_bytes words.now) (map string_bytes p.0.now) (map string_bytes p.1.now)) }
+{
+    let Some(end) = end_of_files(words) else {
+        return Some((words, &words[words.len()..]));
+    };
+    let values = &words[end + 1..];
+    if values.is_empty() {
+        return None;
+    }
+    if !are_values(values) {
+        return None;
+    }
+    Some((&words[..end], values))
+}
+
+/// What the files and the values ask of this command, or None where the files are of another form.
+fn files_of<'a>(command: &str, files: &'a [String], values: &'a [String]) -> Option<RunWords<'a>>
+    ensures { MatchOption result ((r : Run) → AreFiles command.now (map string_bytes files.now) r → ⊥)
+        (λ r. AreFiles command.now (map string_bytes files.now) (the_run r) × (r.values.now ≡ values.now)) }
+{
+    let [run, text, images @ .., out] = files else {
         return None;
     };
     if run.as_str() != command {
@@ -128,7 +173,17 @@ pub fn run_of<'a>(command: &str, words: &'a [String]) -> Option<RunWords<'a>>
         text: text.as_str(),
         images,
         out: out.as_str(),
+        values,
     })
+}
+
+/// What the words ask of this command, or None where they are of another form.
+pub fn run_of<'a>(command: &str, words: &'a [String]) -> Option<RunWords<'a>>
+    ensures { MatchOption result ((r : Run) → IsRunCommand command.now (map string_bytes words.now) r → ⊥)
+        (λ r. IsRunCommand command.now (map string_bytes words.now) (the_run r)) }
+{
+    let (files, values) = parted(words)?;
+    files_of(command, files, values)
 }
 
 /// The command that the words are of, or None where they are of no form.

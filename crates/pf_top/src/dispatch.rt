@@ -2,7 +2,7 @@ ghost use Rattle.pf_outside.specs.Meaning.Reports.{seen_output};
 ghost use Rattle.pf_outside.specs.Meaning.StoreCalls.{seen};
 ghost use Rattle.pf_outside.specs.Meaning.Tasks.{EndsWith};
 ghost use Rattle.pf_top.specs.Meaning.Commands.{Does, task_of};
-ghost use Rattle.pf_top.specs.Steps.CommandSteps.{the_command};
+ghost use Rattle.pf_top.specs.Steps.CommandSteps.{HasNumbers, the_command};
 
 use crate::check::check;
 use crate::command::Command;
@@ -17,6 +17,7 @@ use std::alloc::Global;
 
 /// Does the command.
 fn verdict_of<F: Files>(alloc: Global, command: &Command<'_>, files: &mut F) -> Result<Lines, Stop>
+    requires { HasNumbers (the_command command.now) }
     ensures { EndsWith (task_of (the_command command.now)) (seen F.held F.faults F.calls files.old) result
         (seen F.held F.faults F.calls files.new) }
 {
@@ -36,6 +37,7 @@ pub fn do_command<F: Files, S: Sink>(
     files: &mut F,
     out: &mut S,
 ) -> u8
+    requires { HasNumbers (the_command command.now) }
     ensures { Does (the_command command.now) (seen F.held F.faults F.calls files.old) (seen F.held F.faults F.calls files.new)
         (seen_output S.written S.faults S.calls out.old) result (seen_output S.written S.faults S.calls out.new) }
 {

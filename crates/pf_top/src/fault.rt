@@ -1,7 +1,7 @@
 //! Why a file is refused, and why a call stops whose files so far are good.
 
 use pf_images::ImageFault;
-use pf_ints::Target;
+use pf_ints::{Name, Target};
 use pf_isa::TextFault;
 use pf_kernel::KernelFault;
 use pf_outside::Lines;
@@ -41,7 +41,11 @@ pub enum Failure {
     RulesRefused(Lines),
     /// The text is for another number of images.
     Count { want: u64, got: u64 },
-    /// The text makes no image of the images.
+    /// The text has another number of parameters than there are values.
+    Values { want: u64, got: u64 },
+    /// The value of the parameter of this name is out of its range.
+    Value { name: Name, value: i128 },
+    /// The text makes no image of the images and values.
     Run(RunFault),
 }
 

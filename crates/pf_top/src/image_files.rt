@@ -1,13 +1,13 @@
 //! The files of images.
 
-ghost use Rattle.std.specs.Prelude.{◌≡◌, ◌<◌, All, IfOk, map, string_bytes};
+ghost use Rattle.std.specs.Prelude.{◌≡◌, ◌<◌, All, IfOk, length, map, string_bytes};
 ghost use Rattle.std.specs.List.{AllZip};
 ghost use Rattle.pf_ints.specs.Meaning.Images.{IsPixelType};
 ghost use Rattle.pf_outside.specs.Meaning.StoreCalls.{seen};
 ghost use Rattle.pf_top.specs.Meaning.Files.{image_limit, image_file};
 ghost use Rattle.pf_top.specs.Steps.RunSteps.{JudgedAs, JudgesAs, ReadsImages};
 
-use crate::fault::{Failure, FileFault, Stop};
+use crate::fault::{FileFault, Stop};
 use pf_images::{Files, ImageFault, read_pgm};
 use pf_ints::{Image, ImageSet, LaneType, Sequence};
 use pf_outside::read_front;
@@ -59,25 +59,20 @@ fn read_image<F: Files>(
     image_of(alloc, number, bytes.as_slice(), ty)
 }
 
-/// The images of the files of these names, of the declared types, read in order behind a text where
-/// there is one for each declaration.
+/// The images of the files of these names, one for each declaration and of its type, read in order
+/// behind a text.
 pub fn read_images<F: Files>(
     alloc: Global,
     files: &mut F,
     names: &[String],
     decls: &[ImageDecl],
 ) -> Result<ImageSet, Stop>
-    requires { All (λ d. IsPixelType d.ty) decls.now }
+    requires types { All (λ d. IsPixelType d.ty) decls.now }
+    requires count { length names.now ≡ length decls.now }
     ensures read { ReadsImages (map string_bytes names.now) decls.now
         (seen F.held F.faults F.calls files.old) result (seen F.held F.faults F.calls files.new) }
     ensures types { IfOk result (λ images. AllZip (λ d p. p.ty ≡ d.ty) decls.now images) }
 {
-    if names.len() != decls.len() {
-        return Err(Stop::Failed(Failure::Count {
-            want: decls.len() as u64,
-            got: names.len() as u64,
-        }));
-    }
     let mut images = Sequence::new(alloc);
     'images: for (n, name) in names.iter().enumerate() {
         let image = read_image(alloc, files, n + 1, name.as_str(), decls[n].ty)?;

@@ -16,6 +16,7 @@ mod statuses;
 mod targets;
 mod text_file;
 mod top;
+mod values;
 
 pub use pf_outside::tell_want;
 pub use top::pitchfork;

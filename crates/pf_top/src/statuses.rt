@@ -1,6 +1,7 @@
 //! The status of each verdict, and the line that is put with it.
 
 ghost use Rattle.std.specs.Prelude.{◌≡◌, ◌∷◌, [], codes, decimal};
+ghost use Rattle.std.specs.Fmt.{signed_decimal};
 ghost use Rattle.pf_terms.specs.Meaning.TermTexts.{type_word};
 ghost use Rattle.pf_outside.specs.Meaning.Reports.{Reports, seen_output, told};
 ghost use Rattle.pf_top.specs.Meaning.Commands.{task_of};
@@ -145,13 +146,48 @@ fn tell_count<S: Sink>(alloc: Global, out: &mut S, want: u64, got: u64) -> u8
     tell_line(alloc, out, 9, &pieces)
 }
 
-/// Puts why images don't suit a text, and answers the status.
+/// Puts that there are more values than parameters, or fewer, and answers the status.
+fn tell_value_count<S: Sink>(alloc: Global, out: &mut S, want: u64, got: u64) -> u8
+    ensures { Reports (told 9 (codes "want " ∷ decimal want ∷ codes " values, got " ∷ decimal got ∷ []))
+        (seen_output S.written S.faults S.calls out.old) result (seen_output S.written S.faults S.calls out.new) }
+{
+    let pieces = [
+        Word(b"want "),
+        Number(want),
+        Word(b" values, got "),
+        Number(got),
+    ];
+    tell_line(alloc, out, 9, &pieces)
+}
+
+/// Puts that a parameter's value is out of its range, and answers the status.
+fn tell_value<S: Sink>(alloc: Global, out: &mut S, name: &[u8], value: i128) -> u8
+    ensures { Reports (told 9 (codes "value " ∷ name.now ∷ codes " is " ∷ signed_decimal value ∷ []))
+        (seen_output S.written S.faults S.calls out.old) result (seen_output S.written S.faults S.calls out.new) }
+{
+    let pieces = [Word(b"value "), Word(name), Word(b" is "), Whole(value)];
+    tell_line(alloc, out, 9, &pieces)
+}
+
+/// Puts why images or values don't suit a text, and answers the status.
 fn tell_set<S: Sink>(alloc: Global, out: &mut S, command: &Command<'_>, fault: SetFault) -> u8
     ensures { Reports (report_of_failure (task_of (the_command command.now)) (Failure.Run (RunFault.Set fault)))
         (seen_output S.written S.faults S.calls out.old) result (seen_output S.written S.faults S.calls out.new) }
 {
     match fault {
         SetFault::Count { want, got } => tell_count(alloc, out, u64::from(want), u64::from(got)),
+        SetFault::Values { want, got } => {
+            tell_value_count(alloc, out, u64::from(want), u64::from(got))
+        }
+        SetFault::Value { param, value } => {
+            let pieces = [
+                Word(b"value "),
+                Number(u64::from(param)),
+                Word(b" is "),
+                Whole(value),
+            ];
+            tell_line(alloc, out, 9, &pieces)
+        }
         SetFault::Kind { image } => {
             let name = Word(file_name(command, image as usize + 1));
             tell_line(alloc, out, 9, &[name, Word(b": type")])
@@ -258,6 +294,8 @@ fn tell_failure<S: Sink>(alloc: Global, out: &mut S, command: &Command<'_>, why:
         }
         Failure::RulesRefused(lines) => tell_lines(alloc, out, 6, lines.as_slice()),
         Failure::Count { want, got } => tell_count(alloc, out, want, got),
+        Failure::Values { want, got } => tell_value_count(alloc, out, want, got),
+        Failure::Value { name, value } => tell_value(alloc, out, name.as_slice(), value),
         Failure::Run(fault) => tell_run(alloc, out, command, fault),
     }
 }

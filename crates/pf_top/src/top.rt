@@ -2,14 +2,15 @@ ghost use Rattle.std.specs.Prelude.{◌≡◌, ◌⊎◌, ◌≤◌, ℕ, List, 
 ghost use Rattle.std.specs.List.{AllZip};
 ghost use Rattle.pf_ints.specs.declared.target.Target.{Target};
 ghost use Rattle.pf_ints.specs.Meaning.Images.{IsPicture, Picture};
-ghost use Rattle.pf_values.specs.Meaning.Kernels.{Keeps, Out, Source};
+ghost use Rattle.pf_values.specs.Meaning.Kernels.{Keeps, Out, Source, planes_of};
 ghost use Rattle.pf_images.specs.Meaning.Outside.{Contents};
 ghost use Rattle.pf_images.specs.Meaning.Pgm.{pgm_text};
 ghost use Rattle.pf_kernel.specs.Meaning.Kernels.{Meaning};
+ghost use Rattle.pf_run.specs.Meaning.Sets.{image_decls};
 ghost use Rattle.pf_select.specs.Meaning.Targets.{HeadlineOn};
 ghost use Rattle.pf_top.specs.Meaning.Commands.{Command as CommandOf, IsCommand, IsCalm, Does, CanDo};
 ghost use Rattle.pf_top.specs.Meaning.Files.{text_limit};
-ghost use Rattle.pf_top.specs.Meaning.Running.{Run, IsRunCommand, IsImageThere};
+ghost use Rattle.pf_top.specs.Meaning.Running.{Run, IsRunCommand, IsImageThere, values_of};
 ghost use Rattle.pf_top.specs.Meaning.Selections.{Select, IsSelect, SpellsKernel};
 ghost use Rattle.pf_outside.specs.Meaning.Reports.{Reports, seen_output};
 ghost use Rattle.pf_outside.specs.Meaning.StoreCalls.{seen};
@@ -23,12 +24,13 @@ use std::alloc::Global;
 
 /// Does what the words ask for over the store of files, puts its lines to the output, and answers
 /// the status. `select T KERNEL LIFT LOWER OUT` writes the text of the kernel to OUT. `run TEXT
-/// IMG.. OUT` runs the text on the images and writes what it leaves to OUT as PGM. `eval KERNEL
-/// IMG.. OUT` evaluates the kernel on the images and writes its output to OUT as PGM. The statuses
-/// are 0 (done), 2 (the words are of no form), 3 (a file could not be read or is missing), 4 (a file
-/// or the output could not be written), 5 (the kernel is refused), 8 (not built), 9 (an image is
-/// refused), 10 (the text is refused), 11 (an instruction loads or stores where it may not), 12 (a
-/// row took all its steps) and 13 (memory is wanting).
+/// IMG.. OUT [-- V..]` runs the text on the images and the values of its parameters, and writes what
+/// it leaves to OUT as PGM. `eval KERNEL IMG.. OUT [-- V..]` evaluates the kernel on them and writes
+/// its output to OUT as PGM. The first word `--` ends the files; each V is one to ten decimal digits.
+/// The statuses are 0 (done), 2 (the words are of no form), 3 (a file could not be read or is
+/// missing), 4 (a file or the output could not be written), 5 (the kernel is refused), 8 (not built),
+/// 9 (an image or a value is refused), 10 (the text is refused), 11 (an instruction loads or stores
+/// where it may not), 12 (a row took all its steps) and 13 (memory is wanting).
 pub fn pitchfork<F: Files, S: Sink>(
     alloc: Global,
     words: &Vec<String>,
@@ -64,8 +66,8 @@ pub fn pitchfork<F: Files, S: Sink>(
     ensures agrees { (r : Run) (target : Target) (source : Source) (text : List ℕ) (pictures : List Picture) (o : Picture) (old : Contents)
         → IsRunCommand (codes "run") (map string_bytes words.now.items) r → F.held files.old ≡ Some old
         → old r.text ≡ Some text → length text ≤ text_limit → HeadlineOn target source text
-        → length r.images ≡ length source.images → AllZip (IsImageThere old) (zip r.images source.images) pictures
-        → Keeps source pictures → Out source pictures o → IsPicture o
+        → length r.images ≡ length (image_decls source.images) → AllZip (IsImageThere old) (zip r.images (image_decls source.images)) pictures
+        → Keeps source (planes_of source.images pictures (values_of r)) → Out source (planes_of source.images pictures (values_of r)) o → IsPicture o
         → (IsCalm (F.faults files.old) (F.faults files.new) → IsCalm (S.faults out.old) (S.faults out.new) → (result ≡ 0) ⊎ (result ≡ 13))
         × (result ≡ 0 → (new : Contents) × (F.held files.new ≡ Some new) × (new r.out ≡ Some (pgm_text o))) }
 {

@@ -15,7 +15,7 @@ pub const NO_TROUBLE: Script = Script {
     puts: [None, None],
 };
 
-/// A call, and what it has to answer and to put, what its last word has to name then, and how often
+/// A call, and what it has to answer and to put, what its last file has to hold then, and how often
 /// it has to call the store.
 #[derive(Clone, Copy)]
 pub struct Call<'a> {
@@ -35,6 +35,14 @@ fn words_of(alloc: Global, words: &str) -> Result<Vec<String>, Fail> {
         texts.push(String::from_str(alloc, word)?)?;
     }
     Ok(texts)
+}
+
+/// The words of a call without its values.
+fn files_of(words: &str) -> &str {
+    match words.split_once(" -- ") {
+        Some((files, _values)) => files,
+        None => words,
+    }
 }
 
 /// A store that holds the files.
@@ -69,7 +77,7 @@ pub fn try_call<R: Abort + AllocGlobal>(rt: &R, call: &Call<'_>) -> Result<(), F
         call.words
     );
     assert_eq!(rt; store.calls, call.calls, "{}", call.words);
-    let name = call.words.split(' ').last().ok_or("no word")?;
+    let name = files_of(call.words).split(' ').last().ok_or("no word")?;
     let left = store.held.get(name).map(|bytes| bytes.as_slice());
     assert!(rt; left == call.out, "{}", call.words);
     let more = usize::from(call.out.is_some());
@@ -238,7 +246,7 @@ pub fn try_well<R: Abort + AllocGlobal>(
 ) -> Result<(), Fail> {
     let names = match words.strip_prefix("select neon ") {
         Some(names) => names,
-        None => words.split_once(' ').ok_or("no words")?.1,
+        None => files_of(words).split_once(' ').ok_or("no words")?.1,
     };
     let call = Call {
         files,

@@ -8,6 +8,8 @@ mod check;
 #[cfg(test)]
 mod eval;
 #[cfg(test)]
+mod parameters;
+#[cfg(test)]
 mod real;
 #[cfg(test)]
 mod run;

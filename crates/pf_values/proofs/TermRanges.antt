@@ -35,7 +35,7 @@ value_node env op ty k args = ap (Val env) (sym (rolls-Node op ty k args)) ∙ f
 pub value_leaf : (env : Env) (leaf : LeafOf) (ty : LaneType) → Val env (Leaf leaf ty) ≡ leaf_value env leaf
 value_leaf env leaf ty = ap (Val env) (sym (rolls-Leaf leaf ty)) ∙ fold-roll-Term ℤ (value_step env) (LeafLayer leaf ty)
 
-typing_leaf : (leaf : LeafOf) (ty : LaneType) → typing (Leaf leaf ty) ≡ Ok ty
+pub typing_leaf : (leaf : LeafOf) (ty : LaneType) → typing (Leaf leaf ty) ≡ Ok ty
 typing_leaf leaf ty = ap typing (sym (rolls-Leaf leaf ty)) ∙ fold-roll-Term (Result LaneType TermFault) typing_step (LeafLayer leaf ty)
 
 pub formed_leaf : (leaf : LeafOf) (ty : LaneType) → is_well_formed (Leaf leaf ty) ≡ is_formed_leaf leaf ty

@@ -3,17 +3,19 @@ ghost use Rattle.std.specs.Prelude.{◌≡◌};
 use pf_ints::{Duplicate, LaneType, Name, Sequence};
 use std::alloc::{AllocError, Global};
 
-/// An image's name and the type of its pixels.
+/// An image's name, the type of its pixels, and whether it is flat: a parameter.
 #[derive(Clone, Copy, PartialEq, Eq)]
 pub struct ImageName {
     pub name: Name,
     pub ty: LaneType,
+    pub flat: bool,
 }
 
-/// The names of images, in the order of their declarations.
+/// The names of images in the order of their declarations, parameters behind the others.
 pub type ImageNames = Sequence<ImageName>;
 
-/// A pixel of the image of this number, `dx` columns right of and `dy` rows below the output pixel.
+/// A pixel of the image of this number, `dx` columns right of and `dy` rows below the output pixel;
+/// of a parameter its value.
 #[derive(Clone, Copy, PartialEq, Eq)]
 pub struct Tap {
     pub image: u8,

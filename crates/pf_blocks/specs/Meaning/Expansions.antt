@@ -11,7 +11,8 @@ use Rattle.pf_machine.specs.Meaning.Tables.{Table}
 use Rattle.pf_machine.specs.Meaning.Blocks.{IsClean, IsLanewise}
 use Rattle.pf_lanes.specs.Meaning.Lanes.{bytes_of, residue}
 use Rattle.pf_laneops.specs.declared.lane_item.LaneItem.{LaneItem}
-use Rattle.pf_laneops.specs.declared.lane_item.LaneItem.TheVariants.{Tap}
+use Rattle.pf_laneops.specs.declared.lane_item.LaneItem.TheVariants.{Tap, Work}
+use Rattle.pf_laneops.specs.declared.lane_name.LaneName.{LaneName}
 use Rattle.pf_laneops.specs.Meaning.LaneCodes.{LVal, item_type, item_cost, code_cost}
 use Rattle.pf_blocks.specs.Meaning.Growth.{cost_of}
 
@@ -22,6 +23,10 @@ pub record HasTaps (items : List LaneItem) (widths : List ℕ) : Type 0 where
 -- the target has a row for each item
 pub record HasRows (target : Target) (items : List LaneItem) : Type 0 where
   pub each : (n : ℕ) (item : LaneItem) → slice_get items n ≡ Some item → is_some (item_cost target items item) ≡ true
+
+-- the operation of each item is one of those that are expanded
+pub record AreBuilt (built : LaneName → Bool) (items : List LaneItem) : Type 0 where
+  pub each : (n : ℕ) (op : LaneName) (ty : LaneType) (k : ℕ) (args : List ℕ) → slice_get items n ≡ Some (Work op ty k args) → built op ≡ true
 
 -- a step loads a part that the tap has, or stores a part of so many
 abbrev pub IsStep : (widths : List ℕ) (parts : ℕ) {O : Type 0} → Item O → Type 0

@@ -1,5 +1,5 @@
 -- Why bytes are no text of a program, and in which line that shows first.
-use Rattle.std.specs.Prelude.{◌≡◌, ◌≢◌, ℕ, ◌+◌, ◌^◌, ◌≤◌, ◌<◌, ◌⊎◌, List, [], ◌∷◌, ◌++◌, length, map, sum, IsTrue, All, Contains, Option, Some, None, Result, Ok, Err, codes, if◌then◌else◌}
+use Rattle.std.specs.Prelude.{◌≡◌, ◌≢◌, ℕ, ◌+◌, ◌^◌, ◌≤◌, ◌<◌, ◌⊎◌, List, [], ◌∷◌, ◌++◌, length, map, sum, IsTrue, All, Contains, Bool, true, false, Option, Some, None, Result, Ok, Err, codes, if◌then◌else◌}
 use Rattle.std.specs.List.{AllPairs, AllZip, last_or}
 use Rattle.std.specs.Str.{bytes_eq}
 use Rattle.std.specs.Str.Lines.{lines}
@@ -13,6 +13,7 @@ use Rattle.pf_values.specs.declared.kernel.Definition.{Definition}
 use Rattle.pf_values.specs.declared.kernel.ImageDecl.{ImageDecl}
 use Rattle.pf_values.specs.declared.names.Names.{Names}
 use Rattle.pf_values.specs.declared.names.Tap.{Tap}
+use Rattle.pf_values.specs.Meaning.Kernels.{IsStill}
 use Rattle.pf_values.specs.Meaning.Terms.{node_count}
 use Rattle.pf_values.specs.Meaning.NamedTerms.{no_type}
 use Rattle.pf_machine.specs.declared.code.Label.{Label as LabelOf}
@@ -26,7 +27,7 @@ use Rattle.pf_machine.specs.declared.program.Head.{Head}
 use Rattle.pf_isa.specs.declared.so_far.Stage.{Stage}
 use Rattle.pf_isa.specs.declared.so_far.Stage.TheVariants.{Declarations, Scratch, Lifted, Cost, Code}
 use Rattle.pf_machine.specs.Meaning.Control.{IsControl}
-use Rattle.pf_machine.specs.Meaning.Heads.{image_name, def_name, IsDecl, IsTap, IsLifted, IsHead}
+use Rattle.pf_machine.specs.Meaning.Heads.{image_name, def_name, flats, IsDecl, IsTap, IsLifted, IsHead}
 use Rattle.pf_text.specs.Meaning.Lines.{IsLine}
 use Rattle.pf_machine.specs.Meaning.Programs.{ProgramOf, jumps_to, IsLast}
 use Rattle.pf_machine.specs.Meaning.Tables.{Table, IsOver}
@@ -73,16 +74,23 @@ head_with_tap h t = record h { taps = h.taps ++ t ∷ [] }
 abbrev pub head_with_lifted : Head → Definition → Head
 head_with_lifted h d = record h { lifted = h.lifted ++ d ∷ [] }
 
--- one image more: at most 8, of different names, before any tap
+-- an image follows images alone, and a parameter follows an image
+abbrev pub MayFollow : List Bool → Bool → Type 0
+MayFollow before false = All (λ flat. flat ≡ false) before
+MayFollow before true = 1 ≤ length before
+
+-- one image or parameter more: at most 8, of different names, before any tap
 pub record IsNextImage (h : Head) (d : ImageDecl) : Type 0 where
   pub decl : IsDecl d
   pub early : h.taps ≡ []
   pub few : length h.images < 8
+  pub order : MayFollow (flats h.images) d.flat
   pub new : Contains (head_names h) d.name → ⊥
 
--- one tap more: at most 64, all different
+-- one tap more: at most 64, all different; that of a parameter has no offset
 pub record IsNextTap (h : Head) (t : Tap) : Type 0 where
   pub tap : IsTap (length h.images) t
+  pub still : IsStill (flats h.images) t
   pub few : length h.taps < 64
   pub new : Contains h.taps t → ⊥
 

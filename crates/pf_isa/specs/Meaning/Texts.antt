@@ -1,5 +1,5 @@
 -- Programs as texts.
-use Rattle.std.specs.Prelude.{◌≡◌, ◌≢◌, ℕ, ◌≤◌, length, None, ◌+◌, List, [], ◌∷◌, ◌++◌, map, true, not, ◌&&◌, ◌==◌, nat_le, if◌then◌else◌, IsTrue, All, codes, decimal}
+use Rattle.std.specs.Prelude.{◌≡◌, ◌≢◌, ℕ, ◌≤◌, length, None, ◌+◌, List, [], ◌∷◌, ◌++◌, map, Bool, true, not, ◌&&◌, ◌==◌, nat_le, if◌then◌else◌, IsTrue, All, codes, decimal}
 use Rattle.std.specs.Fmt.{signed_decimal}
 use Rattle.std.specs.List.{AllPairs, AllZip, flat_map, last_or, list_all}
 use Rattle.std.specs.Str.Lines.{lines}
@@ -29,12 +29,16 @@ use Rattle.pf_machine.specs.Meaning.Programs.{ProgramOf, IsProgram, IsInstructio
 abbrev pub target_line : Target → List ℕ
 target_line target = codes ".target " ++ target_word target
 
--- the type of an image's pixels, and the range that they lie in
+-- the type of an image's pixels or of a parameter, and the range that they lie in
 abbrev pub range_text : ImageDecl → List ℕ
 range_text d = type_word d.ty ++ codes " " ++ decimal d.lo ++ codes " " ++ decimal d.hi
 
+-- the word in front of an image, and of a parameter
+abbrev pub image_key : Bool → List ℕ
+image_key flat = if flat then codes ".param" else codes ".image"
+
 abbrev pub image_line : ImageDecl → List ℕ
-image_line d = codes ".image " ++ d.name ++ codes " " ++ range_text d
+image_line d = image_key d.flat ++ codes " " ++ d.name ++ codes " " ++ range_text d
 
 abbrev pub offsets_text : Tap → List ℕ
 offsets_text t = signed_decimal t.dx ++ codes " " ++ signed_decimal t.dy

@@ -10,6 +10,7 @@ use Rattle.pf_values.specs.declared.names.Tap.{Tap}
 use Rattle.pf_terms.specs.Meaning.TermTexts.{type_word}
 use Rattle.pf_values.specs.Meaning.NamedTerms.{no_image}
 use Rattle.pf_text.specs.Meaning.Lines.{tight}
+use Rattle.pf_isa.specs.Meaning.Texts.{image_key}
 
 -- the one value of which this holds, or None where it holds of none
 abbrev pub IsTheOne : {A : Type 0} → (A → Type 0) → Option A → Type 0
@@ -27,7 +28,7 @@ abbrev pub words_in : List ℕ → List (List ℕ)
 words_in line = slice_split is_space (tight line)
 
 abbrev pub image_words : ImageDecl → List (List ℕ)
-image_words d = codes ".image" ∷ d.name ∷ type_word d.ty ∷ decimal d.lo ∷ decimal d.hi ∷ []
+image_words d = image_key d.flat ∷ d.name ∷ type_word d.ty ∷ decimal d.lo ∷ decimal d.hi ∷ []
 
 abbrev pub tap_words : List ImageName → Tap → List (List ℕ)
 tap_words images t = codes ".tap" ∷ (slice_index_or images t.image no_image).name ∷ signed_decimal t.dx ∷ signed_decimal t.dy ∷ []

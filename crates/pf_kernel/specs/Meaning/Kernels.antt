@@ -31,7 +31,7 @@ meaning name images taps defs out_ty out =
     record { name = name; source = record { images = images; taps = taps; defs = defs; out_ty = out_ty; out = out } }
 
 abbrev pub image_name : ImageDecl → ImageName
-image_name d = record { name = d.name; ty = d.ty }
+image_name d = record { name = d.name; ty = d.ty; flat = d.flat }
 
 abbrev pub def_name : Definition → DefName
 def_name d = record { name = d.name; ty = d.ty }
@@ -43,7 +43,7 @@ names_behind images taps defs = record { images = map image_name images; taps = 
 abbrev pub names_of : Source → Names
 names_of s = names_behind s.images s.taps s.defs
 
--- a range of the type of the image's pixels
+-- a range of the type of the image's pixels, or of the parameter
 pub record IsDeclaredRange (d : ImageDecl) : Type 0 where
   pub ordered : d.lo ≤ d.hi
   pub inside : IsIn d.ty (pos d.hi)
@@ -83,7 +83,7 @@ AreInTurn n (t ∷ ts) m = (t ≤ n) × AreInTurn (max n (t + 1)) ts m
 pub record IsKernelOf (k : Meaning) : Type 0 where
   pub name : is_name k.name ≡ true
   pub some_images : 1 ≤ length k.source.images
-  -- distinct names and taps, and at most 8 images, 64 taps and 64 definitions
+  -- distinct names and taps, at most 8 images and parameters, 64 taps and 64 definitions, parameters behind the images, and no offsets at them
   pub names : IsNames (names_of k.source)
   pub images : All IsDeclaredRange k.source.images
   pub defs : AreDefinitions (names_behind k.source.images k.source.taps []) k.source.defs

@@ -1,6 +1,6 @@
 -- What the lines of a kernel's text say, and which fault of a line is told.
 use Rattle.std.specs.Prelude.{◌≡◌, ℕ, ℤ, pos, ◌+◌, ◌-◌, ◌^◌, ◌≤◌, ◌<◌, min, nat_lt, Bool, true, false, not, ◌&&◌, ◌||◌, ◌==◌, if◌then◌else◌, unsigned_abs, is_some, List, [], ◌∷◌, ◌++◌, length, take, drop, map, sum, slice_get, Option, Some, None, Result, Ok, Err}
-use Rattle.std.specs.List.{before_first}
+use Rattle.std.specs.List.{before_first, list_any}
 use Rattle.std.specs.Option.{option_map}
 use Rattle.pf_text.specs.Meaning.FirstFaults.{Steps}
 use Rattle.pf_ints.specs.declared.lane.LaneType.{LaneType}
@@ -21,7 +21,7 @@ use Rattle.pf_values.specs.declared.term.Term.{Term}
 use Rattle.pf_terms.specs.declared.token.TokenKind.{TokenKind}
 use Rattle.pf_terms.specs.declared.token.TokenKind.TheVariants.{Name, TypeWord, Number, Line, Equals}
 use Rattle.pf_terms.specs.declared.token.LineWord.{LineWord}
-use Rattle.pf_terms.specs.declared.token.LineWord.TheVariants.{Kernel, Image, Def, Out}
+use Rattle.pf_terms.specs.declared.token.LineWord.TheVariants.{Kernel, Image, Param, Def, Out}
 use Rattle.pf_terms.specs.declared.token.Token.{Token}
 use Rattle.pf_terms.specs.Meaning.SyntaxTrees.{IsTreeText, IsSyntaxFault}
 use Rattle.pf_terms.specs.Meaning.Meanings.{first_some, is_image, is_def, first_unknown, first_far, names_after, term_of}
@@ -49,25 +49,35 @@ abbrev pub is_empty : {A : Type 0} → List A → Bool
 is_empty [] = true
 is_empty (x ∷ xs) = false
 
--- a line with this word may stand behind them: first the kernel, then images, then definitions, last the output
+-- a parameter is among them
+abbrev pub has_param : List ImageDecl → Bool
+has_param images = list_any (λ d. d.flat) images
+
+-- a line with this word may stand behind them: first the kernel, then images, then parameters, then definitions, last the output
 abbrev pub may_stand : Begun → LineWord → Bool
 may_stand b Kernel = not (is_some b.name)
-may_stand b Image = is_some b.name && (is_empty b.defs && not (is_some b.out))
+may_stand b Image = is_some b.name && (not (has_param b.images) && (is_empty b.defs && not (is_some b.out)))
+may_stand b Param = not (is_empty b.images) && (is_empty b.defs && not (is_some b.out))
 may_stand b Def = not (is_empty b.images) && not (is_some b.out)
 may_stand b Out = not (is_empty b.images) && not (is_some b.out)
 
--- the whole of an image's type
-abbrev pub whole_range : List ℕ → LaneType → ImageDecl
-whole_range n t = record { name = n; ty = t; lo = 0; hi = unsigned_abs (greatest t) }
+-- an image with the range of its whole type
+abbrev pub whole_range : Bool → List ℕ → LaneType → ImageDecl
+whole_range flat n t = record { name = n; ty = t; lo = 0; hi = unsigned_abs (greatest t); flat = flat }
+
+-- the word of a line that declares an image, or a parameter, which is a flat one
+abbrev pub decl_word : Bool → LineWord
+decl_word false = Image
+decl_word true = Param
 
 -- ---- the tokens of a line
 
 -- a line with these tokens may stand there and says this, whatever the expression behind its `=` is
 pub data IsShape (b : Begun) : List TokenKind → Front → Type 0 where
   kernel : (n : List ℕ) → may_stand b Kernel ≡ true → IsShape b (Line Kernel ∷ Name n ∷ []) (KernelFront n)
-  image : (n : List ℕ) (t : LaneType) → may_stand b Image ≡ true → IsPixelType t → IsShape b (Line Image ∷ Name n ∷ TypeWord t ∷ []) (ImageFront (whole_range n t))
-  ranged : (n : List ℕ) (t : LaneType) (lo hi : ℕ) → may_stand b Image ≡ true → IsPixelType t → lo ≤ hi → IsIn t (pos hi) →
-      IsShape b (Line Image ∷ Name n ∷ TypeWord t ∷ Number (pos lo) ∷ Number (pos hi) ∷ []) (ImageFront (record { name = n; ty = t; lo = lo; hi = hi }))
+  image : (flat : Bool) (n : List ℕ) (t : LaneType) → may_stand b (decl_word flat) ≡ true → IsPixelType t → IsShape b (Line (decl_word flat) ∷ Name n ∷ TypeWord t ∷ []) (ImageFront (whole_range flat n t))
+  ranged : (flat : Bool) (n : List ℕ) (t : LaneType) (lo hi : ℕ) → may_stand b (decl_word flat) ≡ true → IsPixelType t → lo ≤ hi → IsIn t (pos hi) →
+      IsShape b (Line (decl_word flat) ∷ Name n ∷ TypeWord t ∷ Number (pos lo) ∷ Number (pos hi) ∷ []) (ImageFront (record { name = n; ty = t; lo = lo; hi = hi; flat = flat }))
   def : (n : List ℕ) (t : LaneType) (expression : List TokenKind) → may_stand b Def ≡ true → IsShape b (Line Def ∷ Name n ∷ TypeWord t ∷ Equals ∷ expression) (DefFront n t)
   out : (t : LaneType) (expression : List TokenKind) → may_stand b Out ≡ true → IsPixelType t → IsShape b (Line Out ∷ TypeWord t ∷ Equals ∷ expression) (OutFront t)
 
@@ -84,7 +94,7 @@ pub record IsFrontFault (b : Begun) (ks : List TokenKind) (n : ℕ) : Type 0 whe
 
 -- the token at which it is told: two numbers that are no range of the type are told at the first
 abbrev pub told_at : List TokenKind → ℕ → ℕ
-told_at (Line Image ∷ _ ∷ _ ∷ _ ∷ Number hi ∷ _) n = if n == 4 then 3 else n
+told_at (_ ∷ _ ∷ _ ∷ _ ∷ Number hi ∷ _) n = if n == 4 then 3 else n
 told_at _ n = n
 
 -- the token `=` of a line that has an expression
@@ -137,7 +147,7 @@ capped_count n = min n (2 ^ 63 - 1)
 abbrev pub more_than : ℕ → LimitKind → ℕ → Option ReadFault
 more_than most what n = if_so (nat_lt most n) (Limit what (pos n))
 
--- an image or a definition has the name already
+-- an image, a parameter or a definition has the name already
 abbrev pub is_taken : Names → List ℕ → Bool
 is_taken names s = is_image names.images s || is_def names.defs s
 

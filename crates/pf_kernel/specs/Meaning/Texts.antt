@@ -1,5 +1,5 @@
 -- Kernels as texts.
-use Rattle.std.specs.Prelude.{◌≡◌, ℕ, pos, ◌+◌, ◌≤◌, ◌<◌, List, [], ◌∷◌, ◌++◌, length, unsigned_abs, Some, None, codes, decimal}
+use Rattle.std.specs.Prelude.{Bool, true, false, ◌≡◌, ℕ, pos, ◌+◌, ◌≤◌, ◌<◌, List, [], ◌∷◌, ◌++◌, length, unsigned_abs, Some, None, codes, decimal}
 use Rattle.std.specs.Str.Lines.{lines}
 use Rattle.std.specs.List.{flat_map}
 use Rattle.pf_text.specs.Meaning.FirstFaults.{IsFirstFault}
@@ -47,8 +47,12 @@ pub data IsKernelFault (bytes : List ℕ) : KernelFault → Type 0 where
 
 -- ---- a kernel's text as it is written
 
+abbrev pub decl_start : Bool → List ℕ
+decl_start false = codes "image "
+decl_start true = codes "param "
+
 abbrev pub image_text : ImageDecl → List ℕ
-image_text d = codes "image " ++ d.name ++ codes " " ++ type_word d.ty ++ codes " " ++ decimal d.lo ++ codes " " ++ decimal d.hi
+image_text d = decl_start d.flat ++ d.name ++ codes " " ++ type_word d.ty ++ codes " " ++ decimal d.lo ++ codes " " ++ decimal d.hi
 
 -- a type and a term of it
 abbrev pub typed_text : Names → LaneType → Term → List ℕ

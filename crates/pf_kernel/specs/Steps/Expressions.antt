@@ -1,5 +1,5 @@
 -- The answer to an expression of a line.
-use Rattle.std.specs.Prelude.{◌≡◌, ℕ, ℤ, ◌+◌, List, Option, Some, None, Result, Ok, Err, slice_index_or}
+use Rattle.std.specs.Prelude.{if◌then◌else◌, ◌≡◌, ℕ, ℤ, ◌+◌, List, Option, Some, None, Result, Ok, Err, slice_index_or}
 use Rattle.pf_ints.specs.declared.lane.LaneType.{LaneType}
 use Rattle.pf_terms.specs.declared.parse.syntax_tree.SyntaxTree.{SyntaxTree}
 use Rattle.pf_terms.specs.declared.parse.syntax_tree.SyntaxTree.TheOpen.{SyntaxTree-F}
@@ -11,7 +11,7 @@ use Rattle.pf_terms.specs.declared.meaning.ReadFault.TheVariants.{Syntax, Limit,
 use Rattle.pf_values.specs.declared.names.Names.{Names}
 use Rattle.pf_values.specs.declared.term.Term.{Term}
 use Rattle.pf_terms.specs.Meaning.SyntaxTrees.{IsTreeText, IsSyntaxFault}
-use Rattle.pf_terms.specs.Meaning.Meanings.{first_some, in_order, names_after, term_of, written_type, image_number, def_number, IsMeaningFault}
+use Rattle.pf_terms.specs.Meaning.Meanings.{first_some, in_order, names_after, term_of, written_type, image_number, is_param, def_number, IsMeaningFault}
 use Rattle.pf_values.specs.Meaning.Operators.{row_of}
 use Rattle.pf_values.specs.Meaning.Terms.{result_type}
 use Rattle.pf_values.specs.Meaning.NamedTerms.{no_image, no_def}
@@ -19,10 +19,13 @@ use Rattle.pf_kernel.specs.Meaning.Lines.{expression_faults, mistyped, more_than
 use Rattle.pf_values.specs.declared.limit.LimitKind.TheVariants.{Definitions, Offset, Depth, Nodes}
 use Rattle.std.specs.Option.{option_or}
 
+abbrev pub image_ty : Names → List ℕ → LaneType
+image_ty names s = (slice_index_or names.images (image_number names.images s) no_image).ty
+
 abbrev pub type_step : Names → SyntaxTree-F LaneType → LaneType
 type_step names (Number n t) = t
-type_step names (Name s) = (slice_index_or names.defs (def_number names.defs s) no_def).ty
-type_step names (Tap s dx dy) = (slice_index_or names.images (image_number names.images s) no_image).ty
+type_step names (Name s) = if is_param names.images s then image_ty names s else (slice_index_or names.defs (def_number names.defs s) no_def).ty
+type_step names (Tap s dx dy) = image_ty names s
 type_step names (Node op less ty k args) = result_type (row_of op).gives (written_type ty) (in_order less args)
 
 -- the type that an expression has by its outermost operator

@@ -16,9 +16,9 @@ use Rattle.pf_values.specs.Meaning.Terms.{node_count}
 use Rattle.pf_kernel.specs.declared.front.Front.{Front}
 use Rattle.pf_kernel.specs.declared.front.Front.TheVariants.{Kernel as KernelFront, Image as ImageFront, Def as DefFront, Out as OutFront}
 use Rattle.pf_kernel.specs.declared.reading.Reading.{Reading}
-use Rattle.pf_terms.specs.declared.token.LineWord.TheVariants.{Kernel as KernelWord, Image as ImageWord, Def as DefWord, Out as OutWord}
+use Rattle.pf_terms.specs.declared.token.LineWord.TheVariants.{Kernel as KernelWord, Def as DefWord, Out as OutWord}
 use Rattle.pf_kernel.specs.Meaning.Kernels.{names_behind, IsDeclaredRange, IsTermOf, AreDefinitions, AreInTurn, taps_in}
-use Rattle.pf_kernel.specs.Meaning.Lines.{Begun, names_in, nodes_in, may_stand, LineMeaning, Over, SaysOf, IsTokensFault, faults, with_said}
+use Rattle.pf_kernel.specs.Meaning.Lines.{Begun, names_in, nodes_in, may_stand, decl_word, LineMeaning, Over, SaysOf, IsTokensFault, faults, with_said}
 use Rattle.pf_terms.specs.declared.token.Token.{Token}
 
 -- what the fields of a reading say
@@ -90,9 +90,9 @@ abbrev pub moved : ℕ → Result Reading ReadFault → Result Reading ReadFault
 moved n (Ok r) = Ok r
 moved n (Err fault) = Err (moved_fault n fault)
 
--- what a line says in front may be added: the names are names, and images are as they must be
+-- what a line says in front may be added: the names are names, and images and parameters are as they must be
 abbrev pub MayAdd : Begun → Front → Type 0
 MayAdd b (KernelFront n) = (may_stand b KernelWord ≡ true) × (is_name n ≡ true)
-MayAdd b (ImageFront d) = (may_stand b ImageWord ≡ true) × (is_name d.name ≡ true) × IsPixelType d.ty × IsDeclaredRange d
+MayAdd b (ImageFront d) = (may_stand b (decl_word d.flat) ≡ true) × (is_name d.name ≡ true) × IsPixelType d.ty × IsDeclaredRange d
 MayAdd b (DefFront n t) = (may_stand b DefWord ≡ true) × (is_name n ≡ true)
 MayAdd b (OutFront t) = (may_stand b OutWord ≡ true) × IsPixelType t

@@ -9,8 +9,7 @@ use Rattle.pf_values.specs.declared.names.ImageName.{ImageName}
 use Rattle.pf_values.specs.declared.names.Names.{Names}
 use Rattle.pf_values.specs.declared.names.Tap.{Tap}
 use Rattle.pf_values.specs.declared.term.Env.{Env}
-use Rattle.pf_ints.specs.Meaning.Images.{Picture}
-use Rattle.pf_values.specs.Meaning.Kernels.{tap_values, def_values, no_decl}
+use Rattle.pf_values.specs.Meaning.Kernels.{Plane, tap_values, def_values, no_decl}
 use Rattle.pf_values.specs.Meaning.NamedTerms.{is_named}
 use Rattle.pf_values.specs.Meaning.Terms.{IsWellTyped, stated_type}
 use Rattle.pf_bounds.specs.declared.ranges.Ranges.{Ranges}
@@ -22,7 +21,7 @@ pub record IsDeclared (d : ImageDecl) : Type 0 where
   pub inside : IsIn d.ty (pos d.hi)
 
 abbrev pub image_name : ImageDecl → ImageName
-image_name d = record { name = d.name; ty = d.ty }
+image_name d = record { name = d.name; ty = d.ty; flat = d.flat }
 
 abbrev pub def_name : Definition → DefName
 def_name d = record { name = d.name; ty = d.ty }
@@ -64,5 +63,5 @@ pub record AreRanges (images : List ImageDecl) (ts : List Tap) (ds : List Defini
   pub defs : HaveRanges ranges.taps [] ds ranges.defs
 
 -- what the leaves stand for in a column and a row of the output
-abbrev pub env_at : List Tap → List Definition → List Picture → ℕ → ℕ → Env
-env_at taps defs pictures x y = record { taps = tap_values taps pictures x y; defs = def_values (tap_values taps pictures x y) [] defs }
+abbrev pub env_at : List Tap → List Definition → List Plane → ℕ → ℕ → Env
+env_at taps defs planes x y = record { taps = tap_values taps planes x y; defs = def_values (tap_values taps planes x y) [] defs }

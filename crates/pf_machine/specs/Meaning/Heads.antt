@@ -1,5 +1,5 @@
 -- What a text says before its code.
-use Rattle.std.specs.Prelude.{◌≡◌, ◌≢◌, ℕ, pos, ◌^◌, ◌≤◌, ◌<◌, ◌≤ℤ◌, neg_ℤ, List, [], ◌∷◌, ◌++◌, length, map, sum, IsTrue, All, codes, true}
+use Rattle.std.specs.Prelude.{◌≡◌, ◌≢◌, ℕ, pos, ◌^◌, ◌≤◌, ◌<◌, ◌≤ℤ◌, neg_ℤ, List, [], ◌∷◌, ◌++◌, length, map, sum, IsTrue, All, codes, Bool, true}
 use Rattle.std.specs.List.{AllPairs}
 use Rattle.pf_ints.specs.Meaning.Lanes.{IsIn}
 use Rattle.pf_ints.specs.Meaning.Images.{IsPixelType}
@@ -11,11 +11,16 @@ use Rattle.pf_values.specs.declared.names.Tap.{Tap}
 use Rattle.pf_values.specs.declared.names.ImageName.{ImageName}
 use Rattle.pf_values.specs.declared.names.DefName.{DefName}
 use Rattle.pf_values.specs.Meaning.Terms.{IsWellTyped, stated_type, node_count, depth_of}
+use Rattle.pf_values.specs.Meaning.Kernels.{AreInOrder, IsStill}
 use Rattle.pf_values.specs.Meaning.NamedTerms.{is_named}
 use Rattle.pf_machine.specs.declared.program.Head.{Head}
 
 abbrev pub image_name : ImageDecl → ImageName
-image_name d = record { name = d.name; ty = d.ty }
+image_name d = record { name = d.name; ty = d.ty; flat = d.flat }
+
+-- which of the images are flat
+abbrev pub flats : List ImageDecl → List Bool
+flats images = map (λ d. d.flat) images
 
 abbrev pub def_name : Definition → DefName
 def_name d = record { name = d.name; ty = d.ty }
@@ -27,7 +32,7 @@ names_of_taps images taps = record { images = map image_name images; taps = taps
 abbrev pub with_def : Names → Definition → Names
 with_def names d = record names { defs = names.defs ++ def_name d ∷ [] }
 
--- an image of u8 or u16, with a range of its type
+-- an image or a parameter of u8 or u16, with a range of its type
 pub record IsDecl (d : ImageDecl) : Type 0 where
   pub name : IsTrue (is_name d.name)
   pub ty : IsPixelType d.ty
@@ -63,8 +68,10 @@ pub record IsHead (h : Head) : Type 0 where
   pub some_images : 1 ≤ length h.images
   pub few_images : length h.images ≤ 8
   pub images : All IsDecl h.images
+  pub in_order : AreInOrder (flats h.images)
   pub few_taps : length h.taps ≤ 64
   pub taps : All (IsTap (length h.images)) h.taps
+  pub still_taps : All (IsStill (flats h.images)) h.taps
   pub distinct_taps : AllPairs (λ t u. t ≢ u) h.taps
   pub out_ty : IsPixelType h.out_ty
   pub scratch : h.scratch ≤ 2 ^ 30

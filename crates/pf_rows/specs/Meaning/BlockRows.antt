@@ -1,10 +1,10 @@
 -- What a block makes of a row: which block gives which pixel.
-use Rattle.std.specs.Prelude.{◌≡◌, ℕ, pos, ◌+◌, ◌-◌, ◌*◌, ◌/◌, ◌<◌, List, [], length, map, sum, take, drop, All, Bool, true, false, ◌==◌, if◌then◌else◌, nat_lt, slice_index, slice_index_or}
+use Rattle.std.specs.Prelude.{◌≡◌, ℕ, pos, ◌+◌, ◌-◌, ◌*◌, ◌/◌, ◌<◌, List, [], length, map, sum, take, drop, All, Bool, true, false, ◌==◌, if◌then◌else◌, nat_lt, slice_index, slice_index_or, unsigned_abs}
 use Rattle.std.specs.List.{concat, list_any}
-use Rattle.pf_ints.specs.Meaning.Images.{Picture, pixel}
+use Rattle.pf_ints.specs.Meaning.Images.{Picture}
 use Rattle.pf_values.specs.declared.names.Tap.{Tap}
 use Rattle.pf_values.specs.Meaning.NamedTerms.{no_tap}
-use Rattle.pf_values.specs.Meaning.Kernels.{Source, KeepsSet, Keeps, Out, out_value, no_picture, tap_row, tap_column, no_decl}
+use Rattle.pf_values.specs.Meaning.Kernels.{Plane, Source, KeepsSet, Keeps, Out, out_value, tap_value, no_decl}
 use Rattle.pf_machine.specs.declared.block.Item.{Item}
 use Rattle.pf_machine.specs.declared.block.Item.TheVariants.{Vector as Operation, TapLoad, OutStore, SlotLoad, SlotStore}
 use Rattle.pf_machine.specs.declared.program.Head.{Head}
@@ -26,28 +26,28 @@ tap_widths h = map (λ t. pixel_bytes (slice_index_or h.images t.image no_decl).
 abbrev pub start_of : (vector n q : ℕ) → ℕ
 start_of vector n q = if nat_lt q (n - vector) then vector * (q / vector) else n - vector
 
--- the number of tap k in column x of row y of the output
-abbrev pub tap_pixel : List Tap → List Picture → ℕ → ℕ → Tap → ℕ
-tap_pixel taps pictures x y t = pixel (slice_index_or pictures t.image no_picture) (tap_column taps x t) (tap_row taps y t)
+-- the number of a tap in column x of row y of the output, which is none below 0
+abbrev pub tap_pixel : List Tap → List Plane → ℕ → ℕ → Tap → ℕ
+tap_pixel taps planes x y t = unsigned_abs (tap_value taps planes x y t)
 
 -- the taps' pixels of row y from column x on, for a block; past the row's end they may be any bytes
-pub record AreBlocks (vector : ℕ) (h : Head) (pictures : List Picture) (y x : ℕ) (blocks : List (List ℕ)) : Type 0 where
+pub record AreBlocks (vector : ℕ) (h : Head) (planes : List Plane) (y x : ℕ) (blocks : List (List ℕ)) : Type 0 where
   pub taps : AreTaps vector (tap_widths h) blocks
-  pub each : (k j : ℕ) → k < length h.taps → j < vector → x + j < columns h pictures
-      → pixel_part (slice_index (tap_widths h) k) j (slice_index_or blocks k []) ≡ bytes (slice_index (tap_widths h) k) (tap_pixel h.taps pictures (x + j) y (slice_index_or h.taps k no_tap))
+  pub each : (k j : ℕ) → k < length h.taps → j < vector → x + j < columns h planes
+      → pixel_part (slice_index (tap_widths h) k) j (slice_index_or blocks k []) ≡ bytes (slice_index (tap_widths h) k) (tap_pixel h.taps planes (x + j) y (slice_index_or h.taps k no_tap))
 
 -- the bytes are those that a block from column x on gives at pixel q
-pub record IsGiven {O : Type 0} (t : Table O) (slots : ℕ) (block : List (Item O)) (h : Head) (pictures : List Picture) (y x q : ℕ) (held : List ℕ) : Type 0 where
+pub record IsGiven {O : Type 0} (t : Table O) (slots : ℕ) (block : List (Item O)) (h : Head) (planes : List Plane) (y x q : ℕ) (held : List ℕ) : Type 0 where
   pub blocks : List (List ℕ)
-  pub taps : AreBlocks t.vector h pictures y x blocks
+  pub taps : AreBlocks t.vector h planes y x blocks
   pub given : (file : RegFile) (kept : List (List ℕ)) → IsFile t t.vectors file → AreSlots t.vector slots kept
       → held ≡ pixel_part (pixel_bytes h.out_ty) (q - x) (concat (BVal t (pixel_bytes h.out_ty) block blocks file kept))
 
 -- a row of the output: each pixel is the one that the last block gives that begins at it or before it
-pub record IsBlockRow {O : Type 0} (t : Table O) (slots : ℕ) (block : List (Item O)) (h : Head) (pictures : List Picture) (y : ℕ) (row : List ℕ) : Type 0 where
-  pub size : length row ≡ row_size h pictures
-  pub each : (q : ℕ) → q < columns h pictures
-      → IsGiven t slots block h pictures y (start_of t.vector (columns h pictures) q) q (pixel_part (pixel_bytes h.out_ty) q row)
+pub record IsBlockRow {O : Type 0} (t : Table O) (slots : ℕ) (block : List (Item O)) (h : Head) (planes : List Plane) (y : ℕ) (row : List ℕ) : Type 0 where
+  pub size : length row ≡ row_size h planes
+  pub each : (q : ℕ) → q < columns h planes
+      → IsGiven t slots block h planes y (start_of t.vector (columns h planes) q) q (pixel_part (pixel_bytes h.out_ty) q row)
 
 -- a step of a block is one that a program over these pixels may have: its tap and its part are there
 abbrev pub IsBlockItem : (widths : List ℕ) (width : ℕ) {O : Type 0} → Item O → Type 0
@@ -74,24 +74,24 @@ pub record IsRowBlock {O : Type 0} (t : Table O) (h : Head) (slots : ℕ) (block
   pub steps : All (IsBlockItem (tap_widths h) (pixel_bytes h.out_ty)) block
   pub stores : StoresEach (pixel_bytes h.out_ty) block
 
--- the images are those that the head asks for, and the output has a pixel
-abbrev pub KeepsHead : Head → List Picture → Type 0
-KeepsHead h pictures = KeepsSet h.images h.taps pictures
+-- the images and parameters' values are those that the head asks for, and the output has a pixel
+abbrev pub KeepsHead : Head → List Plane → Type 0
+KeepsHead h planes = KeepsSet h.images h.taps planes
 
 -- under every placement and in every row, the program ends within its steps and without a trap, and has then written a row of the block's pixels and nothing else of the output
 abbrev pub RunsBlock : {I O : Type 0} → Table O → ℕ → List (Item O) → ProgramOf I O → Type 0
 RunsBlock t slots block p =
-    (pictures : List Picture) → KeepsHead p.head pictures → (at : Places) (scratch output : List ℕ) → IsPlaced p.head pictures at scratch output → (y : ℕ)
-    → y < rows p.head pictures
-    → (row : List ℕ) × IsBlockRow t slots block p.head pictures y row × RowDone t p pictures at y row scratch output
+    (planes : List Plane) → KeepsHead p.head planes → (at : Places) (scratch output : List ℕ) → IsPlaced p.head planes at scratch output → (y : ℕ)
+    → y < rows p.head planes
+    → (row : List ℕ) × IsBlockRow t slots block p.head planes y row × RowDone t p planes at y row scratch output
 
 -- where each of the block's pixels is a function of the taps' numbers there, and the function gives the values of a kernel's output, the program's runs leave the kernel's output
 abbrev pub LeavesLanes : {I O : Type 0} → Table O → ℕ → List (Item O) → ProgramOf I O → Type 0
 LeavesLanes t slots block p =
     (value : List ℕ → ℕ) → IsLanewise t (tap_widths p.head) t.vectors slots (pixel_bytes p.head.out_ty) block value
-    → (s : Source) (pictures : List Picture) → s.images ≡ p.head.images → s.taps ≡ p.head.taps → s.out_ty ≡ p.head.out_ty → Keeps s pictures
-    → ((x y : ℕ) → x < columns p.head pictures → y < rows p.head pictures → pos (value (map (tap_pixel p.head.taps pictures x y) p.head.taps)) ≡ out_value s pictures x y)
-    → (o : Picture) × Out s pictures o × ((at : Places) (scratch output : List ℕ) → IsPlaced p.head pictures at scratch output → Leaves t p pictures at scratch output o)
+    → (s : Source) (planes : List Plane) → s.images ≡ p.head.images → s.taps ≡ p.head.taps → s.out_ty ≡ p.head.out_ty → Keeps s planes
+    → ((x y : ℕ) → x < columns p.head planes → y < rows p.head planes → pos (value (map (tap_pixel p.head.taps planes x y) p.head.taps)) ≡ out_value s planes x y)
+    → (o : Picture) × Out s planes o × ((at : Places) (scratch output : List ℕ) → IsPlaced p.head planes at scratch output → Leaves t p planes at scratch output o)
 
 -- what a block's operations cost together
 abbrev pub item_cost : {O : Type 0} → Table O → Item O → ℕ

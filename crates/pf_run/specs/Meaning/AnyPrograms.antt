@@ -1,10 +1,10 @@
 -- Programs of the targets that texts are run for, a line a target.
-use Rattle.std.specs.Prelude.{◌≡◌, ◌⊎◌, ℕ, ◌<◌, ◌^◌, List, Result, Ok, Err, length}
+use Rattle.std.specs.Prelude.{◌≡◌, ◌⊎◌, ℕ, ℤ, ◌<◌, ◌^◌, List, Result, Ok, Err, length}
 use Rattle.std.specs.Str.Lines.{lines}
 use Rattle.pf_ints.specs.declared.target.Target.{Target}
 use Rattle.pf_ints.specs.declared.target.Target.TheVariants.{Neon as OnNeon, Avx2 as OnAvx2, Hvx as OnHvx}
 use Rattle.pf_ints.specs.Meaning.Images.{Picture}
-use Rattle.pf_values.specs.Meaning.Kernels.{KeepsSet}
+use Rattle.pf_values.specs.Meaning.Kernels.{KeepsSet, planes_of}
 use Rattle.pf_machine.specs.declared.memory.Region.{Region}
 use Rattle.pf_machine.specs.declared.program.Head.{Head}
 use Rattle.pf_machine.specs.Meaning.Programs.{ProgramOf}
@@ -59,23 +59,25 @@ IsShort (NeonProgram p) = length p.code < 2 ^ 31
 IsShort (Avx2Program p) = length p.code < 2 ^ 31
 IsShort (HvxProgram p) = length p.code < 2 ^ 31
 
--- what a run of the program on images answers
-abbrev pub RanAny : AnyProgram → List Picture → Result Picture RunFault → Type 0
-RanAny (NeonProgram p) pictures result = Ran neon_table p pictures result
-RanAny (Avx2Program p) pictures result = Ran avx2_table p pictures result
-RanAny (HvxProgram p) pictures result = Ran hvx_table p pictures result
+-- what a run of the program on images and values answers
+abbrev pub RanAny : AnyProgram → List Picture → List ℤ → Result Picture RunFault → Type 0
+RanAny (NeonProgram p) pictures values result = Ran neon_table p pictures values result
+RanAny (Avx2Program p) pictures values result = Ran avx2_table p pictures values result
+RanAny (HvxProgram p) pictures values result = Ran hvx_table p pictures values result
 
--- what a run of a text on images answers: what the program that it means does, or where it means none its first fault
-abbrev pub RanAnyText : List ℕ → List Picture → Result Picture RunFault → Type 0
-RanAnyText bytes pictures (Err (TextAt line kind)) = IsAnyFault bytes (At line kind)
-RanAnyText bytes pictures (Err OutOfMemory) = Unit {0}
-RanAnyText bytes pictures result = (p : AnyProgram) × IsAnyText p bytes × RanAny p pictures result
+-- what a run of a text on images and values answers: what the program that it means does, or where it means none its first fault
+abbrev pub RanAnyText : List ℕ → List Picture → List ℤ → Result Picture RunFault → Type 0
+RanAnyText bytes pictures values (Err (TextAt line kind)) = IsAnyFault bytes (At line kind)
+RanAnyText bytes pictures values (Err OutOfMemory) = Unit {0}
+RanAnyText bytes pictures values result = (p : AnyProgram) × IsAnyText p bytes × RanAny p pictures values result
 
--- the images are such as the program asks for, and all rows of its run return
-abbrev pub Returns : {I O : Type 0} → Table O → ProgramOf I O → List Picture → Type 0
-Returns t p pictures = (regions : List Region) × KeepsSet p.head.images p.head.taps pictures × (run_end t p pictures ≡ Finished regions)
+-- images and values are such as the program asks for, and all rows of its run return
+abbrev pub Returns : {I O : Type 0} → Table O → ProgramOf I O → List Picture → List ℤ → Type 0
+Returns t p pictures values =
+    let planes = planes_of p.head.images pictures values in
+    (regions : List Region) × KeepsSet p.head.images p.head.taps planes × (run_end t p planes ≡ Finished regions)
 
-abbrev pub ReturnsAny : AnyProgram → List Picture → Type 0
-ReturnsAny (NeonProgram p) pictures = Returns neon_table p pictures
-ReturnsAny (Avx2Program p) pictures = Returns avx2_table p pictures
-ReturnsAny (HvxProgram p) pictures = Returns hvx_table p pictures
+abbrev pub ReturnsAny : AnyProgram → List Picture → List ℤ → Type 0
+ReturnsAny (NeonProgram p) pictures values = Returns neon_table p pictures values
+ReturnsAny (Avx2Program p) pictures values = Returns avx2_table p pictures values
+ReturnsAny (HvxProgram p) pictures values = Returns hvx_table p pictures values

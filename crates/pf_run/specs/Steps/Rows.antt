@@ -1,9 +1,9 @@
 -- The rows of a run: what they have in common, and how they end.
 use Rattle.std.specs.Prelude.{◌≡◌, ℕ, ◌+◌, ◌*◌, ◌<◌, ◌≤◌, ◌^◌, List, [], ◌∷◌, ◌++◌, length, map, All, Result, Ok, Err, unsigned_abs, slice_index_or}
 use Rattle.pf_ints.specs.declared.lane.LaneType.{LaneType}
-use Rattle.pf_ints.specs.Meaning.Images.{Picture, IsPixelType}
+use Rattle.pf_ints.specs.Meaning.Images.{IsPixelType}
 use Rattle.pf_values.specs.declared.names.Tap.{Tap}
-use Rattle.pf_values.specs.Meaning.Kernels.{out_width}
+use Rattle.pf_values.specs.Meaning.Kernels.{Plane, out_width}
 use Rattle.pf_machine.specs.declared.memory.Region.{Region}
 use Rattle.pf_machine.specs.Meaning.Memory.{nowhere}
 use Rattle.pf_machine.specs.declared.program.Head.{Head}
@@ -16,27 +16,27 @@ use Rattle.pf_run.specs.Meaning.Placement.{places_of, run_places}
 use Rattle.pf_run.specs.Steps.Pixels.{IsReach}
 
 -- the table of row y, for these taps and an output of this type
-abbrev pub entries_of : List Tap → LaneType → List Picture → Places → ℕ → List ℕ
-entries_of taps out_ty pictures at y =
-    map (tap_address taps pictures at.images y) taps ++ (at.output + pixel_bytes out_ty * (unsigned_abs (out_width taps pictures) * y)) ∷ at.scratch ∷ unsigned_abs (out_width taps pictures) ∷ []
+abbrev pub entries_of : List Tap → LaneType → List Plane → Places → ℕ → List ℕ
+entries_of taps out_ty planes at y =
+    map (tap_address taps planes at.images y) taps ++ (at.output + pixel_bytes out_ty * (unsigned_abs (out_width taps planes) * y)) ∷ at.scratch ∷ unsigned_abs (out_width taps planes) ∷ []
 
--- what a plan says of its taps, of the images and of where the regions start
-pub record IsPlan (pictures : List Picture) (p : Plan) : Type 0 where
-  pub reach : IsReach p.taps pictures p.reach
-  pub columns : p.reach.columns ≡ unsigned_abs (out_width p.taps pictures)
-  pub taps : All (λ t. t.image < length pictures) p.taps
-  pub starts : length p.starts.images.items ≡ length pictures
+-- what a plan says of its taps, of the planes and of where the regions start
+pub record IsPlan (planes : List Plane) (p : Plan) : Type 0 where
+  pub reach : IsReach p.taps planes p.reach
+  pub columns : p.reach.columns ≡ unsigned_abs (out_width p.taps planes)
+  pub taps : All (λ t. t.image < length planes) p.taps
+  pub starts : length p.starts.images.items ≡ length planes
   pub low : All (λ start. start < 2 ^ 31) p.starts.images.items
   pub output : p.starts.output < 2 ^ 31
 
 -- the plan is that of a program of this head and so many instructions
-pub record IsPlanOf (h : Head) (instructions : ℕ) (pictures : List Picture) (p : Plan) : Type 0 where
+pub record IsPlanOf (h : Head) (instructions : ℕ) (planes : List Plane) (p : Plan) : Type 0 where
   pub taps : p.taps ≡ h.taps
   pub out_ty : p.out_ty ≡ h.out_ty
-  pub places : places_of p.starts ≡ run_places h pictures
-  pub width : p.reach.columns ≡ columns h pictures
-  pub height : p.reach.rows ≡ rows h pictures
-  pub budget : p.budget ≡ row_budget instructions (length h.taps) (columns h pictures)
+  pub places : places_of p.starts ≡ run_places h planes
+  pub width : p.reach.columns ≡ columns h planes
+  pub height : p.reach.rows ≡ rows h planes
+  pub budget : p.budget ≡ row_budget instructions (length h.taps) (columns h planes)
 
 -- what a row answers, and the state that it leaves where it returns
 abbrev pub RowAnswers : End → ℕ → Result (Unit {0}) RunFault → State → Type 0

@@ -5,8 +5,9 @@ use Rattle.pf_ints.specs.Meaning.Images.{IsPixelType}
 use Rattle.pf_text.specs.Meaning.Words.{is_name}
 use Rattle.pf_values.specs.declared.names.Names.{Names}
 use Rattle.pf_values.specs.declared.names.Tap.{Tap}
+use Rattle.pf_values.specs.Meaning.Kernels.{AreInOrder, IsStill}
 
--- the names of all images, and then of all definitions
+-- the names of all images and parameters, and then of all definitions
 abbrev pub all_names : Names → List (List ℕ)
 all_names names = map (λ i. i.name) names.images ++ map (λ d. d.name) names.defs
 
@@ -21,7 +22,7 @@ pub record IsNearTap (count : ℕ) (t : Tap) : Type 0 where
   pub across : IsTapOffset t.dx
   pub down : IsTapOffset t.dy
 
--- the names and the taps are distinct, and none is outside the limits
+-- the names and the taps are distinct, none is outside the limits, and parameters stand behind the other images and have no offsets
 pub record IsNames (names : Names) : Type 0 where
   pub few_images : length names.images ≤ 8
   pub few_taps : length names.taps ≤ 64
@@ -31,3 +32,5 @@ pub record IsNames (names : Names) : Type 0 where
   pub distinct_names : AllPairs (λ s t. s ≢ t) (all_names names)
   pub near : All (IsNearTap (length names.images)) names.taps
   pub distinct_taps : AllPairs (λ t u. t ≢ u) names.taps
+  pub order : AreInOrder (map (λ i. i.flat) names.images)
+  pub still : All (IsStill (map (λ i. i.flat) names.images)) names.taps

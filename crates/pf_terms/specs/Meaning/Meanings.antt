@@ -1,5 +1,5 @@
 -- What an expression means, once its names are looked up.
-use Rattle.std.specs.Prelude.{◌≡◌, ℕ, ℤ, pos, neg_ℤ, ◌+◌, ◌≤◌, ◌<◌, Bool, true, ◌&&◌, ◌==◌, not, if◌then◌else◌, int_le, unsigned_abs, List, [], ◌∷◌, ◌++◌, length, map, slice_index_or, Option, Some, None, Result, Ok, Err}
+use Rattle.std.specs.Prelude.{◌≡◌, ℕ, ℤ, pos, neg_ℤ, ◌+◌, ◌≤◌, ◌<◌, Bool, true, ◌&&◌, ◌||◌, ◌==◌, not, if◌then◌else◌, int_le, unsigned_abs, List, [], ◌∷◌, ◌++◌, length, map, slice_index_or, Option, Some, None, Result, Ok, Err}
 use Rattle.std.specs.List.{find, flat_map, list_any, position_or_len}
 use Rattle.std.specs.Option.{option_or, unwrap_or}
 use Rattle.std.specs.Str.{bytes_eq}
@@ -40,6 +40,10 @@ def_number defs s = position_or_len (λ d. bytes_eq d.name s) defs
 abbrev pub is_image : List ImageName → List ℕ → Bool
 is_image images s = list_any (λ i. bytes_eq i.name s) images
 
+-- a parameter has the name: an image that is flat
+abbrev pub is_param : List ImageName → List ℕ → Bool
+is_param images s = (slice_index_or images (image_number images s) no_image).flat
+
 abbrev pub is_def : List DefName → List ℕ → Bool
 is_def defs s = list_any (λ d. bytes_eq d.name s) defs
 
@@ -49,11 +53,11 @@ first_some (o ∷ os) = option_or o (first_some os)
 
 abbrev pub unknown_step : Names → SyntaxTree-F (Option (List ℕ)) → Option (List ℕ)
 unknown_step names (Number n t) = None
-unknown_step names (NameTree s) = if is_def names.defs s then None else Some s
-unknown_step names (TapTree s dx dy) = if is_image names.images s then None else Some s
+unknown_step names (NameTree s) = if is_def names.defs s || is_param names.images s then None else Some s
+unknown_step names (TapTree s dx dy) = if is_image names.images s && not (is_param names.images s) then None else Some s
 unknown_step names (Node op less ty k args) = first_some args
 
--- the first name in the order of the text that is unknown: one before offsets has to be an image's, and another a definition's
+-- the first name in the order of the text that is unknown: one before offsets has to be that of an image that is no parameter, and another a definition's or a parameter's
 abbrev pub first_unknown : Names → SyntaxTree → Option (List ℕ)
 first_unknown names = fold-SyntaxTree (Option (List ℕ)) (unknown_step names)
 
@@ -76,7 +80,7 @@ tap_at images s dx dy = record { image = image_number images s; dx = dx; dy = dy
 
 abbrev pub uses_step : List ImageName → SyntaxTree-F (List Tap) → List Tap
 uses_step images (Number n t) = []
-uses_step images (NameTree s) = []
+uses_step images (NameTree s) = if is_param images s then tap_at images s (pos 0) (pos 0) ∷ [] else []
 uses_step images (TapTree s dx dy) = tap_at images s dx dy ∷ []
 uses_step images (Node op less ty k args) = flat_map (λ ts. ts) (in_order less args)
 
@@ -110,10 +114,21 @@ written_type ty = unwrap_or ty no_type
 abbrev pub node_over : Op → Option LaneType → ℤ → List Term → Term
 node_over op ty k args = NodeTerm op (result_type (row_of op).gives (written_type ty) (map stated_type args)) (unsigned_abs k) args
 
+-- the leaf of a tap at these offsets in the image of this name, and that of a definition
+abbrev pub tap_leaf : Names → List ℕ → ℤ → ℤ → Term
+tap_leaf names s dx dy = LeafTerm (TapOf (tap_number names.taps (tap_at names.images s dx dy))) (slice_index_or names.images (image_number names.images s) no_image).ty
+
+abbrev pub def_leaf : Names → List ℕ → Term
+def_leaf names s = LeafTerm (Def (def_number names.defs s)) (slice_index_or names.defs (def_number names.defs s) no_def).ty
+
+-- the leaf of a bare name
+abbrev pub name_leaf : Names → List ℕ → Term
+name_leaf names s = if is_param names.images s then tap_leaf names s (pos 0) (pos 0) else def_leaf names s
+
 abbrev pub term_step : Names → SyntaxTree-F Term → Term
 term_step names (Number n t) = LeafTerm (Const n) t
-term_step names (NameTree s) = LeafTerm (Def (def_number names.defs s)) (slice_index_or names.defs (def_number names.defs s) no_def).ty
-term_step names (TapTree s dx dy) = LeafTerm (TapOf (tap_number names.taps (tap_at names.images s dx dy))) (slice_index_or names.images (image_number names.images s) no_image).ty
+term_step names (NameTree s) = name_leaf names s
+term_step names (TapTree s dx dy) = tap_leaf names s dx dy
 term_step names (Node op less ty k args) = node_over op ty k (in_order less args)
 
 -- the term that is written so, where each name and each tap has its number

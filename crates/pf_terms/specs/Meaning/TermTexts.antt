@@ -1,5 +1,5 @@
 -- The printed texts of terms.
-use Rattle.std.specs.Prelude.{Bool, take, drop, ℕ, List, [], ◌∷◌, ◌++◌, codes, decimal, slice_index_or, true, false}
+use Rattle.std.specs.Prelude.{if◌then◌else◌, Bool, take, drop, ℕ, List, [], ◌∷◌, ◌++◌, codes, decimal, slice_index_or, true, false}
 use Rattle.std.specs.Fmt.{signed_decimal}
 use Rattle.pf_ints.specs.declared.lane.LaneType.{LaneType}
 use Rattle.pf_ints.specs.Meaning.Lanes.{lane_width}
@@ -26,12 +26,16 @@ sign_letter false = codes "u"
 abbrev pub type_word : LaneType → List ℕ
 type_word t = sign_letter t.signed ++ decimal (lane_width t)
 
--- a tap's text: its image's name and its offsets, as a[-1,0]
+-- an image's name and a tap's offsets, as a[-1,0]
 abbrev pub placed_text : List ℕ → TapOf → List ℕ
 placed_text name t = name ++ codes "[" ++ signed_decimal t.dx ++ codes "," ++ signed_decimal t.dy ++ codes "]"
 
+abbrev pub tap_text_of : ImageName → TapOf → List ℕ
+tap_text_of image t = if image.flat then image.name else placed_text image.name t
+
+-- a tap's text; that of a parameter is its name
 abbrev pub tap_text : List ImageName → TapOf → List ℕ
-tap_text images t = placed_text (slice_index_or images t.image no_image).name t
+tap_text images t = tap_text_of (slice_index_or images t.image no_image) t
 
 abbrev pub leaf_text : Names → LeafOf → LaneType → List ℕ
 leaf_text names (Tap n) ty = tap_text names.images (slice_index_or names.taps n no_tap)

@@ -7,7 +7,7 @@ use Rattle.pf_values.specs.declared.row.Spelling.TheVariants.{TypeCall, Infix, S
 use Rattle.pf_terms.specs.declared.token.TokenKind.{TokenKind}
 use Rattle.pf_terms.specs.declared.token.TokenKind.TheVariants.{Name, TypeWord, Number, Typed, Long, Word, Choose, Line, Open, Close, OpenSquare, CloseSquare, Comma, Plus, Minus, Times, ShiftLeft, ShiftRight, Less, Greater, Same, Equals, Other}
 use Rattle.pf_terms.specs.declared.token.LineWord.{LineWord}
-use Rattle.pf_terms.specs.declared.token.LineWord.TheVariants.{Kernel, Image, Def, Out}
+use Rattle.pf_terms.specs.declared.token.LineWord.TheVariants.{Kernel, Image, Param, Def, Out}
 use Rattle.pf_terms.specs.declared.token.Token.{Token}
 use Rattle.pf_terms.specs.Meaning.TermTexts.{type_word}
 use Rattle.pf_values.specs.Meaning.Spellings.{op_word, spelling_of}
@@ -29,6 +29,7 @@ is_word_spelling Select = false
 abbrev pub line_word : LineWord → List ℕ
 line_word Kernel = codes "kernel"
 line_word Image = codes "image"
+line_word Param = codes "param"
 line_word Def = codes "def"
 line_word Out = codes "out"
 

@@ -7,7 +7,7 @@ use std::alloc::{AllocError, AllocFailed};
 #[derive(Drop)]
 pub enum SyntaxTree {
     Number(i64, LaneType),
-    /// A definition's name.
+    /// A definition's or a parameter's name.
     Name(Name),
     /// An image's name and the offsets behind it.
     Tap(Name, i64, i64),

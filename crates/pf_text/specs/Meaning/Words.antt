@@ -32,7 +32,7 @@ abbrev pub call_words : List (List ℕ)
 call_words = codes "abs" ∷ codes "rounding_shr" ∷ codes "mul_shr" ∷ codes "rounding_mul_shr" ∷ codes "saturating_cast" ∷ codes "select" ∷ []
 
 abbrev pub line_words : List (List ℕ)
-line_words = codes "kernel" ∷ codes "image" ∷ codes "def" ∷ codes "out" ∷ []
+line_words = codes "kernel" ∷ codes "image" ∷ codes "param" ∷ codes "def" ∷ codes "out" ∷ []
 
 abbrev pub is_among : List ℕ → List (List ℕ) → Bool
 is_among word words = list_any (λ w. bytes_eq word w) words

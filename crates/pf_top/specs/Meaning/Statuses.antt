@@ -16,9 +16,9 @@ use Rattle.pf_outside.specs.declared.stop.Stop.TheVariants.{Missing, Unreadable,
 use Rattle.pf_outside.specs.Meaning.Reports.{Report, report, told, wanting, write_failed}
 use Rattle.pf_outside.specs.Meaning.Tasks.{Task, Verdict, file_name, out_name}
 use Rattle.pf_run.specs.declared.fault.RunFault.TheVariants.{Text as RunText, Set, Outside, Spent, Memory as RunMemory}
-use Rattle.pf_run.specs.declared.fault.SetFault.TheVariants.{Count as SetCount, Kind, Size, Pixel, NoOutput}
+use Rattle.pf_run.specs.declared.fault.SetFault.TheVariants.{Count as SetCount, Values as SetValues, Value as SetValue, Kind, Size, Pixel, NoOutput}
 use Rattle.pf_top.specs.declared.fault.Failure.{Failure}
-use Rattle.pf_top.specs.declared.fault.Failure.TheVariants.{Target, NoText, Count, Run, RulesRefused}
+use Rattle.pf_top.specs.declared.fault.Failure.TheVariants.{Target, NoText, Count, Values, Value, Run, RulesRefused}
 use Rattle.pf_top.specs.declared.fault.FileFault.{FileFault}
 use Rattle.pf_top.specs.declared.fault.FileFault.TheVariants.{Kernel, Rules, RuleKind, NotBuilt, Text, LongText, Image, LongImage}
 
@@ -40,14 +40,19 @@ report_of_file name (Text (TextAt at kind)) = told 10 (name ∷ codes ":" ∷ de
 report_of_file name (Text TextMemory) = wanting
 report_of_file name LongText = told 10 (name ∷ codes ":0: limit" ∷ [])
 
--- 6: a rule is refused; 8: the target or the kernel isn't built; 9: the images don't suit the text, image n being file n + 1; 11: a load or a store that
--- no region allows; 12: a row that took all its steps. No call comes to `RunText`, `SetCount` or `Kind` (`AllowsRun`)
+-- 6: a rule is refused; 8: the target or the kernel isn't built; 9: images or values don't suit the text, image n being file n + 1; 11: a load or a
+-- store that no region allows; 12: a row that took all its steps. No call comes to `RunText`, `SetCount`, `SetValues`, `SetValue`
+-- or `Kind` (`AllowsRun`)
 abbrev pub report_of_failure : Task FileFault Failure → Failure → Report
 report_of_failure t (Target target) = told 8 (codes "not built: " ∷ target_word target ∷ [])
 report_of_failure t (RulesRefused lines) = report 6 lines
 report_of_failure t NoText = told 8 (codes "not built: " ∷ file_name t 0 ∷ [])
 report_of_failure t (Count want got) = told 9 (codes "want " ∷ decimal want ∷ codes " images, got " ∷ decimal got ∷ [])
+report_of_failure t (Values want got) = told 9 (codes "want " ∷ decimal want ∷ codes " values, got " ∷ decimal got ∷ [])
+report_of_failure t (Value name value) = told 9 (codes "value " ∷ name ∷ codes " is " ∷ signed_decimal value ∷ [])
 report_of_failure t (Run (Set (SetCount want got))) = told 9 (codes "want " ∷ decimal want ∷ codes " images, got " ∷ decimal got ∷ [])
+report_of_failure t (Run (Set (SetValues want got))) = told 9 (codes "want " ∷ decimal want ∷ codes " values, got " ∷ decimal got ∷ [])
+report_of_failure t (Run (Set (SetValue n value))) = told 9 (codes "value " ∷ decimal n ∷ codes " is " ∷ signed_decimal value ∷ [])
 report_of_failure t (Run (Set (Kind n))) = told 9 (file_name t (n + 1) ∷ codes ": type" ∷ [])
 report_of_failure t (Run (Set (Size n width height))) = told 9 (file_name t (n + 1) ∷ codes ": size " ∷ decimal width ∷ codes " " ∷ decimal height ∷ [])
 report_of_failure t (Run (Set (Pixel n x y value))) = told 9 (file_name t (n + 1) ∷ codes ": pixel " ∷ decimal x ∷ codes " " ∷ decimal y ∷ codes " is " ∷ signed_decimal value ∷ [])

@@ -1,5 +1,5 @@
 -- What the steps of commands come to.
-use Rattle.std.specs.Prelude.{◌≡◌, ◌≢◌, ℕ, suc, ◌+◌, ◌<◌, List, length, take, zip, true, false, Option, Some, Result, Ok, Err, slice_get}
+use Rattle.std.specs.Prelude.{◌≡◌, ℕ, ℤ, suc, ◌+◌, ◌<◌, List, length, take, zip, true, false, Option, Some, Result, Ok, Err, slice_get}
 use Rattle.std.specs.List.{AllZip}
 use Rattle.pf_ints.specs.Meaning.Images.{Picture}
 use Rattle.pf_values.specs.declared.kernel.ImageDecl.{ImageDecl}
@@ -11,7 +11,7 @@ use Rattle.pf_outside.specs.Meaning.Formats.{Format, Means, IsRefused}
 use Rattle.pf_outside.specs.Meaning.StoreCalls.{Store, StoreAfter, Well}
 use Rattle.pf_outside.specs.Steps.FileSteps.{Judged, JudgesBytes}
 use Rattle.pf_top.specs.declared.fault.Failure.{Failure}
-use Rattle.pf_top.specs.declared.fault.Failure.TheVariants.{NoText, Count, Run, RulesRefused}
+use Rattle.pf_top.specs.declared.fault.Failure.TheVariants.{NoText, Run, RulesRefused}
 use Rattle.pf_top.specs.declared.fault.FileFault.{FileFault}
 use Rattle.pf_top.specs.declared.fault.FileFault.TheVariants.{Rules, RuleKind}
 use Rattle.pf_rulefile.specs.declared.fault.RuleTextFault.{RuleTextFault}
@@ -21,7 +21,8 @@ use Rattle.pf_top.specs.Meaning.RuleFiles.{is_for}
 use Rattle.pf_ints.specs.declared.target.Target.{Target}
 use Rattle.pf_rules.specs.declared.rule_file.FileParts.{FileParts}
 use Rattle.pf_top.specs.Meaning.Files.{image_file}
-use Rattle.pf_top.specs.Meaning.Running.{Language, HoldsImage}
+use Rattle.pf_run.specs.Meaning.Sets.{KeepsValues}
+use Rattle.pf_top.specs.Meaning.Running.{Language, HoldsImage, Misfits}
 
 -- the file of this number and name was read and judged by its format
 abbrev pub JudgedAs : {P : Type 0} → Format FileFault P → ℕ → List ℕ → Store → Result P (Stop FileFault Failure) → Store → Type 0
@@ -48,22 +49,27 @@ pub record StopsAtImage (names : List (List ℕ)) (decls : List ImageDecl) (befo
   pub held : HeldImages (zip names decls) number pictures before middle
   pub judged : JudgedAs (image_file decl.ty) (suc number) name middle (Err s) after
 
--- the images of files of these names and declarations were read, file 1 and those behind it; or there are more or fewer declared
+-- so many images, and these values, were judged
+abbrev pub JudgesValues : {A : Type 0} → List ImageDecl → ℕ → List ℤ → Result A (Stop FileFault Failure) → Type 0
+JudgesValues decls images values (Ok _) = KeepsValues decls images values
+JudgesValues decls images values (Err (Failed f)) = Misfits decls images values f
+JudgesValues decls images values (Err _) = ⊥
+
+-- the images of files of these names and declarations were read, file 1 and those behind it
 abbrev pub ReadsImages : List (List ℕ) → List ImageDecl → Store → Result (List Picture) (Stop FileFault Failure) → Store → Type 0
-ReadsImages names decls before (Ok pictures) after = (length names ≡ length decls) × HeldImages (zip names decls) (length names) pictures before after
-ReadsImages names decls before (Err (Failed f)) after = (f ≡ Count (length decls) (length names)) × (length decls ≢ length names) × (after ≡ before)
-ReadsImages names decls before (Err s) after = (length names ≡ length decls) × StopsAtImage names decls before s after
+ReadsImages names decls before (Ok pictures) after = HeldImages (zip names decls) (length names) pictures before after
+ReadsImages names decls before (Err s) after = StopsAtImage names decls before s after
 
--- why a text makes no image of images, or memory was wanting
-abbrev pub StopsAs : {P : Type 0} → Language P → P → List Picture → Stop FileFault Failure → Type 0
-StopsAs l p pictures (Failed (Run e)) = l.Ends p pictures (Err e)
-StopsAs l p pictures Memory = Unit {0}
-StopsAs l p pictures _ = ⊥
+-- why a text makes no image of images and values, or memory was wanting
+abbrev pub StopsAs : {P : Type 0} → Language P → P → List Picture → List ℤ → Stop FileFault Failure → Type 0
+StopsAs l p pictures values (Failed (Run e)) = l.Ends p pictures values (Err e)
+StopsAs l p pictures values Memory = Unit {0}
+StopsAs l p pictures values _ = ⊥
 
--- what a text makes of images: the file of an image, or a stop
-abbrev pub Outputs : {A P : Type 0} → (A → List ℕ) → Language P → P → List Picture → Result A (Stop FileFault Failure) → Type 0
-Outputs bytes l p pictures (Ok text) = (o : Picture) × l.Ends p pictures (Ok o) × (bytes text ≡ pgm_text o)
-Outputs bytes l p pictures (Err s) = StopsAs l p pictures s
+-- what a text makes of images and values: the file of an image, or a stop
+abbrev pub Outputs : {A P : Type 0} → (A → List ℕ) → Language P → P → List Picture → List ℤ → Result A (Stop FileFault Failure) → Type 0
+Outputs bytes l p pictures values (Ok text) = (o : Picture) × l.Ends p pictures values (Ok o) × (bytes text ≡ pgm_text o)
+Outputs bytes l p pictures values (Err s) = StopsAs l p pictures values s
 
 -- no text is selected for a kernel, or memory was wanting
 abbrev pub Unselected : Type 0 → Stop FileFault Failure → Type 0

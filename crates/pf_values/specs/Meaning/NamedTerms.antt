@@ -19,7 +19,7 @@ abbrev pub no_type : LaneType
 no_type = record { signed = false; bits = Eight }
 
 abbrev pub no_image : ImageName
-no_image = record { name = []; ty = no_type }
+no_image = record { name = []; ty = no_type; flat = false }
 
 abbrev pub no_tap : TapOf
 no_tap = record { image = 0; dx = pos 0; dy = pos 0 }

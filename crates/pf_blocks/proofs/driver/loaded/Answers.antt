@@ -5,7 +5,7 @@ use Rattle.pf_blocks.proofs.driver.loaded.Goals.{in-Eight, in_default+in_ok-seco
 
 pub returns-clause-value : goal.returns-clause-value
 returns-clause-value g c = λ widths known width.
-    let t = g.I.Isa.table in
+    let t = g.I.Set.Isa.table in
     let old = c.args.maker.now in
     let one = c.in_ok-first in
     elim c.match-ty.branch [

@@ -8,7 +8,7 @@ returns-then-not-marks-n g c =
     let off : slice_index_or c.args.marks.now c.args.n false ≡ false = search rules in
     let e : c.push.new.self.items ≡ c.args.kept.now.items ++ None ∷ [] = search rules in
     rw e
-    (state_skipped g.I.Isa.table g.I.Isa.is_op g.I.Expand.is_ours c.args.items.now c.args.marks.now g.met.I.Expand.whole c.args.maker.now.items c.args.maker.now.next c.args.n c.args.kept.now.items c.index-items-n.result c.requires.inside
+    (state_skipped g.I.Set.Isa.table g.I.Set.Isa.is_op g.I.Expand.is_ours c.args.items.now c.args.marks.now g.met.I.Expand.whole c.args.maker.now.items c.args.maker.now.next c.args.n c.args.kept.now.items c.index-items-n.result c.requires.inside
     c.index-items-n.is off c.requires.state)
 
 pub returns : goal.returns
@@ -16,5 +16,5 @@ returns g c =
     let there = item_there c.args.items.now c.args.n c.index-items-n.result c.index-items-n.result c.requires.inside c.index-items-n.is refl in
     let e : c.push-2.new.self.items ≡ c.args.kept.now.items ++ Some c.in_ok-k.k ∷ [] = search rules in
     rw e
-    (state_made g.I.Isa.table g.I.Isa.is_op g.I.Expand.is_ours c.args.items.now c.args.marks.now g.met.I.Expand.whole c.args.maker.now.items c.made.new.maker.items c.args.maker.now.next c.made.new.maker.next c.args.n c.args.kept.now.items
+    (state_made g.I.Set.Isa.table g.I.Set.Isa.is_op g.I.Expand.is_ours c.args.items.now c.args.marks.now g.met.I.Expand.whole c.args.maker.now.items c.made.new.maker.items c.args.maker.now.next c.made.new.maker.next c.args.n c.args.kept.now.items
     c.in_ok-k.k c.index-items-n.result c.requires.inside c.index-items-n.is c.requires.state (c.in_ok-k.ensures.continues c.index-items-n.result there) c.in_ok-k.ensures.kept)

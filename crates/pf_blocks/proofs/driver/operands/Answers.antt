@@ -14,8 +14,8 @@ repaired-requires-clause-ours g c = λ ds is. (c.requires.kept.each (get_or c.ar
 
 pub loop-a-preserved : goal.loop-a-preserved
 loop-a-preserved g c =
-    let t = g.I.Isa.table in
-    let is = IsOperation g.I.Isa.is_op in
+    let t = g.I.Set.Isa.table in
+    let is = IsOperation g.I.Set.Isa.is_op in
     let items = c.args.items.now in
     let first = c.args.maker.now in
     let old = c.loop-a.maker in

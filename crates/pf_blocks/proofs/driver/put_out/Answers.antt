@@ -10,9 +10,9 @@ stored-requires-clause-ours g c = λ ds is. (c.requires.state.kept_are.each c.ar
 
 pub returns : goal.returns
 returns g c =
-    let t = g.I.Isa.table in
+    let t = g.I.Set.Isa.table in
     let items = c.args.items.now in
     let type : c.type_of-ty.result ≡ type_at items c.args.output = c.type_of-ty.ensures ∙ type_there items c.args.output c.index-items-output.result c.requires.inside c.index-items-output.is in
-    expanded t g.I.Isa.is_op g.met.I.Isa.laws g.met.I.Expand.whole g.I.Expand.is_ours items c.args._marks.now c.args.output c.args.maker.now.items c.args.maker.now.next c.args.kept.now c.operand-value.result.now c.stored.new.maker.items
+    expanded t g.I.Set.Isa.is_op g.met.I.Set.Isa.laws g.met.I.Expand.whole g.I.Expand.is_ours items c.args._marks.now c.args.output c.args.maker.now.items c.args.maker.now.next c.args.kept.now c.operand-value.result.now c.stored.new.maker.items
     c.requires.state c.operand-value.ensures
-    (subst (λ u. IsStored t g.I.Isa.is_op c.args.maker.now.items c.args.maker.now.next u c.operand-value.result.now c.stored.new.maker.items) type c.in_ok-stored.ensures)
+    (subst (λ u. IsStored t g.I.Set.Isa.is_op c.args.maker.now.items c.args.maker.now.next u c.operand-value.result.now c.stored.new.maker.items) type c.in_ok-stored.ensures)

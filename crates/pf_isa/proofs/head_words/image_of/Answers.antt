@@ -10,4 +10,4 @@ returns-in_err-lo c =
 pub returns : goal.returns
 returns c =
     let five = five_words c.args.words.now (record { ref_ptr = (0, 0); now = [] }) c.in-len5.len_at_least c.in-len5.len_below in
-    one_image _ _ c.in_ok-name.name _ _ _ c.in_ok-ty.ty c.in_ok-lo.lo c.in_ok-lo.hi _ five (search rules) c.in_ok-name.ensures.0.0 c.in_ok-name.ensures.0.1 c.in_ok-ty.ensures.0.0 c.in_ok-ty.ensures.0.1 c.in_ok-lo.ensures
+    one_image _ _ c.in_ok-name.name _ _ _ c.in_ok-ty.ty c.in_ok-lo.lo c.in_ok-lo.hi c.in_ok-flat.flat _ five c.in_ok-flat.ensures c.in_ok-name.ensures.0.0 c.in_ok-name.ensures.0.1 c.in_ok-ty.ensures.0.0 c.in_ok-ty.ensures.0.1 c.in_ok-lo.ensures

@@ -8,7 +8,7 @@ use Rattle.pf_run.proofs.eval.eval_kept.Given as goal
 
 abbrev pub invariant-rows : goal.invariant-rows
 invariant-rows l = record {
-  values : l.pixels.items ≡ image_values (out_number l.kernel.source l.images) l.reach.columns l.y;
-  positive : (x y : ℕ) → x < l.reach.columns → y < l.y → pos 0 ≤ℤ out_value l.kernel.source l.images x y;
+  values : l.pixels.items ≡ image_values (out_number l.kernel.source l.planes) l.reach.columns l.y;
+  positive : (x y : ℕ) → x < l.reach.columns → y < l.y → pos 0 ≤ℤ out_value l.kernel.source l.planes x y;
   members : All (λ n. IsIn l.kernel.source.out_ty (pos n)) l.pixels.items;
 }

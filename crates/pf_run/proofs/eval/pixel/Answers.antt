@@ -13,14 +13,14 @@ fill_taps-requires-clause-inside c =
     let s = c.args.kernel.now.source in
     let near = subst (λ n. All (IsNearTap n) s.taps) (length-map s.images image_name) c.names.ensures.kept.names.near in
     let same = c.as_slice-taps.ensures ∙ ap (λ n. n.taps) c.names.ensures.value in
-    subst (λ ts. All (LiesInside ts c.args.images.now c.args.x c.args.y) ts) (sym same) (lies_inside s c.args.images.now c.requires.keeps c.args.reach c.requires.reach near c.args.x c.args.y c.requires.column c.requires.row)
+    subst (λ ts. All (LiesInside ts c.args.planes.now c.args.x c.args.y) ts) (sym same) (lies_inside s c.args.planes.now c.requires.keeps c.args.reach c.requires.reach c.names.ensures.kept.images near c.args.x c.args.y c.requires.column c.requires.row)
 
 pub fill_defs-requires : goal.fill_defs-requires
 fill_defs-requires c =
     let s = c.args.kernel.now.source in
     let near = subst (λ n. All (IsNearTap n) s.taps) (length-map s.images image_name) c.names.ensures.kept.names.near in
     let same = c.as_slice-taps.ensures ∙ ap (λ n. n.taps) c.names.ensures.value in
-    taps_are s c.args.images.now c.requires.keeps c.args.reach c.requires.reach near c.args.x c.args.y c.requires.column c.requires.row c.fill_taps.new.env.taps (c.in_ok-fill_taps.ensures ∙ ap (λ ts. tap_values ts c.args.images.now c.args.x c.args.y) same)
+    taps_are s c.args.planes.now c.requires.keeps c.args.reach c.requires.reach c.names.ensures.kept.images near c.args.x c.args.y c.requires.column c.requires.row c.fill_taps.new.env.taps (c.in_ok-fill_taps.ensures ∙ ap (λ ts. tap_values ts c.args.planes.now c.args.x c.args.y) same)
 
 pub value-requires-clause-entries : goal.value-requires-clause-entries
 value-requires-clause-entries c =
@@ -28,6 +28,6 @@ value-requires-clause-entries c =
     let near = subst (λ n. All (IsNearTap n) s.taps) (length-map s.images image_name) c.names.ensures.kept.names.near in
     let same = c.as_slice-taps.ensures ∙ ap (λ n. n.taps) c.names.ensures.value in
     let taps =
-    taps_are s c.args.images.now c.requires.keeps c.args.reach c.requires.reach near c.args.x c.args.y c.requires.column c.requires.row c.fill_taps.new.env.taps (c.in_ok-fill_taps.ensures ∙ ap (λ ts. tap_values ts c.args.images.now c.args.x c.args.y) same) in
+    taps_are s c.args.planes.now c.requires.keeps c.args.reach c.requires.reach c.names.ensures.kept.images near c.args.x c.args.y c.requires.column c.requires.row c.fill_taps.new.env.taps (c.in_ok-fill_taps.ensures ∙ ap (λ ts. tap_values ts c.args.planes.now c.args.x c.args.y) same) in
     subst (λ t. is_env_of c.fill_defs.new.env t ≡ true) (sym c.out.ensures)
     (served (names_of s) c.fill_defs.new.env (subst (AreTapNumbers (names_of s).images s.taps) (sym c.fill_defs.ensures.taps) taps) c.in_ok-fill_defs.ensures.each s.out c.names.ensures.kept.out.named)

@@ -8,7 +8,7 @@ use Rattle.pf_run.proofs.eval.push_row.Given as goal
 
 abbrev pub invariant-columns : goal.invariant-columns
 invariant-columns l = record {
-  values : l.pixels.items ≡ l.fn.pixels.items ++ row_values (out_number l.kernel.source l.images) l.x l.y;
-  positive : (x : ℕ) → x < l.x → pos 0 ≤ℤ out_value l.kernel.source l.images x l.y;
+  values : l.pixels.items ≡ l.fn.pixels.items ++ row_values (out_number l.kernel.source l.planes) l.x l.y;
+  positive : (x : ℕ) → x < l.x → pos 0 ≤ℤ out_value l.kernel.source l.planes x l.y;
   members : All (λ n. IsIn l.kernel.source.out_ty (pos n)) l.fn.pixels.items → All (λ n. IsIn l.kernel.source.out_ty (pos n)) l.pixels.items;
 }

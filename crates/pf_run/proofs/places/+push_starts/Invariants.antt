@@ -2,4 +2,4 @@ use Rattle.std.proofs.Common.{length}
 use Rattle.pf_run.proofs.places.+push_starts.Given as goal
 
 abbrev pub decreases-push_starts : goal.decreases-push_starts
-decreases-push_starts l = length l.images.now
+decreases-push_starts l = length l.planes.now

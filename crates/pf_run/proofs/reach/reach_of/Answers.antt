@@ -13,6 +13,6 @@ returns c =
     let across : to_z w64 (of_z w64 c.extent-columns.result) ≡ c.extent-columns.result = search (rules, to_z-of_z) in
     let down : to_z w64 (of_z w64 c.extent-rows.result) ≡ c.extent-rows.result = search (rules, to_z-of_z) in
     let size = c.size_of-width.ensures in
-    reach_is c.args.taps.now c.args.images.now _ c.requires.limits c.requires.wide c.requires.high (left ∙ c.least_offset-left.ensures) (up ∙ c.least_offset-up.ensures)
+    reach_is c.args.taps.now c.args.planes.now _ c.requires.limits c.requires.wide c.requires.high (left ∙ c.least_offset-left.ensures) (up ∙ c.least_offset-up.ensures)
     (ap unsigned_abs (across ∙ c.extent-columns.ensures.value) ∙ ap (λ n. unsigned_abs (extent Columns c.args.taps.now n)) size.width)
     (ap unsigned_abs (down ∙ c.extent-rows.ensures.value) ∙ ap (λ n. unsigned_abs (extent Rows c.args.taps.now n)) size.height)

@@ -5,5 +5,5 @@ use Rattle.pf_run.proofs.rows.run_rows.Given as goal
 abbrev pub invariant-rows : goal.invariant-rows
 invariant-rows g l = record {
   text : l.machine.text ≡ l.fn.machine.text;
-  so_far : SoFar g.I.Isa.table l.fn.machine.text l.images l.y l.machine.state.regions;
+  so_far : SoFar g.I.Isa.table l.fn.machine.text l.planes l.y l.machine.state.regions;
 }

@@ -1,0 +1,5 @@
+pub mod Standing
+pub mod Costs
+pub mod Priced
+pub mod Trees
+pub mod Open

@@ -1,5 +1,0 @@
-use Rattle.std.proofs.Common.{length}
-use Rattle.pf_run.proofs.places.+push_images.Given as goal
-
-abbrev pub decreases-push_images : goal.decreases-push_images
-decreases-push_images l = length l.images.now
